@@ -24,7 +24,7 @@ use Rattle.tokend.specs.declared.options.Sources.{Sources}
 use Rattle.tokend.proofs.FactsLaws.{fault_in, is_bad, is_unread, later_fault, no_error}
 use Rattle.tokend.specs.Telling.{Writing}
 use Rattle.tokend.specs.declared.fault.Fault.{Fault}
-use Rattle.tokend.specs.declared.fault.Fault.TheVariants.{BadLine, BadLogFile, BadSeedFile, CannotListen, CannotOpen, CannotRead, CannotReadFile, Facts, Memory, Output, ScriptTooLong, SocketFailed, Words}
+use Rattle.tokend.specs.declared.fault.Fault.TheVariants.{BadLine, BadLogFile, BadSeedFile, CannotListen, CannotOpen, CannotRead, CannotReadFile, Facts, Memory, Output, PruneAhead, ScriptTooLong, SharedFolder, SocketFailed, SocketInUse, Words}
 
 is_refused : (name : Text) (offset : ℕ) (fault : Fault) → IsRefusedSource name offset fault → IsSourceFault fault
 is_refused name offset (Facts why) h = tt
@@ -33,6 +33,9 @@ is_refused name offset CannotRead h = absurd h
 is_refused name offset (CannotReadFile n) h = absurd h
 is_refused name offset (CannotOpen n) h = absurd h
 is_refused name offset CannotListen h = absurd h
+is_refused name offset SharedFolder h = absurd h
+is_refused name offset SocketInUse h = absurd h
+is_refused name offset PruneAhead h = absurd h
 is_refused name offset SocketFailed h = absurd h
 is_refused name offset BadSeedFile h = absurd h
 is_refused name offset BadLogFile h = absurd h
@@ -102,6 +105,9 @@ check_left c input CannotRead old h = absurd h.0
 check_left c input (CannotReadFile n) old h = absurd h.0
 check_left c input (CannotOpen n) old h = absurd h.0
 check_left c input CannotListen old h = absurd h.0
+check_left c input SharedFolder old h = absurd h.0
+check_left c input SocketInUse old h = absurd h.0
+check_left c input PruneAhead old h = absurd h.0
 check_left c input SocketFailed old h = absurd h.0
 check_left c input BadSeedFile old h = absurd h.0
 check_left c input BadLogFile old h = absurd h.0

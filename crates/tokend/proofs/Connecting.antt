@@ -1,6 +1,5 @@
 -- What a connection leaves of a region. Key results:
 --   served_grows   a connection leaves what the region knew
---   unread         a connection that wasn't read changes nothing
 --   served_less    a log that is unchanged, by less than the whole of it
 use Rattle.std.proofs.Common.{ℕ, Bool, true, false, List, Option, Some, None, Result, Ok, Err, inl, inr, refl}
 use Rattle.std.proofs.KnownBytes.{Keeps-refl}
@@ -17,10 +16,10 @@ use Rattle.tk_edge.specs.declared.exchange.Exchange.TheVariants.{Vector, Pull, P
 use Rattle.tk_edge.specs.declared.hear.Arrival.{Arrival}
 use Rattle.tk_edge.specs.declared.hear.Arrival.TheVariants.{Exchange}
 use Rattle.tk_edge.specs.declared.edge.Served.{Served}
+use Rattle.tk_edge.specs.declared.reach.Reach.{Reach}
 use Rattle.tk_edge.specs.declared.edge.Served.TheVariants.{Nothing, Done}
 use Rattle.tk_edge.specs.declared.tell.Fault.{Fault}
 use Rattle.tk_edge.specs.declared.tell.Fault.TheVariants.{Read, Write, Log, Memory}
-use Rattle.tokend.specs.Connection.{IsConnection}
 use Rattle.tokend.specs.Growing.{Grows}
 use Rattle.tokend.proofs.Growing.{grows_same, made_grows, pushed_grows}
 
@@ -30,13 +29,13 @@ answered_grows refuses now words (Exchange (Pull sent)) answer old new h = grows
 answered_grows refuses now words (Exchange (Push sent)) answer old new h = pushed_grows refuses now old new sent h.0 h.1
 answered_grows refuses now words came answer old new h = made_grows old new (fact_by old now words came) h.1 h.2
 
-short_grows : (sync refuses : Bool) (now : ℕ) (known : Option (List ℕ)) (old new : RegionFields) → IsShort sync refuses now known old new → Grows old new
-short_grows sync refuses now known old new (inl same) = grows_same old new same
-short_grows sync refuses now known old new (inr h) = pushed_grows refuses now old new h.0 h.2 h.3
+short_grows : (reach : Reach) (refuses : Bool) (now : ℕ) (known : Option (List ℕ)) (old new : RegionFields) → IsShort reach refuses now known old new → Grows old new
+short_grows reach refuses now known old new (inl same) = grows_same old new same
+short_grows reach refuses now known old new (inr h) = pushed_grows refuses now old new h.0 h.2 h.3
 
 runs_out_grows : (b : Bool) (asked : Asked) (old new : RegionFields) (log : Change) (still : Type 0) (writer : Change) (sealed : Bool)
     → RunsOut b asked (record { before = old; after = new }) log still writer sealed → Grows old new
-runs_out_grows false asked old new log still writer sealed h = short_grows asked.sync asked.refuses_ahead asked.now asked.known old new h.0
+runs_out_grows false asked old new log still writer sealed h = short_grows asked.reach asked.refuses_ahead asked.now asked.known old new h.0
 runs_out_grows true asked old new log still writer sealed (inl h) = grows_same old new h.0
 runs_out_grows true asked old new log still writer sealed (inr h) = pushed_grows asked.refuses_ahead asked.now old new h.0 h.2.0 h.2.1
 
@@ -61,15 +60,6 @@ module _ (asked : Asked) (old new : RegionFields) (log : Change) (still : Type 0
       replied_grows (bundle_to_log asked.log_taken h.0) h.0 (Err Write) (λ k. answered_grows asked.refuses_ahead asked.now asked.words h.0 k.0 old new k.1) h.3
   served_grows (Err Read) h = grows_same old new h.0
   served_grows (Err Memory) h = runs_out_grows asked.log_taken asked old new log still writer sealed h
-
--- a connection that wasn't read changes nothing
-pub unread : (now : ℕ) (words : List ℕ) (log_taken : Bool) (edge : EdgeFields) (log : Option (List ℕ)) → IsConnection now words log_taken edge edge (record { before = log; after = log }) (Err Read)
-unread now words log_taken edge log = record {
-  served = λ unsealed. (refl, (Keeps-refl log, tt, unsealed, refl));
-  shut = λ _. (refl, refl, inr refl);
-  sync = refl;
-  refuses_ahead = refl;
-}
 
 -- ---- a log that is unchanged, by less than the whole of it
 

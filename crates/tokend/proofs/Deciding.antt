@@ -30,9 +30,10 @@ use Rattle.tk_edge.specs.declared.hear.Arrival.{Arrival}
 use Rattle.tk_edge.specs.declared.edge.Served.{Served}
 use Rattle.tk_edge.specs.declared.edge.Served.TheVariants.{Nothing, Done}
 use Rattle.tk_edge.specs.declared.front.Taken.{Taken}
+use Rattle.tk_edge.specs.declared.reach.Reach.TheVariants.{All}
 use Rattle.tk_edge.specs.declared.tell.Fault.{Fault}
 use Rattle.tk_edge.specs.declared.tell.Fault.TheVariants.{Read, Write, Log, Memory}
-use Rattle.tokend.specs.Decisions.{Asking, Decides, Ending, Ends, FrontDecides, IsDecided, IsDecision, IsOutcome, IsReplied, IsTaken, IsUnread, MayStay, asked_of, asking_of, ended_if, gains, outcome_by}
+use Rattle.tokend.specs.Decisions.{Asking, Decides, Ending, Ends, FrontDecides, IsDecided, IsDecision, IsOutcome, IsReplied, IsTaken, IsUnread, MayStay, asked_of, asking_of, ended_if, gains, outcome_by, reach_by}
 use Rattle.tokend.specs.Draw.{six, past_six}
 use Rattle.tokend.specs.Growing.{Grows}
 use Rattle.tokend.specs.declared.server.Server.{Server}
@@ -205,10 +206,10 @@ module _ (a n c w : List ℕ) (still : Type 0) (sealed : Bool) where
 clash : true ≡ false → ⊥
 clash e = cc
 
-same_edge : (old new : EdgeFields) → new.region ≡ old.region → new.sync ≡ old.sync → new.refuses_ahead ≡ old.refuses_ahead → new.sealed ≡ old.sealed → new ≡ old
-same_edge old new region sync refuses sealed = λ i. record { region = region i; sync = sync i; refuses_ahead = refuses i; sealed = sealed i }
+same_edge : (old new : EdgeFields) → new.region ≡ old.region → new.refuses_ahead ≡ old.refuses_ahead → new.sealed ≡ old.sealed → new ≡ old
+same_edge old new region refuses sealed = λ i. record { region = region i; refuses_ahead = refuses i; sealed = sealed i }
 
-module _ (asking : Asking) (old new : EdgeFields) (a n c w : List ℕ) (still : Type 0) (unchanged : still → n ≡ a) (sync : new.sync ≡ old.sync) (refuses : new.refuses_ahead ≡ old.refuses_ahead) where
+module _ (asking : Asking) (old new : EdgeFields) (a n c w : List ℕ) (still : Type 0) (unchanged : still → n ≡ a) (refuses : new.refuses_ahead ≡ old.refuses_ahead) where
   abbrev Decided : Result (Option (Served × Taken)) Fault → Type 0
   Decided result = (reply : List ℕ) × (logged : List ℕ) × (w ≡ c ++ reply) × (n ≡ a ++ logged) × FrontDecides asking old result reply logged new
 
@@ -228,7 +229,6 @@ module _ (asking : Asking) (old new : EdgeFields) (a n c w : List ℕ) (still : 
         served = λ _ tail follows. served_apart a n c w still new.sealed b.1.0 b.0.0 b.1.1 b.0.1 (λ s. same_apart a n b.1.0 b.1.1 (unchanged s))
             (asked_by (asked_of asking old) asking.bytes tail) (record { before = old.region; after = new.region }) end (h tail follows);
         shut = λ sealed. absurd (clash (sym sealed ∙ unsealed));
-        sync = sync;
         refuses_ahead = refuses;
       }
 
@@ -238,7 +238,7 @@ module _ (asking : Asking) (old new : EdgeFields) (a n c w : List ℕ) (still : 
     [],
     h.1.1.1 ∙ sym (append-nil c),
     h.1.1.0 ∙ sym (append-nil a),
-    (unsealed, h.0, same_edge old new h.1.0 sync refuses (h.1.1.2 ∙ sym unsealed), refl, refl),
+    (unsealed, h.0, same_edge old new h.1.0 refuses (h.1.1.2 ∙ sym unsealed), refl, refl),
   )
   unsealed_front (Ok (Some end)) unsealed h =
       let b = both (Ok end.0) h.1 in (b.0.0, b.1.0, b.0.1, b.1.1, ((λ _. h.0, λ sealed. absurd (clash (sym sealed ∙ unsealed))), decided (Ok end.0) unsealed h.1))
@@ -252,7 +252,6 @@ module _ (asking : Asking) (old new : EdgeFields) (a n c w : List ℕ) (still : 
       record {
         served = λ unsealed. absurd (clash (sym shut ∙ unsealed));
         shut = λ _. (same.0, refl, inl (away_apart a n c w still new.sealed [] b.0 (unchanged same.1 ∙ sym (append-nil a)) b.1 (λ _. refl) end h));
-        sync = sync;
         refuses_ahead = refuses;
       }
 
@@ -286,24 +285,22 @@ unread_by : (asking : Asking) (edge : EdgeFields) (fault : Fault) → IsUnread f
 unread_by asking edge Read h = record {
   served = λ unsealed tail follows. (refl, (refl, refl, unsealed, refl));
   shut = λ _. (refl, refl, inr tt);
-  sync = refl;
   refuses_ahead = refl;
 }
 unread_by asking edge Memory h = record {
   served = λ unsealed tail follows. out_of_memory asking.log_taken (asked_by (asked_of asking edge) asking.bytes tail) edge unsealed;
   shut = λ _. (refl, refl, inl refl);
-  sync = refl;
   refuses_ahead = refl;
 }
 unread_by asking edge Write h = absurd h
 unread_by asking edge Log h = absurd h
 
-pub unread : (words : List ℕ) (log_taken : Bool) (edge : EdgeFields) (fault : Fault) → IsUnread fault → IsDecision words log_taken edge (record { end = Err fault; stays = false }) [] edge
+pub unread : (words : List ℕ) (log_taken : Bool) (edge : EdgeFields) (fault : Fault) → IsUnread fault → IsDecision words log_taken edge (record { end = Err fault; stays = false; reach = All }) [] edge
 unread words log_taken edge fault h =
-    (0, [], false, [], unread_by (record { words = words; log_taken = log_taken; now = 0; bytes = []; over = false }) edge fault h, tt)
+    (0, [], false, [], unread_by (record { words = words; log_taken = log_taken; reach = All; now = 0; bytes = []; over = false }) edge fault h, tt)
 
 -- a kept connection ended behind its last reply: nothing more came
-pub parted : (words : List ℕ) (log_taken : Bool) (edge : EdgeFields) → IsDecision words log_taken edge (record { end = Ok Nothing; stays = false }) [] edge
+pub parted : (words : List ℕ) (log_taken : Bool) (edge : EdgeFields) → IsDecision words log_taken edge (record { end = Ok Nothing; stays = false; reach = All }) [] edge
 parted words log_taken edge = (
   0,
   [],
@@ -312,7 +309,6 @@ parted words log_taken edge = (
   record {
     served = λ unsealed tail follows. (λ bytes is. none_comes bytes tail (follows refl) is, (refl, (refl, refl, unsealed, refl)));
     shut = λ _. (refl, refl, inr tt);
-    sync = refl;
     refuses_ahead = refl;
   },
   tt,
@@ -336,7 +332,7 @@ decision_grows words log_taken old ending logged new h =
     elim old.sealed as (λ b. old.sealed ≡ b → Grows old.region new.region) [
       | true ↦ λ e. subst (λ (n : EdgeFields). Grows old.region n.region) (sym (h.4.shut e).0) (grows_same old.region old.region refl)
       | false ↦ λ e.
-          let asking : Asking = record { words = words; log_taken = log_taken; now = h.0; bytes = h.1; over = h.2 } in
+          let asking : Asking = record { words = words; log_taken = log_taken; reach = ending.reach; now = h.0; bytes = h.1; over = h.2 } in
           served_grows (asked_by (asked_of asking old) h.1 []) old.region new.region (gains logged) (logged ≡ []) (gains h.3) new.sealed ending.end (h.4.served e [] (λ _. refl))
     ] refl
 
@@ -371,7 +367,7 @@ taken_some : (asking : Asking) (old : EdgeFields) (taken : Taken) → IsTaken as
 taken_some asking old taken h stays =
     elim old.sealed as (λ b. old.sealed ≡ b → 0 < taken.size) [
       | true ↦ λ e. absurd (clash (sym stays ∙ ap (λ (t : Taken). t.stays) (h.1 e)))
-      | false ↦ λ e. let come = h.0 e in some_taken old.sync asking.bytes come.0 taken come.1.takes stays
+      | false ↦ λ e. let come = h.0 e in some_taken asking.reach asking.bytes come.0 taken come.1.takes stays
     ] refl
 
 pub outcome_within : (asking : Asking) (old : EdgeFields) (keeps : Bool) (served : Served) (taken : Taken) (outcome : Outcome) → IsTaken asking old taken → outcome ≡ outcome_by keeps served taken
@@ -421,21 +417,23 @@ has_moved old mid new next left fault one two words =
     let drawn = ap (λ (s : Server). s.words) two ∙ words in
     let logs = ap (λ (s : Server). s.log_taken) two ∙ ap (λ (s : Server). s.log_taken) one in
     let keeps = ap (λ (s : Server). s.keeps) two ∙ ap (λ (s : Server). s.keeps) one in
+    let has_inner = ap (λ (s : Server). s.has_inner) two ∙ ap (λ (s : Server). s.has_inner) one in
+    let is_inner = ap (λ (s : Server). s.is_inner) two ∙ ap (λ (s : Server). s.is_inner) one in
     let now = ap (λ (s : Server). s.now) two ∙ ap (λ (s : Server). s.now) one in
     let many = ap (λ (s : Server). s.left) two in
     let told = ap (λ (s : Server). s.fault) two in
-    λ i. record { alloc = alloc i; edge = new.edge; words = drawn i; log_taken = logs i; keeps = keeps i; now = now i; left = many i; fault = told i }
+    λ i. record { alloc = alloc i; edge = new.edge; words = drawn i; log_taken = logs i; keeps = keeps i; has_inner = has_inner i; is_inner = is_inner i; now = now i; left = many i; fault = told i }
 
 module _ (old mid new : Server) (bytes : List ℕ) (over : Bool) (next : ChaCha) (left : ℕ) (words : List ℕ) (reply logged : List ℕ)
     (untold : old.fault ≡ None) (six_words : words ≡ six old.words) (past_words : next ≡ past_six old.words)
     (one : mid ≡ record old { edge = mid.edge }) where
   abbrev asking : Asking
-  asking = record { words = words; log_taken = old.log_taken; now = old.now; bytes = bytes; over = over }
+  asking = record { words = words; log_taken = old.log_taken; reach = reach_by old.has_inner old.is_inner; now = old.now; bytes = bytes; over = over }
 
   as_asked : (end : Result Served Fault) → new.edge ≡ mid.edge → IsDecided asking old.edge end reply logged mid.edge → IsDecided (asking_of old bytes over) old.edge end reply logged new.edge
   as_asked end edge h =
       subst (λ e. IsDecided (asking_of old bytes over) old.edge end reply logged e) (sym edge)
-      (subst (λ w. IsDecided (record { words = w; log_taken = old.log_taken; now = old.now; bytes = bytes; over = over }) old.edge end reply logged mid.edge) six_words h)
+      (subst (λ w. IsDecided (record { words = w; log_taken = old.log_taken; reach = reach_by old.has_inner old.is_inner; now = old.now; bytes = bytes; over = over }) old.edge end reply logged mid.edge) six_words h)
 
   -- the request was served
   pub served_ends : (served : Served) (taken : Taken) (outcome : Outcome) (sent : List ℕ) → FrontDecides asking old.edge (Ok (Some (served, taken))) reply logged mid.edge

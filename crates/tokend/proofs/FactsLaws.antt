@@ -17,7 +17,7 @@ use Rattle.tokend.specs.Status.{LeavesBegun}
 use Rattle.tokend.specs.declared.options.Sources.{Sources}
 use Rattle.tokend.specs.Telling.{Writing}
 use Rattle.tokend.specs.declared.fault.Fault.{Fault}
-use Rattle.tokend.specs.declared.fault.Fault.TheVariants.{BadLine, BadLogFile, BadSeedFile, CannotListen, CannotOpen, CannotRead, CannotReadFile, Facts, Memory, Output, ScriptTooLong, SocketFailed, Words}
+use Rattle.tokend.specs.declared.fault.Fault.TheVariants.{BadLine, BadLogFile, BadSeedFile, CannotListen, CannotOpen, CannotRead, CannotReadFile, Facts, Memory, Output, PruneAhead, ScriptTooLong, SharedFolder, SocketFailed, SocketInUse, Words}
 
 pub is_bad : (name : Text) (offset : ℕ) (fault : Fault) → IsBadSource name offset fault → IsSourceFault fault
 is_bad name offset (Facts why) h = tt
@@ -26,6 +26,9 @@ is_bad name offset CannotRead h = absurd h
 is_bad name offset (CannotReadFile n) h = absurd h
 is_bad name offset (CannotOpen n) h = absurd h
 is_bad name offset CannotListen h = absurd h
+is_bad name offset SharedFolder h = absurd h
+is_bad name offset SocketInUse h = absurd h
+is_bad name offset PruneAhead h = absurd h
 is_bad name offset SocketFailed h = absurd h
 is_bad name offset BadSeedFile h = absurd h
 is_bad name offset BadLogFile h = absurd h
@@ -41,6 +44,9 @@ is_unread name CannotRead h = absurd h
 is_unread name (CannotReadFile n) h = absurd h
 is_unread name (CannotOpen n) h = absurd h
 is_unread name CannotListen h = absurd h
+is_unread name SharedFolder h = absurd h
+is_unread name SocketInUse h = absurd h
+is_unread name PruneAhead h = absurd h
 is_unread name SocketFailed h = absurd h
 is_unread name BadSeedFile h = absurd h
 is_unread name BadLogFile h = absurd h
@@ -57,6 +63,9 @@ of_source CannotRead h = absurd h
 of_source (CannotReadFile n) h = absurd h
 of_source (CannotOpen n) h = absurd h
 of_source CannotListen h = absurd h
+of_source SharedFolder h = absurd h
+of_source SocketInUse h = absurd h
+of_source PruneAhead h = absurd h
 of_source SocketFailed h = absurd h
 of_source BadSeedFile h = absurd h
 of_source BadLogFile h = absurd h
@@ -130,6 +139,9 @@ fault_left s input r fault old mid new is h kept = of fault (facts_fault s input
     of (CannotReadFile n) f h = absurd f
     of (CannotOpen n) f h = absurd f
     of CannotListen f h = absurd f
+    of SharedFolder f h = absurd f
+    of SocketInUse f h = absurd f
+    of PruneAhead f h = absurd f
     of SocketFailed f h = absurd f
     of BadSeedFile f h = absurd f
     of BadLogFile f h = absurd f

@@ -383,7 +383,7 @@ turns_stay words old (ends ∷ turns) new h e =
 decision_adds : (words : List ℕ) (old : EdgeFields) (end : Ending) (logged : List ℕ) (new : EdgeFields) → IsDecision words true old end logged new
     → old.sealed ≡ false → new.sealed ≡ false → Grows end.end (Some []) (Some logged) old.region.facts new.region.facts
 decision_adds words old end logged new h open_old open_new =
-    let asking : Asking = record { words = words; log_taken = true; now = h.0; bytes = h.1; over = h.2 } in
+    let asking : Asking = record { words = words; log_taken = true; reach = end.reach; now = h.0; bytes = h.1; over = h.2 } in
     let asked : Asked = asked_by (asked_of asking old) h.1 [] in
     served (Some []) (Some logged) old.region new.region asked refl (logged ≡ []) (gains h.3) end.end
     (subst (λ b. IsServed asked (record { before = old.region; after = new.region }) (gains logged) (logged ≡ []) (gains h.3) b end.end) open_new (h.4.served open_old [] (λ _. refl)))

@@ -33,7 +33,7 @@ use Rattle.tokend.specs.CheckRun.{BeginsCheck, ChecksFacts}
 use Rattle.tokend.specs.FactsRun.{BeginsFacts, PrintsFacts}
 use Rattle.tokend.specs.Telling.{Writer, Writing}
 use Rattle.tokend.specs.declared.fault.Fault.{Fault}
-use Rattle.tokend.specs.declared.fault.Fault.TheVariants.{BadLine, BadLogFile, BadSeedFile, CannotListen, CannotOpen, CannotRead, CannotReadFile, Facts, Memory, Output, ScriptTooLong, SocketFailed, Words}
+use Rattle.tokend.specs.declared.fault.Fault.TheVariants.{BadLine, BadLogFile, BadSeedFile, CannotListen, CannotOpen, CannotRead, CannotReadFile, Facts, Memory, Output, PruneAhead, ScriptTooLong, SharedFolder, SocketFailed, SocketInUse, Words}
 use Rattle.tokend.specs.declared.fault.FactsFault.TheVariants as facts
 
 -- the run of a script that was read, if the input's bytes are known
@@ -76,6 +76,9 @@ read_fault longest input script (Err fault) short whole h = of fault h
     of (CannotReadFile name) h = absurd h
     of (CannotOpen name) h = absurd h
     of CannotListen h = absurd h
+    of SharedFolder h = absurd h
+    of SocketInUse h = absurd h
+    of PruneAhead h = absurd h
     of SocketFailed h = absurd h
     of BadSeedFile h = absurd h
     of BadLogFile h = absurd h
@@ -108,6 +111,9 @@ task_fault words input CannotRead h = h
 task_fault words input (CannotReadFile name) h = h
 task_fault words input (CannotOpen name) h = h
 task_fault words input CannotListen h = h
+task_fault words input SharedFolder h = h
+task_fault words input SocketInUse h = h
+task_fault words input PruneAhead h = h
 task_fault words input SocketFailed h = h
 task_fault words input BadSeedFile h = h
 task_fault words input BadLogFile h = h
@@ -128,6 +134,9 @@ begun_less A B CannotRead old new f h = h
 begun_less A B (CannotReadFile name) old new f h = h
 begun_less A B (CannotOpen name) old new f h = h
 begun_less A B CannotListen old new f h = h
+begun_less A B SharedFolder old new f h = h
+begun_less A B SocketInUse old new f h = h
+begun_less A B PruneAhead old new f h = h
 begun_less A B SocketFailed old new f h = h
 begun_less A B BadSeedFile old new f h = h
 begun_less A B BadLogFile old new f h = h
@@ -191,6 +200,9 @@ no_status CannotRead e = absurd (cc)
 no_status (CannotReadFile name) e = absurd (cc)
 no_status (CannotOpen name) e = absurd (cc)
 no_status CannotListen e = absurd (cc)
+no_status SharedFolder e = absurd (cc)
+no_status SocketInUse e = absurd (cc)
+no_status PruneAhead e = absurd (cc)
 no_status SocketFailed e = absurd (cc)
 no_status BadSeedFile e = absurd (cc)
 no_status BadLogFile e = absurd (cc)

@@ -8,7 +8,7 @@ use Rattle.clap.specs.declared.error.kind.ErrorKind.{ErrorKind}
 use Rattle.clap.specs.declared.error.kind.ErrorKind.TheVariants.{DisplayHelp, DisplayVersion, InvalidValue, MissingRequiredArgument, MissingSubcommand, OutOfMemory}
 use Rattle.tokend.specs.CommandLine.{tokend_app}
 use Rattle.tokend.specs.ProgramRun.{IsDone, IsFaultFor, Leaves}
-use Rattle.tokend.specs.Task.{AsksToShow, IsNoShow, IsRefusalOf, kind_missing, lacks_log, misnames_word, missing_kind}
+use Rattle.tokend.specs.Task.{AsksToShow, IsNoShow, IsRefusalOf, kind_missing, lacks_option, misnames_word, missing_kind}
 use Rattle.tk_edge.specs.Told.{Change}
 use Rattle.tokend.specs.Telling.{Writer}
 use Rattle.tokend.specs.declared.fault.Fault.{Fault}
@@ -37,7 +37,7 @@ missing_else false true k e = inr (inl (sym e))
 missing_else false false k e = inr (inr (sym e))
 
 no_missing : (words : List Text) (k : ErrorKind) → (IsMissing k → ⊥) → missing_kind (subcommand_of tokend_app words) ≡ k → ⊥
-no_missing words k not_missing e = not_missing (missing_else (lacks_log (subcommand_of tokend_app words)) (misnames_word (subcommand_of tokend_app words)) k e)
+no_missing words k not_missing e = not_missing (missing_else (lacks_option (subcommand_of tokend_app words)) (misnames_word (subcommand_of tokend_app words)) k e)
 
 among : (words : List Text) (kind k : ErrorKind) → Ends words kind → kind ≡ k → (k ≡ OutOfMemory → ⊥) → (IsMissing k → ⊥) → IsAmong k (fault_of tokend_app words)
 among words kind k (inl memory) e not_memory not_missing = absurd (not_memory (sym e ∙ memory))

@@ -6,11 +6,13 @@
 --   refused_by      the reason why clap refused the arguments
 --   asked_by        the matches' task is that of the arguments
 use Rattle.std.proofs.Common.{◌≡◌, ℕ, Bool, true, false, List, [], Option, Some, None, option_map, Result, Ok, Err, inl, inr, refl, sym, ap, subst, ◌∙◌, codes, get_or, arith}
-use Rattle.std.specs.Prelude.{◌&&◌, IsSome, String, is_some, not, string_bytes}
+use Rattle.std.specs.Prelude.{◌&&◌, IsSome, String, find, if◌then◌else◌, is_some, not, option_and_then, slice_get, string_bytes}
 use Rattle.std.specs.Borrow.{Bor}
 use Rattle.std.specs.Str.{bytes_eq}
 use Rattle.std.specs.Prelude.{◌⊎◌, IfErr, IfNone, IfOk, IfSome}
-use Rattle.clap.specs.Words.{App, HasMatchesOf, Row, Text, FailsBy, fault_of, first_of, first_value, is_simple_and_free, kind_of, rows_of, subcommand_of, subcommand_rows_of}
+use Rattle.clap.specs.Words.{App, HasMatchesOf, Row, Text, FailsBy, fault_of, first_of, first_value, is_simple_and_free, kind_of, one_of, rows_of, subcommand_of, subcommand_rows_of}
+use Rattle.clap.specs.Walk.{row_text}
+use Rattle.clap.specs.Values.{read_as}
 use Rattle.clap.proofs.WalkLemmas.{first_value-rows}
 use Rattle.clap.specs.declared.parser.matches.Found.{Found}
 use Rattle.clap.specs.declared.parser.matches.ArgMatches.{ArgMatches}
@@ -18,9 +20,11 @@ use Rattle.clap.specs.declared.error.Error.{Error}
 use Rattle.clap.specs.declared.error.kind.ErrorKind.TheVariants as kind
 use Rattle.tk_handle.specs.Ranges.{greatest_region}
 use Rattle.tk_region.specs.SettingsFields.{greatest_code, greatest_access, greatest_refresh, greatest_family, greatest_cap}
-use Rattle.tokend.specs.CommandLine.{HasCheck, HasFlag, HasNumber, HasNumbers, HasService, greatest_port, is_given, refusal_named, tokend_app}
+use Rattle.tokend.specs.CommandLine.{HasAddress, HasCheck, HasFlag, HasNumber, HasNumbers, HasService, IsNoAddress, greatest_connections, greatest_port, is_given, refusal_named, tokend_app}
 use Rattle.tokend.specs.Choices.{IsNoChoice}
-use Rattle.tokend.specs.Task.{Asks, IsFactsTask, IsNoCheck, IsNoService, IsNoTask, IsRefusalOf, IsTask, has_misnamed, lacks_log, misnames_word, missing_kind}
+use Rattle.tokend.specs.Task.{Asks, IsFactsTask, IsNoCheck, IsNoService, IsNoTask, IsRefusalOf, IsTask, has_misnamed, is_unplaced, is_unplaced_in, lacks_log, misnames_word, missing_kind}
+use Rattle.tokend.specs.declared.address.Address.{Address}
+use Rattle.tokend.specs.declared.address.Address.TheVariants.{Port, Socket}
 use Rattle.tokend.specs.declared.options.Numbers.{Numbers}
 use Rattle.tokend.specs.declared.options.Service.{Service}
 use Rattle.tokend.specs.declared.options.Task.{Task}
@@ -209,8 +213,98 @@ without_settings rows none service h = none service.numbers h.numbers
 pub without_region : (rows : List Row) → ((n : ℕ) → ¬ (HasNumber rows (codes "region") 1 greatest_region n)) → IsNoService rows
 without_region rows none service h = none service.region h.region
 
-pub without_port : (rows : List Row) → ((n : ℕ) → ¬ (HasNumber rows (codes "port") 0 greatest_port n)) → IsNoService rows
-without_port rows none service h = none service.port h.port
+-- a text that isn't this one
+pub differs : (name text : Text) → bytes_eq text text ≡ true → bytes_eq name text ≡ false → name ≡ text → ⊥
+differs name text same unlike is =
+    let both : true ≡ false = sym same ∙ sym (ap (λ n. bytes_eq n text) is) ∙ unlike in
+    absurd (cc)
+
+-- a name of no subcommand is no task's
+pub no_subcommand : (found : Option (Text × List Row)) (name : Text) → option_map (λ p. p.0) found ≡ Some name → (name ≡ codes "script" → ⊥)
+    → (name ≡ codes "loopback" → ⊥) → (name ≡ codes "serve" → ⊥) → (name ≡ codes "facts" → ⊥) → IsNoTask found
+no_subcommand found name named script loopback serve facts (Script numbers) h = script (other_name found h.0 _ _ named h.1)
+no_subcommand found name named script loopback serve facts (Loopback numbers) h = loopback (other_name found h.0 _ _ named h.1)
+no_subcommand found name named script loopback serve facts (Serve service) h = serve (other_name found h.0 _ _ named h.1)
+no_subcommand found name named script loopback serve facts (Facts sources) h = facts (other_name found h.0 _ _ named h.1)
+no_subcommand found name named script loopback serve facts (Check check) h = facts (other_name found h.0 _ _ named h.1)
+
+-- no text was found under the id, so that no number is read
+one_absent : (id : Text) (rows : List Row) → first_of id rows ≡ None → one_of id rows ≡ None
+one_absent id rows none = of (find (λ r. bytes_eq r.id id) rows) none
+  where
+    of : (row : Option Row) → option_and_then (λ r. slice_get r.values 0) row ≡ None → option_and_then row_text row ≡ None
+    of None h = refl
+    of (Some r) h = ap (option_map (read_as r.reading)) h
+
+-- neither a port nor a socket is given
+pub no_address : (rows : List Row) → first_of (codes "socket") rows ≡ None → first_of (codes "port") rows ≡ None → IsNoAddress rows
+no_address rows socket port (Port n) h =
+    let both : None ≡ Some h.0.0.0 = sym (one_absent (codes "port") rows port) ∙ h.0.0.1 in
+    absurd (cc)
+no_address rows socket port (Socket path) h =
+    let both : None ≡ Some (string_bytes path) = sym socket ∙ h.0 in
+    absurd (cc)
+
+-- a port and a socket are given
+pub two_addresses : (rows : List Row) (text : Text) → first_of (codes "socket") rows ≡ Some text → is_some (first_of (codes "port") rows) ≡ true → IsNoAddress rows
+two_addresses rows text socket port (Port n) h =
+    let both : Some text ≡ None = sym socket ∙ h.1 in
+    absurd (cc)
+two_addresses rows text socket port (Socket path) h =
+    let both : true ≡ false = sym port ∙ ap is_some h.1 in
+    absurd (cc)
+
+-- no port is given, nor a socket
+pub no_port : (rows : List Row) → first_of (codes "socket") rows ≡ None → ((n : ℕ) → ¬ (HasNumber rows (codes "port") 0 greatest_port n)) → IsNoAddress rows
+no_port rows socket none (Port n) h = none n h.0
+no_port rows socket none (Socket path) h =
+    let both : None ≡ Some (string_bytes path) = sym socket ∙ h.0 in
+    absurd (cc)
+
+-- whether a text was found under the id, by the rows
+pub text_found : (f : Found) (id : Text) (text : Option (Bor Text)) → option_map (λ s. s.now) text ≡ first_value f id → is_some text ≡ is_some (first_of id (rows_of f))
+text_found f id text at = same text ∙ ap is_some (at ∙ first_value-rows f id)
+  where
+    same : (t : Option (Bor Text)) → is_some t ≡ is_some (option_map (λ s. s.now) t)
+    same None = refl
+    same (Some s) = refl
+
+-- not exactly one is given, by whether a port is
+pub unplaced_then : (f : Found) (socket port : Option (Bor Text)) → option_map (λ s. s.now) socket ≡ first_value f (codes "socket") → option_map (λ s. s.now) port ≡ first_value f (codes "port")
+    → is_some port ≡ true → is_some socket ≡ is_unplaced_in (rows_of f)
+unplaced_then f socket port s p given =
+    text_found f (codes "socket") socket s
+    ∙ ap (λ b. if b then is_some (first_of (codes "socket") (rows_of f)) else not (is_some (first_of (codes "socket") (rows_of f)))) (sym given ∙ text_found f (codes "port") port p)
+
+pub unplaced_else : (f : Found) (socket port : Option (Bor Text)) → option_map (λ s. s.now) socket ≡ first_value f (codes "socket") → option_map (λ s. s.now) port ≡ first_value f (codes "port")
+    → is_some port ≡ false → not (is_some socket) ≡ is_unplaced_in (rows_of f)
+unplaced_else f socket port s p given =
+    ap not (text_found f (codes "socket") socket s)
+    ∙ ap (λ b. if b then is_some (first_of (codes "socket") (rows_of f)) else not (is_some (first_of (codes "socket") (rows_of f)))) (sym given ∙ text_found f (codes "port") port p)
+
+-- a socket is read, unless there is a port beside it
+module _ (f : Found) (address : Address) (port : Option (Bor Text)) (result : Option Address) (found : option_map (λ s. s.now) port ≡ first_value f (codes "port")) where
+  none_found : (o : Option Text) → is_some o ≡ false → o ≡ None
+  none_found None h = refl
+  none_found (Some text) h = absurd (cc)
+
+  pub socket_read : (has_port : Bool) → has_port ≡ is_some port → (first_of (codes "port") (rows_of f) ≡ None → HasAddress (rows_of f) address) → result ≡ (if has_port then None else Some address)
+      → IfSome result (HasAddress (rows_of f))
+  socket_read true has alone is = subst (λ r. IfSome r (HasAddress (rows_of f))) (sym is) tt
+  socket_read false has alone is =
+      subst (λ r. IfSome r (HasAddress (rows_of f))) (sym is) (alone (none_found (first_of (codes "port") (rows_of f)) (sym (text_found f (codes "port") port found) ∙ sym has)))
+
+  pub socket_unread : (has_port : Bool) (text : Text) → has_port ≡ is_some port → first_of (codes "socket") (rows_of f) ≡ Some text → result ≡ (if has_port then None else Some address)
+      → IfNone result (IsNoAddress (rows_of f))
+  socket_unread true text has socket is =
+      subst (λ r. IfNone r (IsNoAddress (rows_of f))) (sym is) (two_addresses (rows_of f) text socket (sym (text_found f (codes "port") port found) ∙ sym has))
+  socket_unread false text has socket is = subst (λ r. IfNone r (IsNoAddress (rows_of f))) (sym is) tt
+
+pub without_address : (rows : List Row) → IsNoAddress rows → IsNoService rows
+without_address rows none service h = none service.at.outer h.at.outer
+
+pub without_connections : (rows : List Row) → ((n : ℕ) → ¬ (HasNumber rows (codes "connections") 1 greatest_connections n)) → IsNoService rows
+without_connections rows none service h = none service.connections h.connections
 
 pub without_seed : (rows : List Row) → first_of (codes "seed") rows ≡ None → IsNoService rows
 without_seed rows none service h =
@@ -268,6 +362,13 @@ pub misnamed_given : (found : Option (Text × List Row)) (rows : List Row) (resu
 misnamed_given None rows result at is = absurd (cc)
 misnamed_given (Some (name, others)) rows result at is =
     is ∙ ap has_misnamed (one_rows (Some (name, others)) rows others name at refl)
+
+-- the subcommand has not exactly one socket for clients, and its rows are the ones found
+pub unplaced_given : (found : Option (Text × List Row)) (rows : List Row) (result : Bool) → option_map (λ p. p.1) found ≡ Some rows
+    → result ≡ is_unplaced_in rows → result ≡ is_unplaced found
+unplaced_given None rows result at is = absurd (cc)
+unplaced_given (Some (name, others)) rows result at is =
+    is ∙ ap is_unplaced_in (one_rows (Some (name, others)) rows others name at refl)
 
 -- the flag of an option's text
 pub flag_given : (f : Found) (id text : Text) (flag : Bool) → Some text ≡ first_value f id → flag ≡ bytes_eq text (codes "true") → HasFlag (rows_of f) id flag

@@ -1,6 +1,7 @@
 -- What a server does over turns. Key results:
 --   goes_nowhere    nothing happened
 --   goes_at         another moment
+--   goes_over       another socket
 --   goes_both       one after the other
 --   goes_unread     a connection ended unread
 --   goes_parted     a kept connection ended behind its last reply
@@ -8,7 +9,7 @@
 --   goes_kept       the requests of a turn were decided, and their records kept
 --   goes_lost       the requests of a turn were decided, and the log failed
 --   turns_grow      turns leave what the region knew
-use Rattle.std.proofs.Common.{◌≡◌, ℕ, ◌+◌, Bool, false, List, [], ◌∷◌, ◌++◌, append-nil, append_assoc, length, Option, Some, None, Result, Ok, Err, inl, inr, refl, sym, ap, subst, ◌∙◌, arith}
+use Rattle.std.proofs.Common.{◌≡◌, ℕ, ◌+◌, Bool, false, true, List, [], ◌∷◌, ◌++◌, append-nil, append_assoc, length, Option, Some, None, Result, Ok, Err, inl, inr, refl, sym, ap, subst, ◌∙◌, arith}
 use Rattle.std.specs.Prelude.{◌⊎◌, set}
 use Rattle.std.proofs.KnownBytes.{Appends-nil}
 use Rattle.std.proofs.lemmas.List.{length-append}
@@ -23,14 +24,16 @@ use Rattle.tk_turn.specs.Turns as turn
 use Rattle.tk_edge.specs.EdgeFields.{EdgeFields}
 use Rattle.tk_edge.specs.declared.edge.Served.{Served}
 use Rattle.tk_edge.specs.declared.edge.Served.TheVariants.{Nothing}
+use Rattle.tk_edge.specs.declared.reach.Reach.{Reach}
+use Rattle.tk_edge.specs.declared.reach.Reach.TheVariants.{All}
 use Rattle.tk_edge.specs.declared.tell.Fault.{Fault}
 use Rattle.tk_edge.specs.declared.tell.Fault.TheVariants.{Write, Log}
-use Rattle.tokend.specs.Decisions.{Decides, Ends, IsUnread, Seals, asking_of, ended_if, fault_of}
+use Rattle.tokend.specs.Decisions.{Decides, Ends, IsUnread, Seals, asking_of, ended_if, fault_of, reach_by}
 use Rattle.tokend.specs.Draw.{six, past_six}
 use Rattle.tokend.specs.Growing.{Grows}
 use Rattle.tokend.specs.Serving.{connection_fault}
 use Rattle.tokend.specs.Telling.{Writer, Writes}
-use Rattle.tokend.specs.Turns.{AreDecisions, AreTold, AreTurns, Endings, Goes, IsKept, IsLost, IsTurn, MayLackReply, Running, Site, ToldOf, all_ends, connections_in, past_each, running}
+use Rattle.tokend.specs.Turns.{AreDecisions, AreTold, AreTurns, Endings, Goes, IsKept, IsLost, IsTurn, MayLackReply, MayReach, ReachEach, Running, Site, ToldOf, all_ends, connections_in, past_each, running}
 use Rattle.tokend.specs.declared.server.Server.{Server}
 use Rattle.tokend.proofs.Deciding.{decision_grows, may_stay, none_stays, parted, unread}
 use Rattle.tokend.proofs.Growing.{grows_same, grows_twice}
@@ -66,6 +69,17 @@ connections_both (x ∷ xs) ys = omega (arith, connections_both xs ys)
 closes_both : (xs ys : Endings) → connections_in xs ≡ length xs → connections_in ys ≡ length ys → connections_in (xs ++ ys) ≡ length (xs ++ ys)
 closes_both xs ys h k = omega (arith, connections_both xs ys, length-append xs ys, h, k)
 
+-- if each of these requests reached what it may, and each of those did, all did
+reach_both : (has_inner : Bool) (xs ys : Endings) → ReachEach has_inner xs → ReachEach has_inner ys → ReachEach has_inner (xs ++ ys)
+reach_both has_inner [] ys h k = k
+reach_both has_inner (x ∷ xs) ys h k = (h.0, reach_both has_inner xs ys h.1 k)
+
+-- the requests of a socket reach what they may
+may_reach : (has_inner is_inner : Bool) → MayReach has_inner (reach_by has_inner is_inner)
+may_reach true false = refl
+may_reach true true = tt
+may_reach false is_inner = tt
+
 told_both : (xs ys : Endings) (old mid new : Writer) → AreTold xs old mid → AreTold ys mid new → AreTold (xs ++ ys) old new
 told_both [] ys old mid new h k = subst (λ o. AreTold ys o new) h k
 told_both (x ∷ xs) ys old mid new h k = (h.0, h.1, told_both xs ys h.0 mid new h.2 k)
@@ -85,12 +99,17 @@ turns_both words log_taken old (x ∷ xs) mid ys new h k = (
 
 pub goes_nowhere : (site : Site) → Goes site site
 goes_nowhere site =
-    record { turns = []; served = refl; words = refl; counted = omega arith; closes = λ _. refl; keeps = refl; log_taken = refl; fault = refl }
+    record { turns = []; served = refl; words = refl; counted = omega arith; closes = λ _. refl; keeps = refl; reaches = tt; has_inner = refl; log_taken = refl; fault = refl }
 
 -- the moment at which requests are decided changes nothing else
 pub goes_at : (site : Site) (now : ℕ) → Goes site (record { server = record site.server { now = now }; log = site.log; faults = site.faults })
 goes_at site now =
-    record { turns = []; served = refl; words = refl; counted = omega arith; closes = λ _. refl; keeps = refl; log_taken = refl; fault = refl }
+    record { turns = []; served = refl; words = refl; counted = omega arith; closes = λ _. refl; keeps = refl; reaches = tt; has_inner = refl; log_taken = refl; fault = refl }
+
+-- the socket whose requests are decided changes nothing else
+pub goes_over : (site : Site) (is_inner : Bool) → Goes site (record { server = record site.server { is_inner = is_inner }; log = site.log; faults = site.faults })
+goes_over site is_inner =
+    record { turns = []; served = refl; words = refl; counted = omega arith; closes = λ _. refl; keeps = refl; reaches = tt; has_inner = refl; log_taken = refl; fault = refl }
 
 pub goes_both : (old mid new : Site) → Goes old mid → Goes mid new → Goes old new
 goes_both old mid new h k =
@@ -106,6 +125,9 @@ goes_both old mid new h k =
       closes = λ off. subst (λ l. connections_in l ≡ length l) (sym all)
           (closes_both (all_ends h.turns) (all_ends k.turns) (h.closes off) (k.closes (h.keeps ∙ off)));
       keeps = k.keeps ∙ h.keeps;
+      reaches = subst (ReachEach old.server.has_inner) (sym all)
+          (reach_both old.server.has_inner (all_ends h.turns) (all_ends k.turns) h.reaches (subst (λ b. ReachEach b (all_ends k.turns)) h.has_inner k.reaches));
+      has_inner = k.has_inner ∙ h.has_inner;
       log_taken = k.log_taken ∙ h.log_taken;
       fault = k.fault ∙ h.fault;
     }
@@ -115,7 +137,7 @@ pub goes_unread : (fault : Fault) (old : Server) (words : ChaCha) (left : ℕ) (
     → Writes before after (connection_fault fault)
     → Goes (record { server = old; log = log; faults = before }) (record { server = record old { words = words; left = left }; log = log; faults = after })
 goes_unread fault old words left log before after is drawn counted told = record {
-  turns = (record { end = Err fault; stays = false } ∷ []) ∷ [];
+  turns = (record { end = Err fault; stays = false; reach = All } ∷ []) ∷ [];
   served =
       let then : Running = record { edge = old.edge; log = log; faults = after } in (
         then,
@@ -135,6 +157,8 @@ goes_unread fault old words left log before after is drawn counted told = record
   counted = omega (arith, counted);
   closes = λ _. refl;
   keeps = refl;
+  reaches = (tt, tt);
+  has_inner = refl;
   log_taken = refl;
   fault = refl;
 }
@@ -144,7 +168,7 @@ goes_unread fault old words left log before after is drawn counted told = record
 pub goes_parted : (old : Server) (words : ChaCha) (left : ℕ) (log : Option (List ℕ)) (faults : Writer) → words ≡ past_six old.words → old.left ≡ left + 1
     → Goes (record { server = old; log = log; faults = faults }) (record { server = record old { words = words; left = left }; log = log; faults = faults })
 goes_parted old words left log faults drawn counted = record {
-  turns = (record { end = Ok Nothing; stays = false } ∷ []) ∷ [];
+  turns = (record { end = Ok Nothing; stays = false; reach = All } ∷ []) ∷ [];
   served =
       let then : Running = record { edge = old.edge; log = log; faults = faults } in (
         then,
@@ -164,6 +188,8 @@ goes_parted old words left log faults drawn counted = record {
   counted = omega (arith, counted);
   closes = λ _. refl;
   keeps = refl;
+  reaches = (tt, tt);
+  has_inner = refl;
   log_taken = refl;
   fault = refl;
 }
@@ -191,6 +217,8 @@ goes_unsent server log before after told = record {
   counted = omega arith;
   closes = λ _. refl;
   keeps = refl;
+  reaches = tt;
+  has_inner = refl;
   log_taken = refl;
   fault = refl;
 }
@@ -206,6 +234,8 @@ record Went (old : Server) (logged : List ℕ) (new : Server) : Type 0 where
   counted : old.left ≡ connections_in ends + new.left
   closes : old.keeps ≡ false → connections_in ends ≡ length ends
   keeps : new.keeps ≡ old.keeps
+  reaches : ReachEach old.has_inner ends
+  has_inner : new.has_inner ≡ old.has_inner
   log_taken : new.log_taken ≡ old.log_taken
   lines : old.fault ≡ None → (before after : Writer) → ToldOf new.fault before after → AreTold ends before after
   stuck : (old.fault ≡ None → ⊥) → (ends ≡ []) × (new ≡ old)
@@ -218,6 +248,8 @@ went_nowhere old logged new same none = record {
   counted = omega (arith, ap (λ s. s.left) same);
   closes = λ _. refl;
   keeps = ap (λ s. s.keeps) same;
+  reaches = tt;
+  has_inner = ap (λ s. s.has_inner) same;
   log_taken = ap (λ s. s.log_taken) same;
   lines = λ told before after h. subst (λ o. ToldOf o before after) (ap (λ s. s.fault) same ∙ told) h;
   stuck = λ _. (refl, same);
@@ -248,6 +280,8 @@ went_both old mid new logged more h k =
       counted = omega (arith, h.counted, k.counted, many);
       closes = λ off. closes_both h.ends k.ends (h.closes off) (k.closes (h.keeps ∙ off));
       keeps = k.keeps ∙ h.keeps;
+      reaches = reach_both old.has_inner h.ends k.ends h.reaches (subst (λ b. ReachEach b k.ends) h.has_inner k.reaches);
+      has_inner = k.has_inner ∙ h.has_inner;
       log_taken = k.log_taken ∙ h.log_taken;
       lines = lines_both old mid new logged more h k;
       stuck = λ s.
@@ -256,16 +290,17 @@ went_both old mid new logged more h k =
           (subst (λ l. l ++ k.ends ≡ []) (sym one.0) two.0, two.1 ∙ one.1);
     }
 
-one_told : (end : Result Served Fault) (stays : Bool) (before after : Writer) → ToldOf (fault_of end) before after → AreTold (record { end = end; stays = stays } ∷ []) before after
-one_told (Ok served) stays before after h = (before, refl, h)
-one_told (Err fault) stays before after h = (after, h, refl)
+one_told : (end : Result Served Fault) (stays : Bool) (reach : Reach) (before after : Writer) → ToldOf (fault_of end) before after
+    → AreTold (record { end = end; stays = stays; reach = reach } ∷ []) before after
+one_told (Ok served) stays reach before after h = (before, refl, h)
+one_told (Err fault) stays reach before after h = (after, h, refl)
 
 one_ended : (stays : Bool) → stays ≡ false → ended_if stays + 0 ≡ 1
 one_ended stays off = ap (λ b. ended_if b + 0) off
 
 went_end : (old : Server) (bytes : List ℕ) (over : Bool) (outcome : Outcome) (replied logged : List ℕ) (new : Server) → Ends old bytes over outcome replied logged new → Went old logged new
 went_end old bytes over outcome replied logged new h = record {
-  ends = record { end = h.end; stays = goes_on outcome } ∷ [];
+  ends = record { end = h.end; stays = goes_on outcome; reach = reach_by old.has_inner old.is_inner } ∷ [];
   decided = (
     new.edge,
     logged,
@@ -278,8 +313,10 @@ went_end old bytes over outcome replied logged new h = record {
   counted = omega (arith, h.counted, ap (λ s. s.left) h.moved);
   closes = λ off. one_ended (goes_on outcome) (none_stays old.keeps h.end (asking_of old bytes over) old.edge outcome h.is_outcome off);
   keeps = ap (λ s. s.keeps) h.moved;
+  reaches = (may_reach old.has_inner old.is_inner, tt);
+  has_inner = ap (λ s. s.has_inner) h.moved;
   log_taken = ap (λ s. s.log_taken) h.moved;
-  lines = λ told before after t. one_told h.end (goes_on outcome) before after (subst (λ o. ToldOf o before after) (ap (λ s. s.fault) h.moved) t);
+  lines = λ told before after t. one_told h.end (goes_on outcome) (reach_by old.has_inner old.is_inner) before after (subst (λ o. ToldOf o before after) (ap (λ s. s.fault) h.moved) t);
   stuck = λ s. absurd (s h.told);
 }
 
@@ -327,10 +364,10 @@ module _ (places : List ℕ) (old new : State Server) (log : LogChange) (before 
 
   -- a turn by what it decided, and what became of its records
   gone : (mid : Server) (logged : List ℕ) → Went old.service logged mid → old.service.fault ≡ None → ToldOf mid.fault before told
-      → new.service.words ≡ mid.words → new.service.left ≡ mid.left → new.service.keeps ≡ mid.keeps → new.service.log_taken ≡ mid.log_taken
+      → new.service.words ≡ mid.words → new.service.left ≡ mid.left → new.service.keeps ≡ mid.keeps → new.service.has_inner ≡ mid.has_inner → new.service.log_taken ≡ mid.log_taken
       → IsKept (record { edge = old.service.edge; log = log.before; faults = before }) mid.edge logged told then
       ⊎ IsLost (record { edge = old.service.edge; log = log.before; faults = before }) mid.edge logged told then → Gone
-  gone mid logged went untold lines words left keeps log_taken became =
+  gone mid logged went untold lines words left keeps has_inner log_taken became =
       let all : went.ends ++ [] ≡ went.ends = append-nil went.ends in
       let many : connections_in (went.ends ++ []) ≡ connections_in went.ends = ap connections_in all in
       record {
@@ -353,6 +390,8 @@ module _ (places : List ℕ) (old new : State Server) (log : LogChange) (before 
         counted = omega (arith, went.counted, left, many);
         closes = λ off. subst (λ l. connections_in l ≡ length l) (sym all) (went.closes off);
         keeps = keeps ∙ went.keeps;
+        reaches = subst (ReachEach old.service.has_inner) (sym all) went.reaches;
+        has_inner = has_inner ∙ went.has_inner;
         log_taken = log_taken ∙ went.log_taken;
         fault = sym untold;
       }
@@ -363,7 +402,7 @@ module _ (places : List ℕ) (old new : State Server) (log : LogChange) (before 
   goes_kept mid logged decided kept untold lines same =
       gone mid.service logged (went_at places old.service old.links mid.service mid.links logged decided) untold
       (subst (λ (x : Server). ToldOf x.fault before told) kept.service lines)
-      (ap (λ (x : Server). x.words) kept.service) (ap (λ (x : Server). x.left) kept.service) (ap (λ (x : Server). x.keeps) kept.service) (ap (λ (x : Server). x.log_taken) kept.service)
+      (ap (λ (x : Server). x.words) kept.service) (ap (λ (x : Server). x.left) kept.service) (ap (λ (x : Server). x.keeps) kept.service) (ap (λ (x : Server). x.has_inner) kept.service) (ap (λ (x : Server). x.log_taken) kept.service)
       (inl (record { log = kept.appended; edge = ap (λ (x : Server). x.edge) kept.service; faults = same }))
 
   -- the log failed
@@ -372,7 +411,7 @@ module _ (places : List ℕ) (old new : State Server) (log : LogChange) (before 
   goes_lost mid logged decided lost untold lines line =
       gone mid.service logged (went_at places old.service old.links mid.service mid.links logged decided) untold
       (subst (λ o. ToldOf o before told) (ap (λ (x : Server). x.fault) lost.service) lines)
-      (ap (λ (x : Server). x.words) lost.service) (ap (λ (x : Server). x.left) lost.service) (ap (λ (x : Server). x.keeps) lost.service) (ap (λ (x : Server). x.log_taken) lost.service)
+      (ap (λ (x : Server). x.words) lost.service) (ap (λ (x : Server). x.left) lost.service) (ap (λ (x : Server). x.keeps) lost.service) (ap (λ (x : Server). x.has_inner) lost.service) (ap (λ (x : Server). x.log_taken) lost.service)
       (inr (record { some = lost.some; log = lost.appended; edge = ap (λ (x : Server). x.edge) lost.service; faults = line }))
 
 -- ---- what turns leave of a region

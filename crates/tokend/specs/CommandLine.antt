@@ -11,6 +11,7 @@
 --   HasFlag         whether an option without a value was given
 --   refusal_named   whether bundles that are ahead are refused, by the value of `--ahead`
 --   is_misnamed     `--ahead` has neither of its two values
+--   HasAddresses    clap's matches have these sockets
 --   HasNumbers      clap's matches have these five settings
 --   HasService      clap's matches have this service
 --   HasSources      clap's matches have these sources of facts
@@ -70,6 +71,9 @@ use Rattle.clap.specs.declared.builder.action.ArgAction.TheVariants as action
 use Rattle.clap.specs.declared.builder.value_parser.ValueParser.TheVariants as parser
 use Rattle.tk_message.specs.Choices.{profile_choices}
 use Rattle.tokend.specs.Choices.{HasChoices}
+use Rattle.tokend.specs.declared.address.Address.{Address}
+use Rattle.tokend.specs.declared.address.Address.TheVariants.{Port, Socket}
+use Rattle.tokend.specs.declared.address.Addresses.{Addresses}
 use Rattle.tokend.specs.declared.command_line.Takes.{Takes}
 use Rattle.tokend.specs.declared.command_line.Takes.TheVariants as takes
 use Rattle.tokend.specs.declared.options.Check.{Check}
@@ -80,6 +84,10 @@ use Rattle.tokend.specs.declared.options.Sources.{Sources}
 -- the greatest port
 abbrev pub greatest_port : ℕ
 greatest_port = 65535
+
+-- the greatest number of connections that are open at once
+abbrev pub greatest_connections : ℕ
+greatest_connections = 65536
 
 -- the greatest number of connections to serve
 abbrev pub greatest_requests : ℕ
@@ -156,15 +164,17 @@ script_app = with_rules (new_app (codes "script")) setting_rules
 abbrev pub loopback_app : App
 loopback_app = with_rules (new_app (codes "loopback")) setting_rules
 
--- the options of a service: the region's number, the port and the seed, which are required; the
--- log, whether it gets bundles taken in, the old log, the moment of a prune, what is done with
--- bundles that are ahead, who may revoke tokens that are not seen, what is done if a consent is
--- given again, the kinds of redirection URIs, the number of connections, and how long they are
--- kept, which aren't
+-- the options of a service: the region's number and the seed, which are required; the port, the
+-- socket and the inner one, the log, whether it gets bundles taken in, the old log, the moment of a
+-- prune, what is done with bundles that are ahead, who may revoke tokens that are not seen, what is
+-- done if a consent is given again, the kinds of redirection URIs, how many connections are open at
+-- once, how many are served, and how long they are kept
 abbrev pub service_rules : List Rule
 service_rules =
     range_rule (codes "region") 1 greatest_region true
-    ∷ range_rule (codes "port") 0 greatest_port true
+    ∷ range_rule (codes "port") 0 greatest_port false
+    ∷ file_rule (codes "socket") false
+    ∷ file_rule (codes "inner") false
     ∷ file_rule (codes "seed") true
     ∷ file_rule (codes "log") false
     ∷ flag_rule (codes "log-taken")
@@ -174,6 +184,7 @@ service_rules =
     ∷ word_rule (codes "revoke-unseen") (codes "any")
     ∷ word_rule (codes "consent") (codes "new")
     ∷ file_rule (codes "redirects") false
+    ∷ number_rule (codes "connections") (codes "1024") greatest_connections
     ∷ range_rule (codes "requests") 0 greatest_requests false
     ∷ range_rule (codes "keep") 0 greatest_keep false
     ∷ []
@@ -261,13 +272,31 @@ pub record HasNumbers (rows : List Row) (n : Numbers) : Type 0 where
   pub family : HasNumber rows (codes "family") 1 greatest_family n.family
   pub cap : HasNumber rows (codes "cap") 1 greatest_cap n.cap
 
+-- the rows have this socket for clients: a port or a path, and not both
+abbrev pub HasAddress : List Row → Address → Type 0
+HasAddress rows (Port port) =
+    HasNumber rows (codes "port") 0 greatest_port port × (first_of (codes "socket") rows ≡ None)
+HasAddress rows (Socket path) =
+    (first_of (codes "socket") rows ≡ Some (string_bytes path))
+    × (first_of (codes "port") rows ≡ None)
+
+-- the rows have no socket for clients, or two
+abbrev pub IsNoAddress : List Row → Type 0
+IsNoAddress rows = (address : Address) → ¬ (HasAddress rows address)
+
+-- the rows have these sockets
+pub record HasAddresses (rows : List Row) (at : Addresses) : Type 0 where
+  pub outer : HasAddress rows at.outer
+  pub inner : HasText rows (codes "inner") at.inner
+
 -- the rows have this service: the settings, each number in its range, the names of files, whether
 -- the log gets bundles taken in, for which there is a log, whether bundles that are ahead are
 -- refused, and the choices
 pub record HasService (rows : List Row) (s : Service) : Type 0 where
   pub numbers : HasNumbers rows s.numbers
   pub region : HasNumber rows (codes "region") 1 greatest_region s.region
-  pub port : HasNumber rows (codes "port") 0 greatest_port s.port
+  pub at : HasAddresses rows s.at
+  pub connections : HasNumber rows (codes "connections") 1 greatest_connections s.connections
   pub requests : IfSome s.requests (HasNumber rows (codes "requests") 0 greatest_requests)
   pub endless : IfNone s.requests ((n : ℕ)
       → ¬ (HasNumber rows (codes "requests") 0 greatest_requests n))

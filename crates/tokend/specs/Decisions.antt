@@ -1,14 +1,15 @@
 -- What a server decides of the bytes that have come over its connections (own).
 --   IsDecided      what is decided of these bytes, at a moment
---   Ending         how a request ended, and whether its connection stays open
+--   Ending         how a request ended, whether its connection stays open, and what it reached
 --   IsDecision     what is decided of some bytes that have come, and the record of it
 --   FrontDecides   what serving the front of bytes decides
+--   reach_by       which paths the requests of a socket reach
 --   Decides        what a server decides of the bytes of a connection
 --   Seals          a server whose log has failed is sealed
 -- Throughout, `words` are the six random words of a request, `log_taken` is whether bundles taken
 -- in are logged, and `end` is how the request ended.
 use Rattle.std.specs.Prelude.{◌≡◌, ◌≢◌, ◌⊎◌, ⊤, ℕ, ◌+◌, ◌&&◌, Bool, true, false, List, [], length}
-use Rattle.std.specs.Prelude.{Option, Some, None, Result, Ok, Err}
+use Rattle.std.specs.Prelude.{Option, Some, None, Result, Ok, Err, not, if◌then◌else◌}
 use Rattle.tk_edge.specs.EdgeFields.{EdgeFields}
 use Rattle.tk_edge.specs.Fronts.{HasCome, IsPartial}
 use Rattle.tk_edge.specs.FrontServed.{IsServedBy}
@@ -17,6 +18,8 @@ use Rattle.tk_edge.specs.Served.{Asked, IsTurnedAway}
 use Rattle.tk_edge.specs.Told.{Change}
 use Rattle.tk_edge.specs.declared.edge.Served.{Served}
 use Rattle.tk_edge.specs.declared.hear.Arrival.{Arrival}
+use Rattle.tk_edge.specs.declared.reach.Reach.{Reach}
+use Rattle.tk_edge.specs.declared.reach.Reach.TheVariants.{All, Clients}
 use Rattle.tk_edge.specs.declared.edge.Served.TheVariants.{Nothing, Done}
 use Rattle.tk_edge.specs.declared.front.Taken.{Taken}
 use Rattle.tk_edge.specs.declared.tell.Fault.{Fault}
@@ -31,10 +34,11 @@ use Rattle.tokend.specs.declared.server.Server.{Server}
 abbrev pub gains : List ℕ → Change
 gains bytes = record { before = Some []; after = Some bytes }
 
--- A connection whose bytes have come, at a moment.
+-- A connection whose bytes have come, at a moment; `reach` says which paths it reaches.
 pub record Asking : Type 0 where
   pub words : List ℕ
   pub log_taken : Bool
+  pub reach : Reach
   pub now : ℕ
   pub bytes : List ℕ
   pub over : Bool
@@ -42,7 +46,7 @@ pub record Asking : Type 0 where
 -- the connection as this edge sees it
 abbrev pub asked_of : Asking → EdgeFields → Asked
 asked_of asking edge = record {
-  sync = edge.sync;
+  reach = asking.reach;
   refuses_ahead = edge.refuses_ahead;
   log_taken = asking.log_taken;
   known = None;
@@ -66,7 +70,6 @@ pub record IsDecided (asking : Asking) (old : EdgeFields) (end : Result Served F
       (gains reply) new.sealed end
   pub shut : old.sealed ≡ true
       → (new ≡ old) × (logged ≡ []) × (IsTurnedAway (gains reply) end ⊎ IsUnheard end)
-  pub sync : new.sync ≡ old.sync
   pub refuses_ahead : new.refuses_ahead ≡ old.refuses_ahead
 
 -- what was taken of the bytes that have come: those of one request and no more, or all by a sealed
@@ -74,13 +77,15 @@ pub record IsDecided (asking : Asking) (old : EdgeFields) (end : Result Served F
 abbrev pub IsTaken : Asking → EdgeFields → Taken → Type 0
 IsTaken asking old taken =
     (old.sealed ≡ false
-    → (came : Arrival) × HasCome old.sync asking.bytes asking.over came taken)
+    → (came : Arrival) × HasCome asking.reach asking.bytes asking.over came taken)
     × (old.sealed ≡ true → taken ≡ record { size = length asking.bytes; stays = false })
 
--- How a request ended, and whether its connection stays open behind the reply.
+-- How a request ended, whether its connection stays open behind the reply, and which paths it
+-- reached.
 pub record Ending : Type 0 where
   pub end : Result Served Fault
   pub stays : Bool
+  pub reach : Reach
 
 -- a connection stays only behind a request that lets it (RFC 9112, 9.3)
 abbrev pub MayStay : Asking → EdgeFields → Bool → Type 0
@@ -94,6 +99,7 @@ IsDecision words log_taken old ending logged new =
     × IsDecided (record {
       words = words;
       log_taken = log_taken;
+      reach = ending.reach;
       now = now;
       bytes = bytes;
       over = over;
@@ -101,6 +107,7 @@ IsDecision words log_taken old ending logged new =
     × MayStay (record {
       words = words;
       log_taken = log_taken;
+      reach = ending.reach;
       now = now;
       bytes = bytes;
       over = over;
@@ -111,7 +118,7 @@ IsDecision words log_taken old ending logged new =
 abbrev pub FrontDecides : Asking → EdgeFields → Result (Option (Served × Taken)) Fault → List ℕ
     → List ℕ → EdgeFields → Type 0
 FrontDecides asking old (Ok None) reply logged new =
-    (old.sealed ≡ false) × IsPartial old.sync asking.bytes asking.over
+    (old.sealed ≡ false) × IsPartial asking.reach asking.bytes asking.over
     × (new ≡ old) × (reply ≡ []) × (logged ≡ [])
 FrontDecides asking old (Ok (Some end)) reply logged new =
     IsTaken asking old end.1 × IsDecided asking old (Ok end.0) reply logged new
@@ -166,11 +173,17 @@ moved_on old end edge left = record old {
   fault = fault_of end;
 }
 
+-- which paths the requests of a socket reach: those of clients alone over an outer socket beside an
+-- inner one, otherwise all
+abbrev pub reach_by : Bool → Bool → Reach
+reach_by has_inner is_inner = if has_inner && not is_inner then Clients else All
+
 -- the bytes of a connection, as a server decides them
 abbrev pub asking_of : Server → List ℕ → Bool → Asking
 asking_of server bytes over = record {
   words = six server.words;
   log_taken = server.log_taken;
+  reach = reach_by server.has_inner server.is_inner;
   now = server.now;
   bytes = bytes;
   over = over;
@@ -193,7 +206,7 @@ pub record Ends (old : Server) (bytes : List ℕ) (over : Bool) (outcome : Outco
 -- isn't told yet
 pub record Waits (old : Server) (bytes : List ℕ) (over : Bool) (replied logged : List ℕ)
     (new : Server) : Type 0 where
-  pub why : IsPartial old.edge.sync bytes over ⊎ ((old.left ≡ 0) ⊎ (old.fault ≢ None))
+  pub why : IsPartial (reach_by old.has_inner old.is_inner) bytes over ⊎ ((old.left ≡ 0) ⊎ (old.fault ≢ None))
   pub same : new ≡ old
   pub unreplied : replied ≡ []
   pub unlogged : logged ≡ []

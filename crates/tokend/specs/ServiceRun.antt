@@ -3,7 +3,7 @@
 --   HasOpened      the service has run, from the prune on
 --   HasRun         the service has run, from its start on
 --   IsServiceRun   the service has run, from reading its seed on
-use Rattle.std.specs.Prelude.{ℕ, List, Option, Ok}
+use Rattle.std.specs.Prelude.{ℕ, List, Option, Ok, is_some}
 use Rattle.rand_chacha.specs.ChaCha.{ChaCha}
 use Rattle.tk_edge.specs.EdgeFields.{EdgeFields}
 use Rattle.tk_edge.specs.Told.{Change}
@@ -19,7 +19,6 @@ abbrev pub with_region : EdgeFields → RegionFields → EdgeFields
 with_region edge region =
     record {
       region = region;
-      sync = edge.sync;
       refuses_ahead = edge.refuses_ahead;
       sealed = edge.sealed;
     }
@@ -33,11 +32,11 @@ pub record HasOpened {L : Type 0} (holds : L → Option (List ℕ)) (opens : Lis
   pub pruned : Option ℕ
   pub region : RegionFields
   pub prunes : PrunesOld service.prune start.region (Ok pruned) region
-  pub announced : Announces (record { dropped = dropped; pruned = pruned }) service.port
+  pub announced : Announces (record { dropped = dropped; pruned = pruned }) service.at
       output.before output.after
   pub end : EdgeFields
   pub served : ServesLogged holds opens service.log words service.requests (keeps_in service.keep)
-      service.log_taken
+      (is_some service.at.inner) service.log_taken
       (record { start = with_region start region; end = end; faults = faults })
 
 -- the old log was loaded, and the service opened with the region that came of it

@@ -1,6 +1,6 @@
 -- What a service prints before its first connection, and what may prevent it (own).
 --   announced            the lines of the dropped bytes, if there are any, of the prune, if there
---                        was one, and of the port
+--                        was one, and of the sockets
 --   Announces            the announcement was written
 --   BeginsAnnouncement   a beginning of a service's announcement was written
 --   connection_fault     the line about a connection that ended in a fault
@@ -29,6 +29,7 @@ use Rattle.std.specs.Prelude.{
   codes,
   decimal,
   if◌then◌else◌,
+  true,
 }
 use Rattle.std.specs.Io.KnownBytes.{Appends}
 use Rattle.tk_put.specs.Put.{AppendsFront}
@@ -37,6 +38,9 @@ use Rattle.tk_edge.specs.declared.tell.Fault.TheVariants as edge
 use Rattle.tk_region.specs.RegionFields.{RegionFields}
 use Rattle.tokend.specs.Starting.{LoadsOld}
 use Rattle.tokend.specs.Status.{LeavesBegun}
+use Rattle.tokend.specs.declared.address.Address.{Address}
+use Rattle.tokend.specs.declared.address.Address.TheVariants.{Port, Socket}
+use Rattle.tokend.specs.declared.address.Addresses.{Addresses}
 use Rattle.tokend.specs.declared.fault.Fault.{Fault}
 use Rattle.tokend.specs.declared.fault.Fault.TheVariants.{
   BadLogFile,
@@ -46,6 +50,9 @@ use Rattle.tokend.specs.declared.fault.Fault.TheVariants.{
   CannotReadFile,
   Memory,
   Output,
+  PruneAhead,
+  SharedFolder,
+  SocketInUse,
 }
 use Rattle.tokend.specs.declared.listen.Opening.{Opening}
 use Rattle.tokend.specs.declared.options.Service.{Service}
@@ -71,31 +78,47 @@ abbrev pub pruned_line : Option ℕ → List ℕ
 pruned_line None = []
 pruned_line (Some n) = pruned_facts n
 
--- the announcement: the lines of the dropped bytes, of the prune, and of the port
-abbrev pub announced : Opening → ℕ → List ℕ
-announced opening port =
-    dropped_line opening.dropped ++ (pruned_line opening.pruned ++ listening_line port)
+-- the line of a Unix socket
+abbrev pub listening_at : List ℕ → List ℕ
+listening_at path = codes "listening unix:" ++ (path ++ 10 ∷ [])
 
--- the port is the requested one, or any free one if that is 0
-abbrev pub IsListenedOn : ℕ → ℕ → Type 0
-IsListenedOn asked port = asked ≢ 0 → port ≡ asked
+-- the line of the outer socket; the port is unused for a Unix socket
+abbrev pub outer_line : Address → ℕ → List ℕ
+outer_line (Port asked) port = listening_line port
+outer_line (Socket path) port = listening_at (string_bytes path)
 
--- the announcement of an opening and of a port was written
-abbrev pub Announces : Opening → ℕ → Option (List ℕ) → Option (List ℕ) → Type 0
-Announces opening asked old new =
-    (port : ℕ) × IsListenedOn asked port × Appends old new (announced opening port)
+-- the line of the inner socket, if there is one
+abbrev pub inner_line : {A : Type 0} → Option (String A) → List ℕ
+inner_line None = []
+inner_line (Some path) = codes "inner unix:" ++ (string_bytes path ++ 10 ∷ [])
 
--- a beginning of the announcement of an opening and of a port was written
-abbrev pub BeginsToAnnounce : Opening → ℕ → Option (List ℕ) → Option (List ℕ) → Type 0
-BeginsToAnnounce opening asked old new =
-    (port : ℕ) × IsListenedOn asked port × AppendsFront old new (announced opening port)
+-- the announcement: the lines of the dropped bytes, of the prune, and of the sockets
+abbrev pub announced : Opening → Addresses → ℕ → List ℕ
+announced opening at port =
+    dropped_line opening.dropped
+    ++ (pruned_line opening.pruned ++ (inner_line at.inner ++ outer_line at.outer port))
+
+-- the port is the requested one, or any free one if that is 0; a Unix socket has none
+abbrev pub IsListenedOn : Address → ℕ → Type 0
+IsListenedOn (Port asked) port = asked ≢ 0 → port ≡ asked
+IsListenedOn (Socket path) port = ⊤
+
+-- the announcement of an opening and of these sockets was written
+abbrev pub Announces : Opening → Addresses → Option (List ℕ) → Option (List ℕ) → Type 0
+Announces opening at old new =
+    (port : ℕ) × IsListenedOn at.outer port × Appends old new (announced opening at port)
+
+-- a beginning of the announcement of an opening and of these sockets was written
+abbrev pub BeginsToAnnounce : Opening → Addresses → Option (List ℕ) → Option (List ℕ) → Type 0
+BeginsToAnnounce opening at old new =
+    (port : ℕ) × IsListenedOn at.outer port × AppendsFront old new (announced opening at port)
 
 -- a beginning of a service's announcement was written, with these dropped bytes; a prune is
 -- announced exactly if one was requested
 abbrev pub BeginsOpening : Service → ℕ → Option (List ℕ) → Option (List ℕ) → Type 0
 BeginsOpening service dropped old new =
     (pruned : Option ℕ) × (is_some pruned ≡ is_some service.prune)
-    × BeginsToAnnounce (record { dropped = dropped; pruned = pruned }) service.port old new
+    × BeginsToAnnounce (record { dropped = dropped; pruned = pruned }) service.at old new
 
 -- a beginning of the announcement was written of a service that began with this region; the dropped
 -- bytes are those of its old log
@@ -141,33 +164,49 @@ IsFileFault service BadSeedFile = ⊤
 IsFileFault service BadLogFile = IsSome service.load ⊎ IsSome service.log
 IsFileFault service fault = ⊥
 
--- the faults of the port, of memory for its connections, and of the output
+-- the faults of making a socket
+abbrev pub IsBindFault : Fault → Type 0
+IsBindFault CannotListen = ⊤
+IsBindFault SharedFolder = ⊤
+IsBindFault SocketInUse = ⊤
+IsBindFault fault = ⊥
+
+-- the faults of the sockets, of memory for their connections, and of the output
 abbrev pub IsListenFault : Fault → Type 0
 IsListenFault CannotListen = ⊤
+IsListenFault SharedFolder = ⊤
+IsListenFault SocketInUse = ⊤
 IsListenFault Memory = ⊤
 IsListenFault Output = ⊤
 IsListenFault fault = ⊥
 
--- the faults of the new log, the port and the output
+-- the faults of the new log, the sockets and the output
 abbrev pub IsStartFault : Service → Fault → Type 0
 IsStartFault service CannotListen = ⊤
+IsStartFault service SharedFolder = ⊤
+IsStartFault service SocketInUse = ⊤
 IsStartFault service Output = ⊤
 IsStartFault service Memory = ⊤
 IsStartFault service (CannotOpen file) = IsNameOf service.log (string_bytes file)
 IsStartFault service BadLogFile = IsSome service.log
 IsStartFault service fault = ⊥
 
--- the faults of a service before its first connection: of its port, the output or a file
+-- the faults of a service before its first connection: of its sockets, its prune, the output or a
+-- file
 abbrev pub IsServiceFault : Service → Fault → Type 0
 IsServiceFault service CannotListen = ⊤
+IsServiceFault service SharedFolder = ⊤
+IsServiceFault service SocketInUse = ⊤
+IsServiceFault service PruneAhead = (service.refuses_ahead ≡ true) × IsSome service.prune
 IsServiceFault service Output = ⊤
 IsServiceFault service fault = IsFileFault service fault
 
 -- the output that failed has a beginning of the announcement; other faults leave the output
 -- unchanged
-abbrev pub LeavesAnnouncement : Opening → ℕ → Fault → Option (List ℕ) → Option (List ℕ) → Type 0
-LeavesAnnouncement opening asked fault old new =
-    LeavesBegun (BeginsToAnnounce opening asked old new) fault old new
+abbrev pub LeavesAnnouncement : Opening → Addresses → Fault → Option (List ℕ) → Option (List ℕ)
+    → Type 0
+LeavesAnnouncement opening at fault old new =
+    LeavesBegun (BeginsToAnnounce opening at old new) fault old new
 
 -- the output that failed has a beginning of the service's announcement with these dropped bytes;
 -- other faults leave the output unchanged

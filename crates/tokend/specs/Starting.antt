@@ -51,7 +51,7 @@ first_region service =
 -- pushed bundles that are ahead
 abbrev pub edge_of : Bool → RegionFields → EdgeFields
 edge_of refuses region =
-    record { region = region; sync = true; refuses_ahead = refuses; sealed = false }
+    record { region = region; refuses_ahead = refuses; sealed = false }
 
 -- the edge of the service's region, without facts
 abbrev pub first_edge : Service → EdgeFields

@@ -32,6 +32,9 @@ use Rattle.tokend.specs.declared.fault.Fault.TheVariants.{
   CannotReadFile,
   CannotOpen,
   CannotListen,
+  SharedFolder,
+  SocketInUse,
+  PruneAhead,
   SocketFailed,
   ScriptTooLong,
   BadLine,
@@ -53,7 +56,8 @@ facts_status (Refused name offset) = 2
 facts_status (UnreadSource name) = 1
 facts_status NoMemory = 1
 
--- the exit status: 1 for memory and devices, 2 for arguments, scripts, seeds and logs
+-- the exit status: 1 for memory and devices, 2 for arguments, scripts, seeds and logs, 3 for a
+-- socket that another server has
 abbrev pub status_of : Fault → ℕ
 status_of (Words error) = 2
 status_of ScriptTooLong = 2
@@ -64,6 +68,9 @@ status_of CannotRead = 1
 status_of (CannotReadFile name) = 1
 status_of (CannotOpen name) = 1
 status_of CannotListen = 1
+status_of SharedFolder = 2
+status_of SocketInUse = 3
+status_of PruneAhead = 2
 status_of SocketFailed = 1
 status_of Memory = 1
 status_of (Facts fault) = facts_status fault
@@ -93,6 +100,9 @@ fault_text (CannotReadFile name) =
     Some (codes "tokend: cannot read " ++ (string_bytes name ++ 10 ∷ []))
 fault_text (CannotOpen name) = Some (codes "tokend: cannot open " ++ (string_bytes name ++ 10 ∷ []))
 fault_text CannotListen = Some (codes "tokend: cannot listen" ++ 10 ∷ [])
+fault_text SharedFolder = Some (codes "tokend: others may write the socket's folder" ++ 10 ∷ [])
+fault_text SocketInUse = Some (codes "tokend: socket in use" ++ 10 ∷ [])
+fault_text PruneAhead = Some (codes "tokend: prune later than the clock" ++ 10 ∷ [])
 fault_text SocketFailed = Some (codes "tokend: socket failed" ++ 10 ∷ [])
 fault_text BadSeedFile = Some (codes "tokend: bad seed file" ++ 10 ∷ [])
 fault_text BadLogFile = Some (codes "tokend: bad log file" ++ 10 ∷ [])

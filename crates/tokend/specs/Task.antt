@@ -7,6 +7,7 @@
 --   IsFactsTask     the values of `facts` are those of this task
 --   IsNoCheck       a check is requested, and the values are no check's
 --   lacks_log       bundles taken in are to be logged without a log
+--   is_unplaced     not exactly one of a port and a socket is given
 --   misnames_word   an option has none of its words
 --   missing_kind    the kind of the fault of arguments that name no task
 --   Asks            the arguments request this task
@@ -59,8 +60,8 @@ loopback_task s =
       cap = s.cap;
     })
 
--- the values are no service's: a required number, the seed or the log is missing, or an option has
--- none of its words
+-- the values are no service's: a required number, the socket, the seed or the log is missing, or an
+-- option has none of its words
 abbrev pub IsNoService : List Row → Type 0
 IsNoService rows = (service : Service) → ¬ (HasService rows service)
 
@@ -100,6 +101,21 @@ lacks_log (Some found) =
     is_given (first_of (codes "log-taken") found.1)
     && not (is_some (first_of (codes "log") found.1))
 
+-- not exactly one of `--port` and `--socket` is among the rows
+abbrev pub is_unplaced_in : List Row → Bool
+is_unplaced_in rows =
+    if is_some (first_of (codes "port") rows) then is_some (first_of (codes "socket") rows)
+    else not (is_some (first_of (codes "socket") rows))
+
+-- the subcommand has not exactly one of `--port` and `--socket`
+abbrev pub is_unplaced : Option (Text × List Row) → Bool
+is_unplaced None = false
+is_unplaced (Some found) = is_unplaced_in found.1
+
+-- the subcommand lacks an option that another one requires, or that every service has
+abbrev pub lacks_option : Option (Text × List Row) → Bool
+lacks_option found = lacks_log found || is_unplaced found
+
 -- the value of `--ahead`, `--revoke-unseen` or `--consent` is none of its words, or `--redirects`
 -- has another word
 abbrev pub has_misnamed : List Row → Bool
@@ -114,7 +130,7 @@ abbrev pub misnames_word : Option (Text × List Row) → Bool
 misnames_word None = false
 misnames_word (Some found) = has_misnamed found.1
 
--- the kind of the fault by whether the log is missing and an option has another value
+-- the kind of the fault by whether an option is missing and one has another value
 abbrev pub kind_missing : Bool → Bool → ErrorKind
 kind_missing lacks misnames =
     if lacks then MissingRequiredArgument
@@ -122,7 +138,7 @@ kind_missing lacks misnames =
 
 -- the kind of the fault of arguments in which clap finds no fault, and which name no task
 abbrev pub missing_kind : Option (Text × List Row) → ErrorKind
-missing_kind found = kind_missing (lacks_log found) (misnames_word found)
+missing_kind found = kind_missing (lacks_option found) (misnames_word found)
 
 -- the arguments request this task: clap finds no fault in them, and they name the task
 abbrev pub Asks : List Text → Task → Type 0

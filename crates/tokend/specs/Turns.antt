@@ -5,6 +5,7 @@
 --   IsTurn         the requests of a turn are decided, and their records are written at once
 --   AreTurns       turns, one after the other
 --   connections_in   how many connections ended
+--   ReachEach      each request reached no more than its socket lets it
 --   so_many        how many connections are served
 --   ServesAll      as many connections as requested were served
 --   ServesLogged   as many connections as requested were served, with the log of a name
@@ -13,6 +14,7 @@ use Rattle.std.specs.Prelude.{
   ◌≡◌,
   ◌≢◌,
   ◌⊎◌,
+  ⊤,
   ℕ,
   ◌+◌,
   ◌-◌,
@@ -42,6 +44,8 @@ use Rattle.tk_put.specs.Put.{AppendsFront}
 use Rattle.tk_edge.specs.EdgeFields.{EdgeFields}
 use Rattle.tk_edge.specs.Told.{Change}
 use Rattle.tk_edge.specs.declared.edge.Served.{Served}
+use Rattle.tk_edge.specs.declared.reach.Reach.{Reach}
+use Rattle.tk_edge.specs.declared.reach.Reach.TheVariants.{Admin, All, Clients}
 use Rattle.tk_edge.specs.declared.tell.Fault.{Fault}
 use Rattle.tk_edge.specs.declared.tell.Fault.TheVariants.{Log, Write}
 use Rattle.tokend.specs.Decisions.{Ending, IsDecision, ended_if}
@@ -63,6 +67,18 @@ connections_in (ending ∷ endings) = ended_if ending.stays + connections_in end
 -- each connection ended behind its first request, unless connections are kept
 abbrev pub ClosesEach : Bool → Endings → Type 0
 ClosesEach keeps endings = keeps ≡ false → connections_in endings ≡ length endings
+
+-- a request reaches all paths, or those of clients alone if operators have a socket of their own
+abbrev pub MayReach : Bool → Reach → Type 0
+MayReach has_inner All = ⊤
+MayReach has_inner Clients = has_inner ≡ true
+MayReach has_inner Admin = ⊥
+
+-- each of these requests reached what it may
+abbrev pub ReachEach : Bool → Endings → Type 0
+ReachEach has_inner [] = ⊤
+ReachEach has_inner (ending ∷ endings) =
+    MayReach has_inner ending.reach × ReachEach has_inner endings
 
 -- the generator after the words of these requests
 abbrev pub past_each : ChaCha → Endings → ChaCha
@@ -154,10 +170,11 @@ abbrev pub keeps_in : Option ℕ → Bool
 keeps_in seconds = nat_lt 0 (unwrap_or seconds 0)
 
 -- as many connections as requested were served, from one state to the other
-abbrev pub ServesAll : ChaCha → Option ℕ → Bool → Bool → Running → Running → Type 0
-ServesAll words requests keeps log_taken old new =
+abbrev pub ServesAll : ChaCha → Option ℕ → Bool → Bool → Bool → Running → Running → Type 0
+ServesAll words requests keeps has_inner log_taken old new =
     (turns : List Endings) × (connections_in (all_ends turns) ≡ so_many requests)
-    × ClosesEach keeps (all_ends turns) × AreTurns words log_taken old turns new
+    × ClosesEach keeps (all_ends turns) × ReachEach has_inner (all_ends turns)
+    × AreTurns words log_taken old turns new
 
 -- An edge and the writer of the lines about faults, before and after its service.
 pub record Course : Type 0 where
@@ -166,9 +183,9 @@ pub record Course : Type 0 where
   pub faults : Writing
 
 -- as many connections as requested were served, with this log
-abbrev pub ServesWith : ChaCha → Option ℕ → Bool → Bool → Course → Change → Type 0
-ServesWith words requests keeps log_taken s log =
-    ServesAll words requests keeps log_taken
+abbrev pub ServesWith : ChaCha → Option ℕ → Bool → Bool → Bool → Course → Change → Type 0
+ServesWith words requests keeps has_inner log_taken s log =
+    ServesAll words requests keeps has_inner log_taken
     (record { edge = s.start; log = log.before; faults = s.faults.before })
     (record { edge = s.end; log = log.after; faults = s.faults.after })
 
@@ -176,12 +193,12 @@ ServesWith words requests keeps log_taken s log =
 -- was empty, or without a log, if there is no name. `holds` has the bytes of a log, if they are
 -- known, and `opens` which log a name opens.
 abbrev pub ServesLogged : {A L : Type 0} → (L → Option (List ℕ)) → (List ℕ → L → Type 0)
-    → Option (String A) → ChaCha → Option ℕ → Bool → Bool → Course → Type 0
-ServesLogged holds opens None words requests keeps log_taken s =
-    ServesWith words requests keeps log_taken s (record { before = None; after = None })
-ServesLogged {L = L} holds opens (Some name) words requests keeps log_taken s =
+    → Option (String A) → ChaCha → Option ℕ → Bool → Bool → Bool → Course → Type 0
+ServesLogged holds opens None words requests keeps has_inner log_taken s =
+    ServesWith words requests keeps has_inner log_taken s (record { before = None; after = None })
+ServesLogged {L = L} holds opens (Some name) words requests keeps has_inner log_taken s =
     (opened : L) × (closed : L) × opens (string_bytes name) opened × IsEmptyLog (holds opened)
-    × ServesWith words requests keeps log_taken s
+    × ServesWith words requests keeps has_inner log_taken s
     (record { before = holds opened; after = holds closed })
 
 -- a server with the bytes of its log and the writer of the lines about faults
@@ -203,5 +220,7 @@ pub record Goes (old new : Site) : Type 0 where
   pub counted : old.server.left ≡ connections_in (all_ends turns) + new.server.left
   pub closes : ClosesEach old.server.keeps (all_ends turns)
   pub keeps : new.server.keeps ≡ old.server.keeps
+  pub reaches : ReachEach old.server.has_inner (all_ends turns)
+  pub has_inner : new.server.has_inner ≡ old.server.has_inner
   pub log_taken : new.server.log_taken ≡ old.server.log_taken
   pub fault : new.server.fault ≡ old.server.fault

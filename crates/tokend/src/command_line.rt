@@ -20,6 +20,7 @@ ghost use Rattle.tokend.specs.CommandLine.{
   with_rules,
 };
 
+use crate::address::Address;
 use crate::options::Service;
 use clap::builder::ValueParser;
 use clap::{Arg, ArgAction, Command};
@@ -160,13 +161,17 @@ fn serve_command<'a>(alloc: Global) -> Result<Command<'a>, AllocError>
     ensures local { IfOk result (λ c. (out-Command c).has_globals ≡ false) }
 {
     let serve = Command::new(alloc, "serve").about(
-        "Serves requests over HTTP on 127.0.0.1, those of many connections at once",
+        "Serves requests over HTTP, those of many connections at once",
     );
-    let choices: [Choice<'a>; 13] = [
+    let choices: [Choice<'a>; 16] = [
         ("region", Takes::Range(1, Service::GREATEST_REGION, true),
             "The number of the region that is served, 1 to 65535, like no other's and never used again [required]"),
-        ("port", Takes::Range(0, Service::GREATEST_PORT, true),
-            "The port that is listened on, 0 to 65535, 0 for a free one [required]"),
+        ("port", Takes::Range(0, Address::GREATEST_PORT, false),
+            "The port that is listened on, 0 to 65535, 0 for a free one [required, or --socket]"),
+        ("socket", Takes::File(false),
+            "The Unix socket that is listened on in place of a port"),
+        ("inner", Takes::File(false),
+            "The Unix socket that alone answers /admin/ and /sync/ [default: none]"),
         ("seed", Takes::File(true),
             "The file of 32 secret random bytes that handles are made from, another for each start [required]"),
         ("log", Takes::File(false),
@@ -185,6 +190,8 @@ fn serve_command<'a>(alloc: Global) -> Result<Command<'a>, AllocError>
             "What is given if a good consent is held: a new one, or the held one without a fact"),
         ("redirects", Takes::List,
             "The kinds of redirection URIs that a new client may have: https, loopback, app [default: every absolute URL]"),
+        ("connections", Takes::Number(Service::GREATEST_CONNECTIONS, "1024"),
+            "How many connections are open at once at most, 1 to 65536"),
         ("requests", Takes::Range(0, Service::GREATEST_REQUESTS, false),
             "How many connections are served, 0 to 4294967295 [default: without end]"),
         ("keep", Takes::Range(0, Service::GREATEST_KEEP, false),

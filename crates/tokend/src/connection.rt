@@ -5,13 +5,18 @@
 
 ghost use Rattle.std.specs.Prelude.{◌≤◌, length};
 
-use crate::timed::{LONGEST_MILLIS, MAX_DROPPED};
-use mio::net::TcpStream;
+use crate::socket::Stream;
 use mio::{Interest, Registry, Token};
 use std::alloc::Global;
 use std::io::{self, ErrorKind, Read};
-use std::net::Shutdown;
 use tk_turn::{Link, send};
+
+/// How long a client is waited for, in milliseconds: for its request since it was accepted, and for
+/// the end of its side since its reply.
+const LONGEST_MILLIS: u64 = 5_000;
+
+/// How many bytes a client may send behind its request. They are dropped.
+const MAX_DROPPED: usize = 65_536;
 
 /// How many writes one turn makes to a connection at most.
 const MAX_WRITES: usize = 64;
@@ -38,7 +43,7 @@ pub(crate) enum Step {
 /// The socket of a connection, and how far the connection is.
 #[derive(Drop)]
 pub(crate) struct Connection {
-    stream: TcpStream,
+    stream: Stream,
     // Since when the client is waited for, in milliseconds.
     since: u64,
     // How many bytes were dropped that came behind the last request.
@@ -64,7 +69,7 @@ pub(crate) struct Connection {
 
 impl Connection {
     /// Returns a connection that was accepted at `now`.
-    pub(crate) fn new(stream: TcpStream, now: u64) -> Connection {
+    pub(crate) fn new(stream: Stream, now: u64) -> Connection {
         Connection {
             stream,
             since: now,
@@ -242,7 +247,7 @@ impl Connection {
     fn shut(&mut self, link: &Link) -> Step {
         if !self.is_shut {
             self.is_shut = true;
-            if self.stream.shutdown(Shutdown::Write).is_err() {
+            if self.stream.end().is_err() {
                 return Step::Over;
             }
         }

@@ -7,24 +7,21 @@ ghost use Rattle.std.specs.Prelude.{◌↔◌, IsTrue, IfOk, length};
 ghost use Rattle.tk_turn.specs.Turns.{AreWithin};
 
 use crate::connection::{Connection, Step};
+use crate::door::Door;
 use crate::losses::{Losses, NO_LOSS};
+use crate::socket::Listener;
 use mio::event::Event;
-use mio::net::{TcpListener, TcpStream};
-use mio::{Events, Interest, Poll, Token};
+use mio::{Events, Poll, Token};
 use std::alloc::{AllocError, Global};
-use std::io::{self, ErrorKind};
 use std::net::Net;
 use std::time::Duration;
 use tk_turn::Link;
 
-/// How many connections are open at once at most.
-pub(crate) const MAX_OPEN: usize = 1_000;
+/// How many connections are open at once over the inner socket at most.
+const MAX_INNER: usize = 64;
 
 /// How many connections may be large at once.
 const MAX_LARGE: usize = 16;
-
-/// How many connections one turn accepts at most.
-const MAX_ACCEPTED: usize = 128;
 
 /// How many events one turn takes at most.
 const MAX_EVENTS: usize = 1_024;
@@ -35,8 +32,9 @@ pub(crate) const TICK_MILLIS: u64 = 100;
 /// How many bytes one read takes at most.
 const PIECE: usize = 16_384;
 
-/// The token of the listener. A connection's token is greater by one than its place.
-const LISTENER: usize = 0;
+/// How many sockets are listened on at most. Their tokens are the first ones. A connection's token is
+/// greater by that than its place.
+const DOORS: usize = 2;
 
 /// Why there is no table for connections.
 #[derive(Clone, Copy)]
@@ -52,20 +50,24 @@ pub(crate) enum NoRoom {
 pub(crate) struct Connections {
     /// Where memory is taken from.
     pub alloc: Global,
-    listener: TcpListener,
+    /// The outer socket, and the inner one if there is one.
+    pub doors: Vec<Door>,
+    /// How many places are those of the outer socket: the first ones.
+    pub outer: usize,
     poll: Poll,
     events: Events,
     /// The sockets, by place.
     pub sockets: Vec<Option<Connection>>,
     /// Their bytes, by place.
     pub links: Vec<Link>,
-    /// The places that are free.
-    pub free: Vec<usize>,
-    // The places with something to do in this turn and in the next one.
-    listed: Vec<usize>,
+    /// The places with something to do in this turn.
+    pub listed: Vec<usize>,
+    // Those with something to do in the next one.
     again: Vec<usize>,
-    /// The places whose requests this turn may decide.
+    /// The places of the outer socket whose requests this turn may decide, and those of the inner
+    /// one.
     pub places: Vec<usize>,
+    pub inner_places: Vec<usize>,
     /// Room for the records of a turn.
     pub records: Vec<u8>,
     piece: Vec<u8>,
@@ -79,28 +81,34 @@ pub(crate) struct Connections {
     pub losses: Losses,
     /// How long a kept connection stays open between its requests, in milliseconds, or 0: none is.
     pub keep: u64,
-    // Whether more clients may wait to be accepted, and whether accepting has just failed.
-    has_more: bool,
-    has_failed: bool,
-    // Whether the last turn accepted as many clients as one may.
-    goes_on: bool,
+    /// Whether the last turn accepted as many clients as one may.
+    pub goes_on: bool,
     /// When late connections were last looked for.
     pub looked: u64,
 }
 
-// Returns a table with room for all connections that may be open.
-fn table(alloc: Global, listener: TcpListener, poll: Poll) -> Result<Connections, AllocError> {
+// Returns a table with room for this many connections over the outer socket, and for those over the
+// inner one, if there is one.
+fn table(
+    alloc: Global,
+    listener: Listener,
+    inner: Option<Listener>,
+    outer: usize,
+    poll: Poll,
+) -> Result<Connections, AllocError> {
+    let count = outer.saturating_add(if inner.is_some() { MAX_INNER } else { 0 });
     let mut table = Connections {
         alloc,
-        listener,
+        doors: doors(alloc, listener, inner, outer)?,
+        outer,
         poll,
         events: Events::with_capacity(alloc, MAX_EVENTS)?,
-        sockets: Vec::with_capacity(alloc, MAX_OPEN)?,
-        links: Vec::with_capacity(alloc, MAX_OPEN)?,
-        free: Vec::with_capacity(alloc, MAX_OPEN)?,
-        listed: Vec::with_capacity(alloc, MAX_OPEN)?,
-        again: Vec::with_capacity(alloc, MAX_OPEN)?,
-        places: Vec::with_capacity(alloc, MAX_OPEN)?,
+        sockets: Vec::with_capacity(alloc, count)?,
+        links: Vec::with_capacity(alloc, count)?,
+        listed: Vec::with_capacity(alloc, count)?,
+        again: Vec::with_capacity(alloc, count)?,
+        places: Vec::with_capacity(alloc, outer)?,
+        inner_places: Vec::with_capacity(alloc, MAX_INNER)?,
         records: Vec::new(alloc),
         piece: Vec::from_elem(alloc, 0, PIECE)?,
         open: 0,
@@ -108,21 +116,33 @@ fn table(alloc: Global, listener: TcpListener, poll: Poll) -> Result<Connections
         large: 0,
         losses: NO_LOSS,
         keep: 0,
-        has_more: false,
-        has_failed: false,
         goes_on: false,
         looked: 0,
     };
-    for place in 0..MAX_OPEN {
+    for _ in 0..count {
         table.sockets.push(None)?;
         table.links.push(Link::new(alloc))?;
-        table.free.push(MAX_OPEN - 1 - place)?;
     }
     Ok(table)
 }
 
+// Returns the doors of the two sockets.
+fn doors(
+    alloc: Global,
+    listener: Listener,
+    inner: Option<Listener>,
+    outer: usize,
+) -> Result<Vec<Door>, AllocError> {
+    let mut doors = Vec::with_capacity(alloc, DOORS)?;
+    doors.push(Door::new(alloc, listener, 0, outer)?)?;
+    if let Some(listener) = inner {
+        doors.push(Door::new(alloc, listener, outer, MAX_INNER)?)?;
+    }
+    Ok(doors)
+}
+
 impl Connections {
-    /// Returns a table without connections.
+    /// Returns a table without connections, with room for `outer` of them over the outer socket.
     ///
     /// # Errors
     ///
@@ -130,21 +150,32 @@ impl Connections {
     pub(crate) fn new<N: Net>(
         net: &N,
         alloc: Global,
-        listener: TcpListener,
+        listener: Listener,
+        inner: Option<Listener>,
+        outer: usize,
     ) -> Result<Connections, NoRoom> {
         let Ok(poll) = Poll::new(net) else {
             return Err(NoRoom::System);
         };
-        match table(alloc, listener, poll) {
-            Ok(mut table) => {
-                let registry = table.poll.registry();
-                match registry.register(&mut table.listener, Token(LISTENER), Interest::READABLE) {
-                    Ok(()) => Ok(table),
-                    Err(_) => Err(NoRoom::System),
-                }
-            }
-            Err(_) => Err(NoRoom::Memory),
+        let Ok(mut table) = table(alloc, listener, inner, outer, poll) else {
+            return Err(NoRoom::Memory);
+        };
+        if table.watch_doors() {
+            Ok(table)
+        } else {
+            Err(NoRoom::System)
         }
+    }
+
+    // Has events say when clients wait. Returns whether the system can.
+    fn watch_doors(&mut self) -> bool {
+        let registry = self.poll.registry();
+        for (at, door) in self.doors.iter_mut().enumerate() {
+            if door.watch(registry, Token(at)).is_err() {
+                return false;
+            }
+        }
+        true
     }
 
     /// Returns whether no connection is open.
@@ -161,10 +192,9 @@ impl Connections {
     ///
     /// If that fails, it counts as a connection that wasn't accepted.
     pub(crate) fn wait(&mut self, left: u64) {
-        let accepts = self.has_more && !self.has_failed && self.has_room(left);
-        let wait = if accepts || self.goes_on || !self.again.is_empty() {
+        let wait = if self.has_room(left) || self.goes_on || !self.again.is_empty() {
             Some(Duration::from_millis(0))
-        } else if self.has_more || self.open > 0 {
+        } else if self.open > 0 || self.doors.iter().any(Door::has_client) {
             Some(Duration::from_millis(TICK_MILLIS))
         } else {
             None
@@ -174,9 +204,10 @@ impl Connections {
         }
     }
 
-    // Returns whether one more connection may be accepted, of `left` that are still to be served.
+    // Returns whether one more client waits and may be accepted, if `left` connections are still to
+    // be served.
     fn has_room(&self, left: u64) -> bool {
-        self.undecided < left && !self.free.is_empty()
+        self.undecided < left && self.doors.iter().any(|door| door.is_ready() && !door.is_full())
     }
 
     /// Lists the connections that have something to do.
@@ -187,64 +218,19 @@ impl Connections {
         }
         self.again.clear();
         for event in self.events.iter() {
-            match event.token().0 {
-                LISTENER => self.has_more = true,
-                token => note(&mut self.sockets, &mut self.listed, token - 1, event),
+            let token = event.token().0;
+            if let Some(door) = self.doors.get_mut(token) {
+                door.note_client();
+            } else if token >= DOORS {
+                note(&mut self.sockets, &mut self.listed, token - DOORS, event);
             }
-        }
-    }
-
-    /// Accepts clients that wait, as long as no more than `left` requests are undecided.
-    pub(crate) fn accept(&mut self, now: u64, left: u64) {
-        self.has_failed = false;
-        self.goes_on = false;
-        for _ in 0..MAX_ACCEPTED {
-            if self.free.is_empty() && self.has_more {
-                self.close_idle(now);
-            }
-            if !self.has_more || !self.has_room(left) {
-                return;
-            }
-            match self.listener.accept() {
-                Ok((stream, _)) => self.add(stream, now),
-                Err(error) => return self.note_failure(&error),
-            }
-        }
-        self.goes_on = true;
-    }
-
-    // Notes why no client was accepted.
-    fn note_failure(&mut self, error: &io::Error) {
-        match error.kind() {
-            ErrorKind::WouldBlock => self.has_more = false,
-            ErrorKind::Interrupted | ErrorKind::ConnectionAborted => {}
-            _ => {
-                self.has_failed = true;
-                self.lose_unread();
-            }
-        }
-    }
-
-    // Adds a connection that was accepted.
-    fn add(&mut self, stream: TcpStream, now: u64) {
-        let Some(place) = self.free.pop() else {
-            return;
-        };
-        if let Some(socket) = self.sockets.get_mut(place) {
-            if self.keep > 0 {
-                // A reply behind another isn't held back until the client has taken that one.
-                let _ = stream.set_nodelay(true);
-            }
-            *socket = Some(Connection::new(stream, now));
-            self.open = self.open.saturating_add(1);
-            self.undecided = self.undecided.saturating_add(1);
-            let _ = self.listed.push(place);
         }
     }
 
     /// Reads what has come over the listed connections, and lists those that may be decided.
     pub(crate) fn read(&mut self, now: u64) {
         self.places.clear();
+        self.inner_places.clear();
         for at in 0..self.listed.len() {
             let Some(place) = self.listed.get(at).copied() else {
                 return;
@@ -274,19 +260,26 @@ impl Connections {
             self.large += 1;
         }
         if !connection.is_decided && link.sendable().is_empty() {
-            let _ = self.places.push(place);
+            let _ = if place < self.outer {
+                self.places.push(place)
+            } else {
+                self.inner_places.push(place)
+            };
         }
     }
 
     /// Gives up the connections whose requests may be decided.
     pub(crate) fn give_up(&mut self) {
-        for at in 0..self.places.len() {
-            let Some(place) = self.places.get(at).copied() else {
-                return;
-            };
-            self.lose(place);
+        for _ in 0..self.places.len() {
+            if let Some(place) = self.places.pop() {
+                self.lose(place);
+            }
         }
-        self.places.clear();
+        for _ in 0..self.inner_places.len() {
+            if let Some(place) = self.inner_places.pop() {
+                self.lose(place);
+            }
+        }
     }
 
     /// Sends the replies of a turn that ended at `now`. The requests that it left are decided in the
@@ -324,7 +317,7 @@ impl Connections {
             }
             Step::Waits => {
                 let registry = self.poll.registry();
-                if connection.watch(registry, Token(place + 1), link).is_err() {
+                if connection.watch(registry, Token(place + DOORS), link).is_err() {
                     self.lose(place);
                 }
             }

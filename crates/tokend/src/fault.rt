@@ -25,8 +25,14 @@ pub enum Fault {
     CannotReadFile(String),
     /// The log of this name can't be opened.
     CannotOpen(String),
-    /// The port is in use, or can't be listened on.
+    /// The port or the socket is in use, or can't be listened on.
     CannotListen,
+    /// Others than the user may write the folder of a socket.
+    SharedFolder,
+    /// Another server answers at the socket.
+    SocketInUse,
+    /// The moment of the prune is later than the clock.
+    PruneAhead,
     /// A socket of `loopback` failed.
     SocketFailed,
     /// The seed file hasn't exactly 32 bytes.
@@ -73,7 +79,8 @@ impl FactsFault {
 }
 
 impl Fault {
-    /// Returns the exit status: 1 for memory and devices, 2 for arguments, scripts, seeds and logs.
+    /// Returns the exit status: 1 for memory and devices, 2 for arguments, scripts, seeds and logs,
+    /// 3 for a socket that another server has.
     pub(crate) fn status(&self) -> u8
         ensures { result ≡ status_of self.now }
     {
@@ -83,6 +90,8 @@ impl Fault {
             Fault::Output => 1,
             Fault::Words(_) | Fault::ScriptTooLong | Fault::BadLine(_) => 2,
             Fault::BadSeedFile | Fault::BadLogFile => 2,
+            Fault::SharedFolder | Fault::PruneAhead => 2,
+            Fault::SocketInUse => 3,
             Fault::Facts(fault) => fault.status(),
         }
     }
@@ -104,6 +113,9 @@ pub(crate) fn tell<F: Sink>(faults: &mut F, fault: &Fault)
         Fault::CannotReadFile(name) => tell_name(faults, b"tokend: cannot read ", name),
         Fault::CannotOpen(name) => tell_name(faults, b"tokend: cannot open ", name),
         Fault::CannotListen => say(faults, &[b"tokend: cannot listen\n"]),
+        Fault::SharedFolder => say(faults, &[b"tokend: others may write the socket's folder\n"]),
+        Fault::SocketInUse => say(faults, &[b"tokend: socket in use\n"]),
+        Fault::PruneAhead => say(faults, &[b"tokend: prune later than the clock\n"]),
         Fault::SocketFailed => say(faults, &[b"tokend: socket failed\n"]),
         Fault::BadSeedFile => say(faults, &[b"tokend: bad seed file\n"]),
         Fault::BadLogFile => say(faults, &[b"tokend: bad log file\n"]),

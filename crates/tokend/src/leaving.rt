@@ -12,11 +12,14 @@ impl Connections {
         losses
     }
 
-    /// Closes the connection whose client is idle for the longest time, if there is one.
-    pub(crate) fn close_idle(&mut self, now: u64) {
+    /// Closes the connection of a door whose client is idle for the longest time, if there is one.
+    pub(crate) fn close_idle(&mut self, at: usize, now: u64) {
         let mut oldest = None;
         let mut least = u64::MAX;
         for place in 0..self.sockets.len() {
+            if self.door_of(place) != at {
+                continue;
+            }
             let (Some(Some(connection)), Some(link)) = (
                 self.sockets.get(place),
                 self.links.get(place),
@@ -96,6 +99,14 @@ impl Connections {
         }
         *link = Link::new(self.alloc);
         self.open = self.open.saturating_sub(1);
-        let _ = self.free.push(place);
+        let at = self.door_of(place);
+        if let Some(door) = self.doors.get_mut(at) {
+            door.free(place);
+        }
+    }
+
+    // Returns the door of a place: 0 for the outer one.
+    fn door_of(&self, place: usize) -> usize {
+        usize::from(place >= self.outer)
     }
 }

@@ -1,26 +1,34 @@
-//! The port of a service, and the lines before its first connection: `listen`.
+//! The sockets of a service, and the lines before its first connection: `listen`.
 
-ghost use Rattle.std.specs.Prelude.{◌++◌, OnOk, IfErr};
+ghost use Rattle.std.specs.Prelude.{◌++◌, OnOk, IfErr, string_bytes};
 ghost use Rattle.tk_put.specs.Put.{Prints, joined_text};
 ghost use Rattle.tokend.specs.Serving.{
   announced,
   dropped_bytes,
   dropped_line,
+  inner_line,
+  listening_at,
   listening_line,
+  outer_line,
   pruned_facts,
   pruned_line,
   Announces,
+  IsBindFault,
   IsListenedOn,
   IsListenFault,
   LeavesAnnouncement,
 };
 
+use crate::address::{Address, Addresses};
+use crate::bind::{bind, bind_path};
 use crate::connections::{Connections, NoRoom};
 use crate::fault::Fault;
+use crate::options::Service;
+use crate::socket::Listener;
 use itoa::Buffer;
-use mio::net::TcpListener;
 use std::io::{self, Write};
-use std::net::{Ipv4Addr, Net, SocketAddr};
+use std::net::Net;
+use std::rt::Files;
 use tk_put::put_all;
 
 /// What a start announces of its region before it listens.
@@ -32,29 +40,51 @@ pub struct Opening {
     pub pruned: Option<u64>,
 }
 
-/// Listens on the port, or on any free one for 0, and prints the announcement.
-pub(crate) fn listen<R: AllocGlobal + Net, O: Write>(
+/// Listens at the sockets of a service, and prints the announcement.
+pub(crate) fn listen<R: AllocGlobal + Files + Net, O: Write>(
     rt: &R,
-    port: u16,
+    service: &Service,
     opening: Opening,
     output: &mut O,
 ) -> Result<Connections, Fault>
     ensures done { OnOk result
-        (Announces opening port (O.contents output.old) (O.contents output.new)) }
+        (Announces opening service.now.at (O.contents output.old) (O.contents output.new)) }
     ensures fault { IfErr result IsListenFault }
     ensures left { IfErr result
-        (λ fault. LeavesAnnouncement opening port fault (O.contents output.old)
+        (λ fault. LeavesAnnouncement opening service.now.at fault (O.contents output.old)
         (O.contents output.new)) }
 {
-    let asked = SocketAddr::from((Ipv4Addr::new(127, 0, 0, 1), port));
-    let Ok(listener) = TcpListener::bind(rt, asked) else {
-        return Err(Fault::CannotListen);
+    match bind(rt, &service.at.outer) {
+        Ok((outer, port)) => listen_inner(rt, service, opening, outer, port, output),
+        Err(fault) => Err(fault),
+    }
+}
+
+// Listens at the inner socket too, if there is one, and prints the announcement. `port` is the one
+// of the outer socket.
+fn listen_inner<R: AllocGlobal + Files + Net, O: Write>(
+    rt: &R,
+    service: &Service,
+    opening: Opening,
+    outer: Listener,
+    port: u16,
+    output: &mut O,
+) -> Result<Connections, Fault>
+    requires { IsListenedOn service.now.at.outer port }
+    ensures done { OnOk result
+        (Announces opening service.now.at (O.contents output.old) (O.contents output.new)) }
+    ensures fault { IfErr result IsListenFault }
+    ensures left { IfErr result
+        (λ fault. LeavesAnnouncement opening service.now.at fault (O.contents output.old)
+        (O.contents output.new)) }
+{
+    let inner = match bind_inner(rt, &service.at.inner) {
+        Ok(inner) => inner,
+        Err(fault) => return Err(fault),
     };
-    let Ok(address) = listener.local_addr() else {
-        return Err(Fault::CannotListen);
-    };
-    match Connections::new(rt, rt.alloc(), listener) {
-        Ok(connections) => match announce(output, opening, listened_on(port, address.port())) {
+    let most = service.connections as usize;
+    match Connections::new(rt, rt.alloc(), outer, inner, most) {
+        Ok(connections) => match announce(output, opening, &service.at, port) {
             Ok(()) => Ok(connections),
             Err(_) => Err(Fault::Output),
         },
@@ -63,32 +93,58 @@ pub(crate) fn listen<R: AllocGlobal + Net, O: Write>(
     }
 }
 
-// Returns the port of the listener: the requested one, or the one found if any free port was
-// requested.
-fn listened_on(asked: u16, found: u16) -> u16
-    ensures { IsListenedOn asked result }
+// Makes the inner socket, if there is one.
+fn bind_inner<R: Files + Net>(rt: &R, path: &Option<String>) -> Result<Option<Listener>, Fault>
+    ensures { IfErr result IsBindFault }
 {
-    if asked == 0 { found } else { asked }
+    match path {
+        Some(path) => match bind_path(rt, path) {
+            Ok(listener) => Ok(Some(listener)),
+            Err(fault) => Err(fault),
+        },
+        None => Ok(None),
+    }
 }
 
 // Prints the lines before the first connection.
-fn announce<O: Write>(output: &mut O, opening: Opening, port: u16) -> io::Result<()>
+fn announce<O: Write>(
+    output: &mut O,
+    opening: Opening,
+    at: &Addresses,
+    port: u16,
+) -> io::Result<()>
     ensures { Prints result (O.contents output.old) (O.contents output.new)
-        (announced opening port) }
+        (announced opening at.now port) }
 {
     match put_dropped(output, opening.dropped) {
-        Ok(()) => announce_prune(output, opening.pruned, port),
+        Ok(()) => announce_prune(output, opening.pruned, at, port),
         Err(error) => Err(error),
     }
 }
 
-// Prints the line of the prune, if there was one, and the line of the port.
-fn announce_prune<O: Write>(output: &mut O, pruned: Option<u64>, port: u16) -> io::Result<()>
+// Prints the line of the prune, if there was one, and the lines of the sockets.
+fn announce_prune<O: Write>(
+    output: &mut O,
+    pruned: Option<u64>,
+    at: &Addresses,
+    port: u16,
+) -> io::Result<()>
     ensures { Prints result (O.contents output.old) (O.contents output.new)
-        (pruned_line pruned ++ listening_line port) }
+        (pruned_line pruned ++ (inner_line at.now.inner ++ outer_line at.now.outer port)) }
 {
     match put_pruned(output, pruned) {
-        Ok(()) => put_port(output, port),
+        Ok(()) => announce_sockets(output, at, port),
+        Err(error) => Err(error),
+    }
+}
+
+// Prints the line of the inner socket, if there is one, and that of the outer one.
+fn announce_sockets<O: Write>(output: &mut O, at: &Addresses, port: u16) -> io::Result<()>
+    ensures { Prints result (O.contents output.old) (O.contents output.new)
+        (inner_line at.now.inner ++ outer_line at.now.outer port) }
+{
+    match put_inner(output, &at.inner) {
+        Ok(()) => put_outer(output, &at.outer, port),
         Err(error) => Err(error),
     }
 }
@@ -135,6 +191,27 @@ fn put_pruned_facts<O: Write>(output: &mut O, count: u64) -> io::Result<()>
     put_all(output, &[b"pruned ", count, b"\n"])
 }
 
+// Prints the line of the inner socket, if there is one.
+fn put_inner<O: Write>(output: &mut O, path: &Option<String>) -> io::Result<()>
+    ensures { Prints result (O.contents output.old) (O.contents output.new) (inner_line path.now) }
+{
+    match path {
+        Some(path) => put_all(output, &[b"inner unix:", path.as_bytes(), b"\n"]),
+        None => put_all(output, &[]),
+    }
+}
+
+// Prints the line of the outer socket, and flushes.
+fn put_outer<O: Write>(output: &mut O, address: &Address, port: u16) -> io::Result<()>
+    ensures { Prints result (O.contents output.old) (O.contents output.new)
+        (outer_line address.now port) }
+{
+    match address {
+        Address::Port(_) => put_port(output, port),
+        Address::Socket(path) => put_path(output, path),
+    }
+}
+
 // Prints the line of the port, and flushes.
 fn put_port<O: Write>(output: &mut O, port: u16) -> io::Result<()>
     ensures { Prints result (O.contents output.old) (O.contents output.new) (listening_line port) }
@@ -142,6 +219,14 @@ fn put_port<O: Write>(output: &mut O, port: u16) -> io::Result<()>
     let mut digits = Buffer::new();
     let port = digits.format(port).as_bytes();
     put_and_flush(output, &[b"listening 127.0.0.1:", port, b"\n"])
+}
+
+// Prints the line of a Unix socket, and flushes.
+fn put_path<O: Write>(output: &mut O, path: &String) -> io::Result<()>
+    ensures { Prints result (O.contents output.old) (O.contents output.new)
+        (listening_at (string_bytes path.now)) }
+{
+    put_and_flush(output, &[b"listening unix:", path.as_bytes(), b"\n"])
 }
 
 // Writes the pieces and flushes.

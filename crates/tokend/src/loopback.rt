@@ -2,27 +2,27 @@
 //!
 //! A world runs the events, as it does without sockets. `Sockets` carries the requests.
 
-ghost use Rattle.std.specs.Prelude.{◌≡◌, ◌≢◌, false, Err, IfOk, IfErr};
-ghost use Rattle.tk_edge.specs.Failures.{Rose};
+ghost use Rattle.std.specs.Prelude.{◌≡◌, ◌≢◌, Err, IfOk, IfErr};
 ghost use Rattle.tk_edge.specs.declared.tell.Fault.TheVariants as fault;
 ghost use Rattle.tk_world.specs.WorldFields.{new_world};
-ghost use Rattle.tokend.specs.Connection.{unknown, IsConnection};
+ghost use Rattle.tokend.specs.Connection.{IsConnection, end_of};
 ghost use Rattle.tokend.specs.LoopbackRun.{by_sockets, IsSocketFault, RunsBySockets};
 
-use crate::closing::close;
 use crate::fault::Fault;
-use crate::timed::{TimedSink, TimedSource, millis};
 use std::alloc::Global;
 use std::io::{self, Read, Write};
+use std::mem::replace;
 use std::net::{Ipv4Addr, Net, OpenListener, OpenStream, Shutdown, TcpListener, TcpStream};
-use std::time::Clock;
-use tk_edge::{Discard, Edge, Fault as EdgeFault, HEAD_LIMIT, Served, Sink};
+use tk_edge::{Counted, Discard, Edge, Fault as EdgeFault, Reach, Served, Taken};
 use tk_handle::Moment;
 use tk_world::{Carrier, Event, Outcome, RunError, Settings, World};
 
 /// The greatest length of a request, in bytes. A socket takes that many before the other side
 /// reads.
 pub(crate) const LONGEST: u64 = 16_384;
+
+/// For how many bytes of a reply memory is taken before its request is served.
+const REPLY_ROOM: usize = 4_096;
 
 /// Runs the events in order in a new world, and returns one outcome for each. A socket that fails
 /// ends the run.
@@ -32,7 +32,7 @@ pub(crate) fn run_by_sockets<R>(
     events: &[Event],
 ) -> Result<Vec<Outcome>, Fault>
 where
-    R: AllocGlobal + Clock + Net<Listener = TcpListener, Stream = TcpStream>,
+    R: AllocGlobal + Net<Listener = TcpListener, Stream = TcpStream>,
     ensures run { IfOk result
         (λ outcomes. RunsBySockets (new_world settings) events.now outcomes.items) }
     ensures fault { IfErr result IsSocketFault }
@@ -70,14 +70,14 @@ struct Sockets<'a, R> {
 
 impl<'a, R> Carrier for Sockets<'a, R>
 where
-    R: AllocGlobal + Clock + Net<Listener = TcpListener, Stream = TcpStream>,
+    R: AllocGlobal + Net<Listener = TcpListener, Stream = TcpStream>,
 {
     type Fault = SocketFault;
 
     // The bytes of sockets are unknown, so that this can't be the way of `World::run`.
     ghost way = { by_sockets };
 
-    // The client's end sends the whole request before the region's end is accepted, and reads the
+    // The client's end sends the whole request before the region's end reads it, and reads the
     // reply after the region's end is closed.
     fn carry(
         &self,
@@ -86,15 +86,25 @@ where
         words: &[u64; 6],
         bytes: &[u8],
     ) -> Result<Outcome, SocketFault> {
+        let alloc = self.rt.alloc();
         let Ok(client) = send(self.rt, &self.listener, bytes) else {
             return Err(SocketFault::Failed);
         };
-        match serve_client(self.rt, &self.listener, edge, now, words) {
+        let Ok((mut stream, _)) = self.listener.accept() else {
+            return Err(SocketFault::Failed);
+        };
+        let request = read_whole(alloc, &mut stream)?;
+        let Ok(mut reply) = Vec::with_capacity(alloc, REPLY_ROOM) else {
+            return Ok(Outcome::Memory);
+        };
+        match serve_bytes(alloc, edge, now, words, request.as_slice(), &mut reply) {
             Ok(Served::Done(status)) => {
-                let bytes = read_reply(self.rt.alloc(), client)?;
+                let bytes = return_reply(alloc, stream, reply.as_slice(), client)?;
                 Ok(Outcome::Reply { status, bytes })
             }
             Err(EdgeFault::Memory) => Ok(Outcome::Memory),
+            // The reply is written to memory.
+            Err(EdgeFault::Write) => Err(SocketFault::Memory),
             _ => Err(SocketFault::Failed),
         }
     }
@@ -111,83 +121,65 @@ where
     Ok(client)
 }
 
-// Accepts the region's end, serves it and closes it. No log is kept, so that none fails.
-fn serve_client<R: AllocGlobal + Clock>(
-    rt: &R,
-    listener: &TcpListener,
+// Serves the request that came over the region's end, behind which nothing follows. No log is kept,
+// so that none fails.
+fn serve_bytes(
+    alloc: Global,
     edge: &mut Edge,
     now: Moment,
     words: &[u64; 6],
+    bytes: &[u8],
+    reply: &mut Vec<u8>,
 ) -> Result<Served, EdgeFault>
-    ensures connection { IsConnection now words.now false edge.old edge.new unknown result }
+    ensures connection { IsConnection now words.now bytes.now edge.old edge.new result }
     ensures unlogged { result ≢ Err fault.Log }
 {
-    let mut buf = [0u8; HEAD_LIMIT];
-    match listener.accept() {
-        Ok((stream, _)) => serve_at(rt, &stream, edge, &mut Discard, false, &mut buf, now, words),
-        Err(_) => Err(EdgeFault::Read),
+    let mut writer = Counted::new(replace(reply, Vec::new(alloc)));
+    let served = edge.serve_front(
+        alloc,
+        Reach::Admin,
+        bytes,
+        true,
+        &mut writer,
+        &mut Discard,
+        false,
+        now,
+        words,
+    );
+    *reply = writer.inner;
+    end_of(served)
+}
+
+// Returns how a connection ended whose client has ended its side.
+fn end_of(served: Result<Option<(Served, Taken)>, EdgeFault>) -> Result<Served, EdgeFault>
+    ensures { result ≡ end_of served }
+{
+    match served {
+        Ok(Some((served, _))) => Ok(served),
+        Ok(None) => Err(EdgeFault::Read),
+        Err(fault) => Err(fault),
     }
 }
 
-// Serves one connection at a moment, and drops what its client still sends.
-fn serve_at<R: AllocGlobal + Clock, L: Sink>(
-    rt: &R,
-    stream: &TcpStream,
-    edge: &mut Edge,
-    log: &mut L,
-    log_taken: bool,
-    buf: &mut [u8; HEAD_LIMIT],
-    now: Moment,
-    words: &[u64; 6],
-) -> Result<Served, EdgeFault>
-    ensures connection { IsConnection now words.now log_taken edge.old edge.new
-        (record { before = L.holds log.old; after = L.holds log.new }) result }
-    ensures log_fault { result ≡ Err EdgeFault.Log → Rose (L.failed log.old) (L.failed log.new) }
-{
-    let Ok(since) = millis(rt) else {
-        return Err(EdgeFault::Read);
-    };
-    let served = serve_since(rt, stream, since, edge, log, log_taken, buf, now, words);
-    close(rt, stream, since, buf);
-    served
+// Sends the reply over the region's end, closes that, and reads the reply at the client's end.
+fn return_reply(
+    alloc: Global,
+    mut stream: TcpStream,
+    reply: &[u8],
+    mut client: TcpStream,
+) -> Result<Vec<u8>, SocketFault> {
+    let sent = stream.write_all(reply);
+    drop(stream);
+    match sent {
+        Ok(()) => read_whole(alloc, &mut client),
+        Err(_) => Err(SocketFault::Failed),
+    }
 }
 
-// Serves one connection that was accepted at `since`, at a moment, and ends its reply.
-fn serve_since<R: AllocGlobal + Clock, L: Sink>(
-    rt: &R,
-    stream: &TcpStream,
-    since: u64,
-    edge: &mut Edge,
-    log: &mut L,
-    log_taken: bool,
-    buf: &mut [u8; HEAD_LIMIT],
-    now: Moment,
-    words: &[u64; 6],
-) -> Result<Served, EdgeFault>
-    ensures connection { IsConnection now words.now log_taken edge.old edge.new
-        (record { before = L.holds log.old; after = L.holds log.new }) result }
-    ensures log_fault { result ≡ Err EdgeFault.Log → Rose (L.failed log.old) (L.failed log.new) }
-{
-    let Ok(mut source) = TimedSource::new(stream, rt, since) else {
-        return Err(EdgeFault::Read);
-    };
-    let mut sink = TimedSink::new(&source);
-    edge.serve_one_logging(
-        rt.alloc(),
-        &mut source,
-        &mut sink,
-        log,
-        log_taken,
-        buf,
-        now,
-        words,
-    )
-}
-
-// Reads the reply at the client's end, after the region's end is closed.
-fn read_reply(alloc: Global, mut client: TcpStream) -> Result<Vec<u8>, SocketFault> {
+// Reads what comes over a stream to its end.
+fn read_whole(alloc: Global, stream: &mut TcpStream) -> Result<Vec<u8>, SocketFault> {
     let mut bytes = Vec::new(alloc);
-    match client.read_to_end(&mut bytes) {
+    match stream.read_to_end(&mut bytes) {
         Ok(_) => Ok(bytes),
         Err(error) if error.kind() == io::ErrorKind::OutOfMemory => Err(SocketFault::Memory),
         Err(_) => Err(SocketFault::Failed),

@@ -6,8 +6,8 @@
 //! - `tokend script` reads events as lines from the standard input, runs them in a world of
 //!   regions, and prints one line for each.
 //! - `tokend loopback` runs the same events with each request through a socket.
-//! - `tokend serve` replies to the HTTP requests of one region on 127.0.0.1, and writes the log
-//!   before each reply.
+//! - `tokend serve` replies to the HTTP requests of one region, at a port of 127.0.0.1 or a Unix
+//!   socket, and writes the log before each reply.
 //! - `tokend facts` prints what logs, bundles and vectors hold, as lines of JSON, or says whether
 //!   they can be loaded.
 //!
@@ -16,17 +16,19 @@
 //!
 //! - 0: done
 //! - 1: memory or a device failed
-//! - 2: bad arguments, or a bad script, seed, log or source of facts
+//! - 2: bad arguments, or a bad script, seed, log, source of facts or folder of a socket
+//! - 3: another server answers at the socket
 //!
 //! In reading order:
 //!
 //! - `command_line`: what clap knows. `words`, `options`: the arguments, and the task that they
 //!   request.
 //! - `script`: the input as events.
-//! - `draw`: random words. `timed`: a connection's time limit.
+//! - `draw`: random words. `address`: where a service listens.
 //! - `folder`: where logs are found and kept. `log_file`, `load`: logs, new and old.
-//! - `start`: a service before its first connection. `listen`: its port.
-//! - `serve`: its connections. `closing`: what is left of them after the reply.
+//! - `start`: a service before its first connection. `bind`, `listen`: its sockets.
+//! - `serve`: its connections. `turns`: what is done of them, a turn at a time. `server`: what is
+//!   decided of each. `connections`: the table of them.
 //! - `loopback`: a script's requests as connections.
 //! - `sources`, `facts`: the files whose facts are printed; their lines. `check`: whether they can
 //!   be loaded.
@@ -37,13 +39,16 @@
 //! The definitions are in `specs/`, listed in `Lib`.
 #![tactic(auto)]
 
+mod accepting;
+mod address;
 mod ahead;
+mod bind;
 mod check;
 mod choices;
-mod closing;
 mod command_line;
 mod connection;
 mod connections;
+mod door;
 mod draw;
 mod facts;
 mod fault;
@@ -62,10 +67,10 @@ mod records;
 mod script;
 mod serve;
 mod server;
+mod socket;
 mod sources;
 mod start;
 mod telling;
-mod timed;
 mod turns;
 mod words;
 

@@ -16,10 +16,12 @@ ghost use Rattle.tokend.specs.CommandLine.{
   HasService,
   HasText,
 };
+ghost use Rattle.tokend.specs.Task.{lacks_option};
 ghost use Rattle.tokend.specs.Task.{Asks, IsTask, IsNoService, IsNoTask, IsRefusalOf};
 ghost use Rattle.tokend.specs.Task.{kind_missing, lacks_log, missing_kind};
 ghost use Rattle.tokend.specs.declared.options.Numbers.{Numbers as NumbersValue};
 
+use crate::address::{Addresses, is_unplaced, read_addresses};
 use crate::ahead::read_refusal;
 use crate::choices::{misnamed_word, read_choices};
 use crate::command_line::tokend_command;
@@ -79,15 +81,17 @@ pub struct Numbers {
     pub cap: u64,
 }
 
-/// A region to serve, with its port and files.
+/// A region to serve, with its sockets and files.
 #[derive(Drop)]
 pub struct Service {
     /// The region's settings.
     pub numbers: Numbers,
     /// The region's number, 1 to 65,535.
     pub region: u16,
-    /// The port to listen on, 0 for any free one.
-    pub port: u16,
+    /// Where it listens.
+    pub at: Addresses,
+    /// How many connections are open at once at most, those of the inner socket aside.
+    pub connections: u64,
     /// How many connections to serve; `None` for no end.
     pub requests: Option<u64>,
     /// For how many seconds a connection stays open between its requests. `None` or 0: each
@@ -147,22 +151,18 @@ fn read_task(
 {
     match read_matches(alloc, matches) {
         Ok(Some(task)) => Ok(task),
-        Ok(None) => Err(no_task(command, lacks_log(matches), misnamed_word(matches))),
+        Ok(None) => Err(no_task(command, lacking(matches), misnamed_word(matches))),
         Err(error) => Err(Error::from(error)),
     }
 }
 
 // Returns the error of arguments that name no task, or out of memory.
-fn no_task(command: &mut Command<'_>, lacks_log: bool, misnamed: Option<&str>) -> Error
+fn no_task(command: &mut Command<'_>, lacking: Option<&str>, misnamed: Option<&str>) -> Error
     ensures { (kind_of result ≡ kind.OutOfMemory)
-        ⊎ (kind_of result ≡ kind_missing lacks_log (is_some misnamed.entry)) }
+        ⊎ (kind_of result ≡ kind_missing (is_some lacking.entry) (is_some misnamed.entry)) }
 {
-    if lacks_log {
-        return own_error(
-            command,
-            ErrorKind::MissingRequiredArgument,
-            "--log-taken requires --log",
-        );
+    if let Some(message) = lacking {
+        return own_error(command, ErrorKind::MissingRequiredArgument, message);
     }
     if let Some(message) = misnamed {
         return own_error(command, ErrorKind::InvalidValue, message);
@@ -182,6 +182,19 @@ fn own_error(command: &mut Command<'_>, why: ErrorKind, message: &str) -> Error
         Ok(error) => error,
         Err(error) => Error::from(error),
     }
+}
+
+// Returns the error text of an option that the subcommand lacks, if it lacks one.
+fn lacking(matches: &ArgMatches<'_>) -> Option<&'static str>
+    ensures { is_some result ≡ lacks_option (subcommand_rows_of matches.now) }
+{
+    if lacks_log(matches) {
+        return Some("--log-taken requires --log");
+    }
+    if is_unplaced(matches) {
+        return Some("one of --port and --socket is required, and not both");
+    }
+    None
 }
 
 // Returns whether the subcommand has `--log-taken` without `--log`.
@@ -215,8 +228,8 @@ impl Service {
     /// The greatest number of a region.
     pub const GREATEST_REGION: u64 = 65_535;
 
-    /// The greatest port.
-    pub const GREATEST_PORT: u64 = 65_535;
+    /// The greatest number of connections that are open at once.
+    pub const GREATEST_CONNECTIONS: u64 = 65_536;
 
     /// The greatest number of connections to serve.
     pub const GREATEST_REQUESTS: u64 = 4_294_967_295;
@@ -269,7 +282,7 @@ fn read_serve(alloc: Global, matches: &ArgMatches<'_>) -> Result<Option<Task>, A
     }
 }
 
-// Reads the region to serve, with its port and files.
+// Reads the region to serve, with its sockets and files.
 fn read_service(alloc: Global, matches: &ArgMatches<'_>) -> Result<Option<Service>, AllocError>
     ensures service { IfOk result
         (λ service. IfSome service (HasService (rows_of (found_of matches.now)))) }
@@ -282,7 +295,10 @@ fn read_service(alloc: Global, matches: &ArgMatches<'_>) -> Result<Option<Servic
     let Some(region) = number(matches, "region", 1, Service::GREATEST_REGION) else {
         return Ok(None);
     };
-    let Some(port) = number(matches, "port", 0, Service::GREATEST_PORT) else {
+    let Some(at) = read_addresses(alloc, matches)? else {
+        return Ok(None);
+    };
+    let Some(connections) = number(matches, "connections", 1, Service::GREATEST_CONNECTIONS) else {
         return Ok(None);
     };
     let Some(refuses_ahead) = read_refusal(matches) else {
@@ -306,7 +322,8 @@ fn read_service(alloc: Global, matches: &ArgMatches<'_>) -> Result<Option<Servic
     Ok(Some(Service {
         numbers,
         region: region as u16,
-        port: port as u16,
+        at,
+        connections,
         requests,
         keep,
         seed,
@@ -369,8 +386,8 @@ pub(crate) fn flag(matches: &ArgMatches<'_>, id: &str) -> bool
     }
 }
 
-// Reads the text of an option, as it was given.
-fn read_text(
+/// Reads the text of an option, as it was given.
+pub(crate) fn read_text(
     alloc: Global,
     matches: &ArgMatches<'_>,
     id: &str,

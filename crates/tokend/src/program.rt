@@ -57,8 +57,8 @@ use tk_world::{Event, Outcome, Settings, World, print_outcomes};
 /// Does the task that the arguments request, and returns the exit status.
 ///
 /// The first argument is the program's name. The status is 0 when done, 1 if memory or a device
-/// failed, and 2 for bad arguments or a bad script, seed or log. A fault's line is written to
-/// `faults`, whose own failures are ignored. The output is written in small pieces and flushed at
+/// failed, 2 for bad arguments or a bad script, seed or log, and 3 if another server answers at the
+/// socket. A fault's line is written to `faults`, whose own failures are ignored. The output is written in small pieces and flushed at
 /// the end.
 pub(crate) fn run_program<R, B, L, D, S, I, O, F>(
     rt: &R,
@@ -77,7 +77,7 @@ where
     I: Read,
     O: Write,
     F: Sink,
-    ensures status { result ≤ 2 }
+    ensures status { result ≤ 3 }
     ensures done { result ≡ 0
         → IsDone (D.kept folder.now) L.holds (D.opens folder.now)
         (map S.text words.now) (I.remaining input.old)
@@ -98,6 +98,13 @@ where
 
     // Status 2: the output has no new byte, or the lines before bad bytes of `facts`.
     ensures refused { result ≡ 2 → (fault : FaultValue) × (status_of fault ≡ 2)
+        × IsFaultFor (map S.text words.now) (I.remaining input.old) fault
+        × Leaves (D.kept folder.now) (map S.text words.now) (I.remaining input.old) fault
+        (O.contents output.old) (O.contents output.new)
+        × Tells fault (writer_of F.holds F.failed faults.old) (writer_of F.holds F.failed faults.new) }
+
+    // Status 3: the output has no new byte.
+    ensures in_use { result ≡ 3 → (fault : FaultValue) × (status_of fault ≡ 3)
         × IsFaultFor (map S.text words.now) (I.remaining input.old) fault
         × Leaves (D.kept folder.now) (map S.text words.now) (I.remaining input.old) fault
         (O.contents output.old) (O.contents output.new)
@@ -269,7 +276,7 @@ fn run_loopback<R, I: Read, O: Write>(
     output: &mut O,
 ) -> Result<(), Fault>
 where
-    R: AllocGlobal + Clock + Net<Listener = TcpListener, Stream = TcpStream>,
+    R: AllocGlobal + Net<Listener = TcpListener, Stream = TcpStream>,
     ensures done { OnOk result
         (PrintsScript (by_loopback settings) (I.remaining input.old) (O.contents output.old)
         (O.contents output.new)) }

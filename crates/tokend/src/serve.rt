@@ -1,7 +1,7 @@
 //! The service: `serve` starts it, and serves many connections at once, with the log written
 //! before each reply.
 
-ghost use Rattle.std.specs.Prelude.{◌≡◌, IfErr, IfSome, OnOk, OnErr};
+ghost use Rattle.std.specs.Prelude.{◌≡◌, IfErr, IfSome, IsSome, OnOk, OnErr, is_some, true};
 ghost use Rattle.tk_handle.specs.Ranges.{IsMoment, IsRegion};
 ghost use Rattle.tk_region.specs.SettingsFields.{IsSettings};
 ghost use Rattle.tokend.specs.CommandLine.{settings_of};
@@ -28,7 +28,8 @@ use crate::server::Server;
 use crate::start::{begin, load_old, prune_old};
 use crate::turns::serve_on;
 use std::io::{Read, Write};
-use std::net::{Net, TcpListener, TcpStream};
+use std::net::Net;
+use std::rt::Files;
 use std::time::Clock;
 use tk_edge::{Discard, Sink};
 
@@ -44,7 +45,7 @@ pub(crate) fn serve<R, I: Read + Drop, L: Sink + Drop, D: Folder<I, L>, O: Write
     faults: &mut F,
 ) -> Result<(), Fault>
 where
-    R: AllocGlobal + Clock + Net<Listener = TcpListener, Stream = TcpStream>,
+    R: AllocGlobal + Files + Clock + Net,
     requires settings { IsSettings (settings_of service.now.numbers) }
     requires region { IsRegion service.now.region }
     requires prune { IfSome service.now.prune IsMoment }
@@ -61,6 +62,9 @@ where
         (O.contents output.old) (O.contents output.new)) }
     ensures silent { OnErr result (faults.new ≡ faults.old) }
 {
+    if service.refuses_ahead && is_ahead(rt, service.prune) {
+        return Err(Fault::PruneAhead);
+    }
     match begin(rt.alloc(), folder, service) {
         Ok(mut start) => {
             let served = load_and_serve(rt, folder, service, &mut start, output, faults);
@@ -68,6 +72,17 @@ where
             served
         }
         Err(fault) => Err(fault),
+    }
+}
+
+// Returns whether the moment of a prune is later than the clock, as far as that can be read.
+fn is_ahead<C: Clock>(clock: &C, prune: Option<u64>) -> bool
+    ensures { result ≡ true → IsSome prune }
+{
+    match (prune, clock.since_1970()) {
+        (Some(seconds), Ok(now)) => now.as_secs() < seconds,
+        (Some(_), Err(_)) => true,
+        (None, _) => false,
     }
 }
 
@@ -81,7 +96,7 @@ fn load_and_serve<R, I: Read + Drop, L: Sink + Drop, D: Folder<I, L>, O: Write, 
     faults: &mut F,
 ) -> Result<(), Fault>
 where
-    R: AllocGlobal + Clock + Net<Listener = TcpListener, Stream = TcpStream>,
+    R: AllocGlobal + Files + Clock + Net,
     requires { IfSome service.now.prune IsMoment }
     ensures done { OnOk result
         (HasRun (D.kept folder.now) L.holds (D.opens folder.now) service.now
@@ -115,7 +130,7 @@ fn prune_and_serve<R, I: Read + Drop, L: Sink + Drop, D: Folder<I, L>, O: Write,
     faults: &mut F,
 ) -> Result<(), Fault>
 where
-    R: AllocGlobal + Clock + Net<Listener = TcpListener, Stream = TcpStream>,
+    R: AllocGlobal + Files + Clock + Net,
     requires { IfSome service.now.prune IsMoment }
     ensures done { OnOk result
         (HasOpened L.holds (D.opens folder.now) service.now dropped start.old.edge
@@ -151,12 +166,13 @@ fn log_and_serve<R, I: Read + Drop, L: Sink + Drop, D: Folder<I, L>, O: Write, F
     faults: &mut F,
 ) -> Result<(), Fault>
 where
-    R: AllocGlobal + Clock + Net<Listener = TcpListener, Stream = TcpStream>,
+    R: AllocGlobal + Files + Clock + Net,
     ensures done { OnOk result
-        (Announces opening service.now.port (O.contents output.old) (O.contents output.new)) }
+        (Announces opening service.now.at (O.contents output.old) (O.contents output.new)) }
     ensures served { OnOk result
         (ServesLogged L.holds (D.opens folder.now) service.now.log start.old.words
-        service.now.requests (keeps_in service.now.keep) service.now.log_taken
+        service.now.requests (keeps_in service.now.keep)
+        (is_some service.now.at.inner) service.now.log_taken
         (record {
           start = start.old.edge;
           end = start.new.edge;
@@ -167,7 +183,7 @@ where
         })) }
     ensures fault { IfErr result (IsStartFault service.now) }
     ensures left { IfErr result
-        (λ fault. LeavesAnnouncement opening service.now.port fault (O.contents output.old)
+        (λ fault. LeavesAnnouncement opening service.now.at fault (O.contents output.old)
         (O.contents output.new)) }
     ensures silent { OnErr result (faults.new ≡ faults.old) }
 {
@@ -197,12 +213,12 @@ fn announce_and_serve<R, L: Sink, O: Write, F: Sink>(
     faults: &mut F,
 ) -> Result<(), Fault>
 where
-    R: AllocGlobal + Clock + Net<Listener = TcpListener, Stream = TcpStream>,
+    R: AllocGlobal + Files + Clock + Net,
     ensures done { OnOk result
-        (Announces opening service.now.port (O.contents output.old) (O.contents output.new)) }
+        (Announces opening service.now.at (O.contents output.old) (O.contents output.new)) }
     ensures served { OnOk result
         (ServesWith start.old.words service.now.requests (keeps_in service.now.keep)
-        service.now.log_taken
+        (is_some service.now.at.inner) service.now.log_taken
         (record {
           start = start.old.edge;
           end = start.new.edge;
@@ -214,15 +230,16 @@ where
         (record { before = L.holds log.old.log; after = L.holds log.new.log })) }
     ensures fault { IfErr result IsListenFault }
     ensures left { IfErr result
-        (λ fault. LeavesAnnouncement opening service.now.port fault (O.contents output.old)
+        (λ fault. LeavesAnnouncement opening service.now.at fault (O.contents output.old)
         (O.contents output.new)) }
     ensures silent { OnErr result (faults.new ≡ faults.old) }
 {
-    match listen(rt, service.port, opening, output) {
+    match listen(rt, service, opening, output) {
         Ok(mut connections) => {
             let keep = service.keep.unwrap_or(0);
             connections.keep(keep);
             start.keeps = keep > 0;
+            start.has_inner = service.at.inner.is_some();
             start.log_taken = service.log_taken;
             start.left = service.requests.unwrap_or(u64::MAX);
             start.fault = None;

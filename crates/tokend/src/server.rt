@@ -18,6 +18,10 @@ pub(crate) struct Server {
     pub log_taken: bool,
     /// Whether connections stay open behind a reply, if their requests let them.
     pub keeps: bool,
+    /// Whether operators and other regions have a socket of their own.
+    pub has_inner: bool,
+    /// Whether the requests that are decided came over that socket.
+    pub is_inner: bool,
     /// When the requests of a turn are decided.
     pub now: Moment,
     /// How many connections are still to be served.
@@ -28,7 +32,7 @@ pub(crate) struct Server {
 
 ghost use Rattle.std.specs.Prelude.{◌≡◌, ◌+◌, ◌<◌, ◌≤◌, ◌++◌, ℕ, List, Option, None, Ok, length};
 ghost use Rattle.tk_turn.specs.Outcomes.{goes_on};
-ghost use Rattle.tokend.specs.Decisions.{ended_if, outcome_by, Decides, FrontDecides, IsReplied};
+ghost use Rattle.tokend.specs.Decisions.{ended_if, outcome_by, reach_by, Decides, FrontDecides, IsReplied};
 ghost use Rattle.tokend.specs.Decisions.{IsUnread, Seals};
 ghost use Rattle.tokend.specs.Serving.{connection_fault};
 ghost use Rattle.tokend.specs.Telling.{Writer, Writes, writer_of};
@@ -38,7 +42,7 @@ ghost use Rattle.tokend.specs.declared.server.Server.{Server as AnyServer};
 use crate::draw::draw;
 use crate::telling::say;
 use std::mem::replace;
-use tk_edge::{Counted, Served, Sink, Taken, keep_open};
+use tk_edge::{Counted, Reach, Served, Sink, Taken, keep_open};
 use tk_turn::{Outcome, Service};
 
 /// How many bytes a record has at most that aren't of its request.
@@ -84,6 +88,18 @@ impl Service for Server {
 
     fn seal(&mut self) {
         self.edge.seal();
+    }
+}
+
+// Returns which paths the requests of a socket reach: those of clients alone over an outer socket
+// beside an inner one, otherwise all.
+fn reach(has_inner: bool, is_inner: bool) -> Reach
+    ensures { result ≡ reach_by has_inner is_inner }
+{
+    if has_inner && !is_inner {
+        Reach::Clients
+    } else {
+        Reach::All
     }
 }
 
@@ -159,6 +175,8 @@ impl Server {
             words,
             log_taken: false,
             keeps: false,
+            has_inner: false,
+            is_inner: false,
             now: Moment::new(0).unwrap(),
             left: 0,
             fault: None,
@@ -181,6 +199,7 @@ impl Server {
             × FrontDecides (record {
               words = words.now;
               log_taken = self.old.log_taken;
+              reach = reach_by self.old.has_inner self.old.is_inner;
               now = self.old.now;
               bytes = input.now;
               over = is_over;
@@ -194,6 +213,7 @@ impl Server {
         let mut record = Counted::new(replace(records, Vec::new(self.alloc)));
         let served = self.edge.serve_front(
             self.alloc,
+            reach(self.has_inner, self.is_inner),
             input,
             is_over,
             &mut reply,

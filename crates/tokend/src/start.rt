@@ -39,7 +39,7 @@ pub(crate) fn begin<I: Read + Drop, L: Sink, D: Folder<I, L>>(
             let settings = service.numbers.settings().with_choices(service.choices);
             let region = Region::new(alloc, number, settings);
             let (edge, words) = (
-                Edge::new(region, true, service.refuses_ahead),
+                Edge::new(region, service.refuses_ahead),
                 generator(seed, number),
             );
             Ok(Server::new(alloc, edge, words))

@@ -11,12 +11,11 @@ ghost use Rattle.tokend.specs.Turns.{Goes};
 use crate::connections::{Connections, are_within};
 use crate::records::Records;
 use crate::server::{Server, tell_each_unsent, tell_fault};
-use crate::timed::millis;
 use std::io;
 use std::time::Clock;
 use tk_edge::{Fault as EdgeFault, Sink};
 use tk_handle::Moment;
-use tk_turn::take_turn;
+use tk_turn::{Link, take_turn};
 
 /// Serves as many connections as the server has left.
 ///
@@ -182,8 +181,8 @@ fn tell_losses<L: Sink, F: Sink>(
     tell_each_unsent(losses.unsent, faults);
 }
 
-// Decides the requests that are whole, and writes their records. Returns whether a fault stopped
-// that, so that more requests may be whole.
+// Decides the requests that are whole, those of the outer socket first, and writes their records.
+// Returns whether a fault stopped that, so that more requests may be whole.
 fn decide<L: Sink, F: Sink>(
     connections: &mut Connections,
     server: &mut Server,
@@ -206,12 +205,42 @@ fn decide<L: Sink, F: Sink>(
     let Connections {
         links,
         places,
+        inner_places,
         records,
         ..
     } = connections;
+    let has_stopped = decide_at(links, places, records, false, server, log, faults);
+    decide_at(links, inner_places, records, true, server, log, faults) || has_stopped
+}
+
+// Decides the requests at these places, which are those of the inner socket if `is_inner`, and writes
+// their records. Returns whether a fault stopped that.
+fn decide_at<L: Sink, F: Sink>(
+    links: &mut Vec<Link>,
+    places: &[usize],
+    records: &mut Vec<u8>,
+    is_inner: bool,
+    server: &mut Server,
+    log: &mut Records<L>,
+    faults: &mut F,
+) -> bool
+    requires { server.old.fault ≡ None }
+    ensures goes { Goes
+        (record {
+          server = server.old;
+          log = L.holds log.old.log;
+          faults = writer_of F.holds F.failed faults.old;
+        })
+        (record {
+          server = server.new;
+          log = L.holds log.new.log;
+          faults = writer_of F.holds F.failed faults.new;
+        }) }
+{
     if !are_within(places, links.len()) {
         return false;
     }
+    server.is_inner = is_inner;
     match take_turn(server, links, places, records, log) {
         Ok(()) => server.tell(faults),
         Err(_) => {
@@ -220,6 +249,12 @@ fn decide<L: Sink, F: Sink>(
             is_stopped
         }
     }
+}
+
+// Returns the time in milliseconds, since some moment that stays the same.
+fn millis<C: Clock>(clock: &C) -> io::Result<u64> {
+    let millis = clock.monotonic()?.as_millis();
+    Ok(u64::try_from(millis).unwrap_or(u64::MAX))
 }
 
 // Returns the clock's moment in whole seconds, brought into the range of moments.

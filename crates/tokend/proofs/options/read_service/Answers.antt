@@ -1,13 +1,14 @@
 use Rattle.std.proofs.Common.{rules}
 use Rattle.clap.specs.Words.{found_of, rows_of}
-use Rattle.tokend.proofs.Tasks.{without_choices, without_port, without_refusal, without_region, without_settings}
+use Rattle.tokend.proofs.Tasks.{without_address, without_choices, without_connections, without_refusal, without_region, without_settings}
 use Rattle.tokend.proofs.options.read_service.Goals as goal
 
 pub returns-clause-service : goal.returns-clause-service
 returns-clause-service c = record {
   numbers = search rules;
   region = search rules;
-  port = search rules;
+  at = search rules;
+  connections = search rules;
   requests = search rules;
   endless = search rules;
   keep = search rules;
@@ -30,7 +31,7 @@ pub returns-in_default-number-clause-none : goal.returns-in_default-number-claus
 returns-in_default-number-clause-none c = without_region (rows_of (found_of c.args.matches.now)) c.in_default-number.ensures.none
 
 pub returns-in_default-number-2-clause-none : goal.returns-in_default-number-2-clause-none
-returns-in_default-number-2-clause-none c = without_port (rows_of (found_of c.args.matches.now)) c.in_default-number-2.ensures.none
+returns-in_default-number-2-clause-none c = without_connections (rows_of (found_of c.args.matches.now)) c.in_default-number-2.ensures.none
 
 pub returns-in_default-read_refusal-clause-none : goal.returns-in_default-read_refusal-clause-none
 returns-in_default-read_refusal-clause-none c = without_refusal (rows_of (found_of c.args.matches.now)) (search rules)

@@ -21,3 +21,8 @@ pub returns-clause-refused : goal.returns-clause-refused
 returns-clause-refused g c =
     λ e. ended_badly (g.D.Folder.kept c.args.folder.now) (map g.S.AsStr.text c.args.words.now) _ _ _ (writer_of g.F.Sink.holds g.F.Sink.failed) c.run.result c.finish.result 2 c.args.faults.now c.run.new.faults c.finish.new.faults
     c.finish.ensures c.run.ensures.fault c.run.ensures.left c.run.ensures.silent e (omega (arith))
+
+pub returns-clause-in_use : goal.returns-clause-in_use
+returns-clause-in_use g c =
+    λ e. ended_badly (g.D.Folder.kept c.args.folder.now) (map g.S.AsStr.text c.args.words.now) _ _ _ (writer_of g.F.Sink.holds g.F.Sink.failed) c.run.result c.finish.result 3 c.args.faults.now c.run.new.faults c.finish.new.faults
+    c.finish.ensures c.run.ensures.fault c.run.ensures.left c.run.ensures.silent e (omega (arith))

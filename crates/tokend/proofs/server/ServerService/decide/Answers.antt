@@ -1,6 +1,6 @@
 use Rattle.std.proofs.Common.{◌≡◌, ◌+◌, [], ap, length, subst, sym, ◌∙◌, rules}
 use Rattle.tk_turn.specs.Outcomes.{goes_on}
-use Rattle.tokend.specs.Decisions.{Asking, IsReplied, ended_if, outcome_by}
+use Rattle.tokend.specs.Decisions.{Asking, IsReplied, ended_if, outcome_by, reach_by}
 use Rattle.tokend.specs.Draw.{six, past_six}
 use Rattle.tokend.specs.declared.server.Server.{Server}
 use Rattle.tokend.proofs.Deciding.{as_served, fault_ends, front_stays, front_within, none_of, outcome_some, outcome_within, served_ends}
@@ -18,6 +18,7 @@ returns-in-Ok-Some-clause-within c =
     let asking : Asking = record {
       words = c.draw-words.result;
       log_taken = c.args.self.now.log_taken;
+      reach = reach_by c.args.self.now.has_inner c.args.self.now.is_inner;
       now = c.args.self.now.now;
       bytes = c.args.input.now;
       over = c.args.is_over;
@@ -32,6 +33,7 @@ returns-in-Ok-Some-clause-some c =
     let asking : Asking = record {
       words = c.draw-words.result;
       log_taken = c.args.self.now.log_taken;
+      reach = reach_by c.args.self.now.has_inner c.args.self.now.is_inner;
       now = c.args.self.now.now;
       bytes = c.args.input.now;
       over = c.args.is_over;

@@ -1,0 +1,11 @@
+use Rattle.std.proofs.Common.{Some, ◌∙◌, rules, subst, sym}
+use Rattle.tokend.specs.Connection.{IsConnection}
+use Rattle.tokend.proofs.SocketLaws.{front_connection, log_alone}
+use Rattle.tokend.proofs.loopback.serve_bytes.Goals as goal
+
+pub returns-clause-connection : goal.returns-clause-connection
+returns-clause-connection c =
+    let s = c.serve_front-served in
+    subst (IsConnection c.args.now c.args.words.now c.args.bytes.now c.args.edge.now s.new.self) (sym c.end_of.ensures)
+    (front_connection c.args.now c.args.words.now c.args.bytes.now c.args.edge.now s.new.self _ (record { before = Some c.new-writer.result.inner.items; after = Some s.new.writer.inner.items }) s.result
+    s.ensures.served (λ e. (s.ensures.untouched e).0) s.ensures.refuses_ahead)
