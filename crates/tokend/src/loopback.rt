@@ -16,7 +16,7 @@ use std::alloc::Global;
 use std::io::{self, Read, Write};
 use std::net::{Ipv4Addr, Net, OpenListener, OpenStream, Shutdown, TcpListener, TcpStream};
 use std::time::Clock;
-use tk_edge::{Discard, Edge, Fault as EdgeFault, HEAD_LIMIT, Served, Sink};
+use tk_edge::{Discard, Edge, Fault as EdgeFault, HEAD_LIMIT, Reach, Served, Sink};
 use tk_handle::Moment;
 use tk_world::{Carrier, Event, Outcome, RunError, Settings, World};
 
@@ -174,6 +174,7 @@ fn serve_since<R: AllocGlobal + Clock, L: Sink>(
     let mut sink = TimedSink::new(&source);
     edge.serve_one_logging(
         rt.alloc(),
+        Reach::Admin,
         &mut source,
         &mut sink,
         log,
