@@ -61,50 +61,88 @@ const VECTOR: Told = (
 );
 
 // A request, and the reply to it at `Clients`, at `Admin` and at `All`.
-type Row = (&'static [u8], [Told; 3]);
+type Row = (&'static [u8], Told, Told, Told);
 
 // A method that no path has, so that a path that is served names its own methods.
 const PATHS: &[Row] = &[
-    (b"PUT /authorize HTTP/1.1\r\n\r\n", [ONLY_GET; 3]),
-    (b"PUT /token HTTP/1.1\r\n\r\n", [ONLY_POST; 3]),
-    (b"PUT /introspect HTTP/1.1\r\n\r\n", [ONLY_POST; 3]),
-    (b"PUT /revoke HTTP/1.1\r\n\r\n", [ONLY_POST; 3]),
+    (
+        b"PUT /authorize HTTP/1.1\r\n\r\n",
+        ONLY_GET,
+        ONLY_GET,
+        ONLY_GET,
+    ),
+    (
+        b"PUT /token HTTP/1.1\r\n\r\n",
+        ONLY_POST,
+        ONLY_POST,
+        ONLY_POST,
+    ),
+    (
+        b"PUT /introspect HTTP/1.1\r\n\r\n",
+        ONLY_POST,
+        ONLY_POST,
+        ONLY_POST,
+    ),
+    (
+        b"PUT /revoke HTTP/1.1\r\n\r\n",
+        ONLY_POST,
+        ONLY_POST,
+        ONLY_POST,
+    ),
     (
         b"PUT /admin/client HTTP/1.1\r\n\r\n",
-        [UNKNOWN, GET_AND_POST, GET_AND_POST],
+        UNKNOWN,
+        GET_AND_POST,
+        GET_AND_POST,
     ),
     (
         b"PUT /admin/retire HTTP/1.1\r\n\r\n",
-        [UNKNOWN, ONLY_POST, ONLY_POST],
+        UNKNOWN,
+        ONLY_POST,
+        ONLY_POST,
     ),
     (
         b"PUT /admin/consent HTTP/1.1\r\n\r\n",
-        [UNKNOWN, ONLY_POST, ONLY_POST],
+        UNKNOWN,
+        ONLY_POST,
+        ONLY_POST,
     ),
     (
         b"PUT /admin/withdraw HTTP/1.1\r\n\r\n",
-        [UNKNOWN, ONLY_POST, ONLY_POST],
+        UNKNOWN,
+        ONLY_POST,
+        ONLY_POST,
     ),
     (
         b"PUT /admin/signout HTTP/1.1\r\n\r\n",
-        [UNKNOWN, ONLY_POST, ONLY_POST],
+        UNKNOWN,
+        ONLY_POST,
+        ONLY_POST,
     ),
     (
         b"PUT /sync/vector HTTP/1.1\r\n\r\n",
-        [UNKNOWN, UNKNOWN, ONLY_GET],
+        UNKNOWN,
+        UNKNOWN,
+        ONLY_GET,
     ),
     (
         b"PUT /sync/pull HTTP/1.1\r\n\r\n",
-        [UNKNOWN, UNKNOWN, ONLY_POST],
+        UNKNOWN,
+        UNKNOWN,
+        ONLY_POST,
     ),
     (
         b"PUT /sync/push HTTP/1.1\r\n\r\n",
-        [UNKNOWN, UNKNOWN, ONLY_POST],
+        UNKNOWN,
+        UNKNOWN,
+        ONLY_POST,
     ),
-    (b"PUT /unknown HTTP/1.1\r\n\r\n", [UNKNOWN; 3]),
+    (b"PUT /unknown HTTP/1.1\r\n\r\n", UNKNOWN, UNKNOWN, UNKNOWN),
     (
         b"GET /sync/vector HTTP/1.1\r\n\r\n",
-        [UNKNOWN, UNKNOWN, VECTOR],
+        UNKNOWN,
+        UNKNOWN,
+        VECTOR,
     ),
 ];
 
@@ -113,23 +151,33 @@ const PATHS: &[Row] = &[
 const BODIES: &[Row] = &[
     (
         b"POST /token HTTP/1.1\r\nContent-Length: 16384\r\n\r\n",
-        [CUT; 3],
+        CUT,
+        CUT,
+        CUT,
     ),
     (
         b"POST /token HTTP/1.1\r\nContent-Length: 16385\r\n\r\n",
-        [TOO_LARGE; 3],
+        TOO_LARGE,
+        TOO_LARGE,
+        TOO_LARGE,
     ),
     (
         b"POST /admin/client HTTP/1.1\r\nContent-Length: 16385\r\n\r\n",
-        [UNKNOWN, TOO_LARGE, TOO_LARGE],
+        UNKNOWN,
+        TOO_LARGE,
+        TOO_LARGE,
     ),
     (
         b"POST /sync/push HTTP/1.1\r\nContent-Length: 1049600\r\n\r\n",
-        [UNKNOWN, UNKNOWN, CUT],
+        UNKNOWN,
+        UNKNOWN,
+        CUT,
     ),
     (
         b"POST /sync/push HTTP/1.1\r\nContent-Length: 1049601\r\n\r\n",
-        [UNKNOWN, UNKNOWN, TOO_LARGE],
+        UNKNOWN,
+        UNKNOWN,
+        TOO_LARGE,
     ),
 ];
 
@@ -177,7 +225,7 @@ fn is_told(alloc: Global, edge: &mut Edge, reach: Reach, request: &[u8], told: T
 
 // Returns the first request that doesn't get its reply at some reach.
 fn missed(alloc: Global, edge: &mut Edge, rows: &'static [Row]) -> Option<&'static [u8]> {
-    for (request, [clients, admin, all]) in rows {
+    for (request, clients, admin, all) in rows {
         let is_so = is_told(alloc, edge, Reach::Clients, request, *clients)
             && is_told(alloc, edge, Reach::Admin, request, *admin)
             && is_told(alloc, edge, Reach::All, request, *all);
