@@ -3,7 +3,7 @@
 --   gains_nothing    a region that gains no facts is unchanged
 --   answers_nothing  an answer without a fact changes nothing
 --   answers_request  what was prepared for a request is its answer
---   answers_alone    an arrival's answer and fact, if regions don't exchange facts
+--   answers_alone    an arrival's answer and fact, if no path of `/sync/` is served
 --   answered         an arrival is answered, if memory doesn't run out
 --   short_of         running out of memory leaves the region unchanged, or with the first facts of
 --                    a bundle
@@ -37,6 +37,8 @@ use Rattle.tk_edge.specs.declared.edge.Served.TheVariants.{Done}
 use Rattle.tk_edge.specs.declared.exchange.Exchange.TheVariants.{Vector, Pull, Push}
 use Rattle.tk_edge.specs.declared.hear.Arrival.{Arrival}
 use Rattle.tk_edge.specs.declared.hear.Arrival.TheVariants.{Silence, Refused, Request, Exchange}
+use Rattle.tk_edge.specs.declared.reach.Reach.{Reach}
+use Rattle.tk_edge.specs.declared.reach.Reach.TheVariants.{Admin, All}
 use Rattle.tk_edge.specs.declared.refusal.Refusal.{Refusal}
 use Rattle.tk_edge.specs.declared.tell.Fault.{Fault}
 use Rattle.tk_edge.specs.declared.tell.Fault.TheVariants.{Read, Write, Log, Memory}
@@ -62,36 +64,36 @@ pub answers_request : (r : RegionFields) (now : ℕ) (words : List ℕ) (request
 answers_request r now words request p result new is told =
     subst (λ (x : PreparedFields). AnswersBy r (rendered x.reply None x.logged) x.fact result new) is told
 
--- if regions don't exchange facts, an arrival is answered with its answer and its fact
-pub answers_alone : (refuses : Bool) (r : RegionFields) (now : ℕ) (words : List ℕ) (came : Arrival) (result : Result AnswerFields AllocError) (new : RegionFields) → MayArrive false came
+-- if no path of `/sync/` is served, an arrival is answered with its answer and its fact
+pub answers_alone : (refuses : Bool) (r : RegionFields) (now : ℕ) (words : List ℕ) (came : Arrival) (result : Result AnswerFields AllocError) (new : RegionFields) → MayArrive Admin came
     → Answers refuses r now words came result new → AnswersBy r (answer_by r now words came) (fact_by r now words came) result new
 answers_alone refuses r now words (Exchange asked) result new off told = absurd (clash off)
   where
-    clash : false ≡ true → ⊥
+    clash : Admin ≡ All → ⊥
     clash e = cc
 answers_alone refuses r now words came result new off told = told
 
 -- running out of memory leaves the region unchanged, or with the first facts of a bundle
-pub short_of : (sync refuses : Bool) (known : Option (List ℕ)) (now : ℕ) (words : List ℕ) (came : Arrival) (old new : RegionFields) (e : AllocError) → Arrives sync known came
-    → Answers refuses old now words came (Err e) new → IsShort sync refuses now known old new
-short_of sync refuses known now words (Exchange Vector) old new e arrives told = inl told
-short_of sync refuses known now words (Exchange (Pull sent)) old new e arrives told = inl told
-short_of sync refuses known now words (Exchange (Push sent)) old new e arrives told = inr (sent, arrives, told.0, told.1)
-short_of sync refuses known now words came old new e arrives told = inl told
+pub short_of : (reach : Reach) (refuses : Bool) (known : Option (List ℕ)) (now : ℕ) (words : List ℕ) (came : Arrival) (old new : RegionFields) (e : AllocError) → Arrives reach known came
+    → Answers refuses old now words came (Err e) new → IsShort reach refuses now known old new
+short_of reach refuses known now words (Exchange Vector) old new e arrives told = inl told
+short_of reach refuses known now words (Exchange (Pull sent)) old new e arrives told = inl told
+short_of reach refuses known now words (Exchange (Push sent)) old new e arrives told = inr (sent, arrives, told.0, told.1)
+short_of reach refuses known now words came old new e arrives told = inl told
 
 -- an arrival is answered, if memory doesn't run out
-pub answered : (sync refuses : Bool) (bytes : List ℕ) (now : ℕ) (words : List ℕ) (came : Arrival) (old new : RegionFields) (result : Result AnswerFields AllocError)
-    → IsArrival sync bytes came → Answers refuses old now words came result new
-    → OnOk result ((x : Arrival) × IsArrival sync bytes x × Answers refuses old now words x result new)
-answered sync refuses bytes now words came old new (Ok answer) is told = (came, is, told)
-answered sync refuses bytes now words came old new (Err e) is told = tt
+pub answered : (reach : Reach) (refuses : Bool) (bytes : List ℕ) (now : ℕ) (words : List ℕ) (came : Arrival) (old new : RegionFields) (result : Result AnswerFields AllocError)
+    → IsArrival reach bytes came → Answers refuses old now words came result new
+    → OnOk result ((x : Arrival) × IsArrival reach bytes x × Answers refuses old now words x result new)
+answered reach refuses bytes now words came old new (Ok answer) is told = (came, is, told)
+answered reach refuses bytes now words came old new (Err e) is told = tt
 
 -- running out of memory over known bytes leaves the region unchanged, or with the first facts of a
 -- bundle
-pub short_answer : (sync refuses : Bool) (bytes : List ℕ) (now : ℕ) (words : List ℕ) (came : Arrival) (old new : RegionFields) (result : Result AnswerFields AllocError)
-    → IsArrival sync bytes came → MayArrive sync came → Answers refuses old now words came result new → OnErr result (IsShort sync refuses now (Some bytes) old new)
-short_answer sync refuses bytes now words came old new (Ok answer) is may told = tt
-short_answer sync refuses bytes now words came old new (Err e) is may told = short_of sync refuses (Some bytes) now words came old new e (may, λ b same. subst (λ x. IsArrival sync x came) (some_is b same) is) told
+pub short_answer : (reach : Reach) (refuses : Bool) (bytes : List ℕ) (now : ℕ) (words : List ℕ) (came : Arrival) (old new : RegionFields) (result : Result AnswerFields AllocError)
+    → IsArrival reach bytes came → MayArrive reach came → Answers refuses old now words came result new → OnErr result (IsShort reach refuses now (Some bytes) old new)
+short_answer reach refuses bytes now words came old new (Ok answer) is may told = tt
+short_answer reach refuses bytes now words came old new (Err e) is may told = short_of reach refuses (Some bytes) now words came old new e (may, λ b same. subst (λ x. IsArrival reach x came) (some_is b same) is) told
   where
     some_is : (b : List ℕ) → Some bytes ≡ Some b → bytes ≡ b
     some_is b same = cc
@@ -115,7 +117,7 @@ no_read : (sent : Option (List ℕ)) (refuses : Bool) (now : ℕ) (words : List 
 no_read None refuses now words came region log still writer sealed told = told
 no_read (Some bytes) refuses now words came region log still writer sealed told = told.4.2
 
-module _ (asked : Asked) (came : Arrival) (old new : RegionFields) (log : Change) (still : Type 0) (writer : Change) (sealed : Bool) (arrives : Arrives asked.sync asked.known came) (spoke : came ≢ Silence) where
+module _ (asked : Asked) (came : Arrival) (old new : RegionFields) (log : Change) (still : Type 0) (writer : Change) (sealed : Bool) (arrives : Arrives asked.reach asked.known came) (spoke : came ≢ Silence) where
   -- an arrival was replied to, with the pushed bundle that is logged, if any
   abbrev Told : Option (List ℕ) → Result StatusCode Fault → Type 0
   Told sent result = RepliesTo sent asked.refuses_ahead asked.now asked.words came (record { before = old; after = new }) log still writer sealed result
@@ -128,10 +130,10 @@ module _ (asked : Asked) (came : Arrival) (old new : RegionFields) (log : Change
   ran_out : (b : Bool) → Told (bundle_to_log b came) (Err Memory) → RunsOut b asked (record { before = old; after = new }) log still writer sealed
   ran_out b told = by came b arrives told
     where
-      by : (c : Arrival) (b : Bool) → Arrives asked.sync asked.known c
+      by : (c : Arrival) (b : Bool) → Arrives asked.reach asked.known c
           → RepliesTo (bundle_to_log b c) asked.refuses_ahead asked.now asked.words c (record { before = old; after = new }) log still writer sealed (Err Memory)
           → RunsOut b asked (record { before = old; after = new }) log still writer sealed
-      by c false arrives told = (short_of asked.sync asked.refuses_ahead asked.known asked.now asked.words c old new told.0 arrives told.1, told.2)
+      by c false arrives told = (short_of asked.reach asked.refuses_ahead asked.known asked.now asked.words c old new told.0 arrives told.1, told.2)
       by (Exchange (Push sent)) true arrives told = inr (sent, arrives, told)
       by (Exchange (Pull sent)) true arrives told = inl (told.1, told.2)
       by (Exchange Vector) true arrives told = inl (told.1, told.2)

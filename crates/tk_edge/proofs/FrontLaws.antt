@@ -37,6 +37,7 @@ use Rattle.tk_edge.specs.declared.judge.Judged.{Judged}
 use Rattle.tk_edge.specs.declared.judge.Judged.TheVariants.{Body}
 use Rattle.tk_edge.specs.declared.path.Posted.{Posted}
 use Rattle.tk_edge.specs.declared.path.Posted.TheVariants.{Form, Pull, Push}
+use Rattle.tk_edge.specs.declared.reach.Reach.{Reach}
 use Rattle.tk_edge.specs.declared.refusal.Refusal.TheVariants.{NoHead, ShortBody}
 use Rattle.tk_edge.proofs.HeadLaws.{no_head_of_none, no_short_head}
 use Rattle.tk_edge.proofs.StreamLaws.{form_in_front, has_one_meaning}
@@ -47,39 +48,39 @@ cut_headless [] = tt
 cut_headless (b ∷ bytes) = tt
 
 -- bytes without a head end too early
-pub partial_cut : (sync : Bool) (bytes : List ℕ) → HasNoRequest bytes
-    → (came : Arrival) → IsArrival sync bytes came → IsCut came
-partial_cut sync bytes none came (inl (n, e)) = subst IsCut (sym e) (cut_headless bytes)
-partial_cut sync bytes none came (inr (h, rest, reads, has, e)) = absurd (none h rest reads)
+pub partial_cut : (reach : Reach) (bytes : List ℕ) → HasNoRequest bytes
+    → (came : Arrival) → IsArrival reach bytes came → IsCut came
+partial_cut reach bytes none came (inl (n, e)) = subst IsCut (sym e) (cut_headless bytes)
+partial_cut reach bytes none came (inr (h, rest, reads, has, e)) = absurd (none h rest reads)
 
 -- no bytes, behind which nothing follows, are silence
-pub silent_front : (sync : Bool) (tail : List ℕ) → tail ≡ [] → IsArrival sync tail Silence
-silent_front sync tail e =
-    subst (λ (x : List ℕ). IsArrival sync x Silence) (sym e)
+pub silent_front : (reach : Reach) (tail : List ℕ) → tail ≡ [] → IsArrival reach tail Silence
+silent_front reach tail e =
+    subst (λ (x : List ℕ). IsArrival reach x Silence) (sym e)
     (inl (λ h has. no_head_of_none h has.0.0 has.0.1, refl))
 
 -- no bytes, behind which nothing follows, come as silence
-pub silent_comes : (sync over : Bool) → over ≡ true
-    → HasCome sync [] over Silence (record { size = 0; stays = false })
-silent_comes sync over is = record {
+pub silent_comes : (reach : Reach) (over : Bool) → over ≡ true
+    → HasCome reach [] over Silence (record { size = 0; stays = false })
+silent_comes reach over is = record {
   within = omega arith;
   takes = (refl, refl);
   may = tt;
-  means = λ tail follows. silent_front sync tail (follows is);
+  means = λ tail follows. silent_front reach tail (follows is);
 }
 
 -- bytes that have no head, whatever follows
-pub headless_arrives : (sync : Bool) (bytes tail : List ℕ) → 0 < length bytes
+pub headless_arrives : (reach : Reach) (bytes tail : List ℕ) → 0 < length bytes
     → ((h : RequestHead) → HasHead (bytes ++ tail) head_limit field_limit h → ⊥)
-    → IsArrival sync (bytes ++ tail) (Refused NoHead)
-headless_arrives sync [] tail some none = absurd (omega arith)
-headless_arrives sync (b ∷ bytes) tail some none = inl (none, refl)
+    → IsArrival reach (bytes ++ tail) (Refused NoHead)
+headless_arrives reach [] tail some none = absurd (omega arith)
+headless_arrives reach (b ∷ bytes) tail some none = inl (none, refl)
 
 -- bytes that have no head, whatever follows, are refused, and all of them are taken
-pub headless_comes : (sync : Bool) (bytes : List ℕ) (over : Bool)
-    → ((tail : List ℕ) → Follows over tail → IsArrival sync (bytes ++ tail) (Refused NoHead))
-    → HasCome sync bytes over (Refused NoHead) (record { size = length bytes; stays = false })
-headless_comes sync bytes over means = record {
+pub headless_comes : (reach : Reach) (bytes : List ℕ) (over : Bool)
+    → ((tail : List ℕ) → Follows over tail → IsArrival reach (bytes ++ tail) (Refused NoHead))
+    → HasCome reach bytes over (Refused NoHead) (record { size = length bytes; stays = false })
+headless_comes reach bytes over means = record {
   within = omega arith;
   takes = (refl, refl);
   may = tt;
@@ -117,12 +118,12 @@ long_none bytes tail headers spans k at long h ((rest, reads), short, few) =
     absurd (omega (arith, at.len, long, short, e))
 
 -- a head at the front, with what follows
-pub head_arrives : (sync : Bool) (bytes tail : List ℕ) (headers : List HeaderSpan)
+pub head_arrives : (reach : Reach) (bytes tail : List ℕ) (headers : List HeaderSpan)
     (spans : RequestSpans) (h : RequestHead) (came : Arrival)
     → IsRequestWithin bytes headers spans → IsRequestAt bytes headers spans h
     → spans.len ≤ head_limit → length headers ≡ field_limit
-    → came ≡ arrival_of sync h (drop spans.len bytes ++ tail) → IsArrival sync (bytes ++ tail) came
-head_arrives sync bytes tail headers spans h came within at fits full e =
+    → came ≡ arrival_of reach h (drop spans.len bytes ++ tail) → IsArrival reach (bytes ++ tail) came
+head_arrives reach bytes tail headers spans h came within at fits full e =
     let count : length (take spans.headers headers) ≡ length h.fields =
     sym (length-map (take spans.headers headers) (header_bytes bytes)) ∙ ap length at.fields
     ∙ length-map h.fields name_and_value in
@@ -140,33 +141,33 @@ head_arrives sync bytes tail headers spans h came within at fits full e =
     )
 
 -- a head at the front, with what was read of the bytes behind it
-pub front_heard : {E : Type 0} (sync : Bool) (bytes : List ℕ) (over : Bool)
+pub front_heard : {E : Type 0} (reach : Reach) (bytes : List ℕ) (over : Bool)
     (headers : List HeaderSpan) (spans : RequestSpans) (h : RequestHead) (result : Result Front E)
     → IsRequestWithin bytes headers spans → IsRequestAt bytes headers spans h
     → spans.len ≤ head_limit → length headers ≡ field_limit
-    → IfOk result (IsFrontBy over (λ tail. arrival_of sync h (drop spans.len bytes ++ tail)))
-    → IfOk result (IsTakenWithin (length bytes)) → IfOk result (TakesIn sync bytes)
-    → IfOk result (IsFewer (length bytes) (request_limit sync)) → IfOk result (MayComeBy sync)
-    → IfOk result (IsFront sync bytes over)
-front_heard sync bytes over headers spans h (Ok More) within at fits full (open_yet, cut) taken
+    → IfOk result (IsFrontBy over (λ tail. arrival_of reach h (drop spans.len bytes ++ tail)))
+    → IfOk result (IsTakenWithin (length bytes)) → IfOk result (TakesIn reach bytes)
+    → IfOk result (IsFewer (length bytes) (request_limit reach)) → IfOk result (MayComeBy reach)
+    → IfOk result (IsFront reach bytes over)
+front_heard reach bytes over headers spans h (Ok More) within at fits full (open_yet, cut) taken
     takes fewer may =
-    let whole = head_arrives sync bytes [] headers spans h (Refused ShortBody) within at fits full
+    let whole = head_arrives reach bytes [] headers spans h (Refused ShortBody) within at fits full
     (sym cut) in
-    let ends = subst (λ (x : List ℕ). IsArrival sync x (Refused ShortBody)) (append-nil bytes) whole in
+    let ends = subst (λ (x : List ℕ). IsArrival reach x (Refused ShortBody)) (append-nil bytes) whole in
     record {
       unended = open_yet;
       fewer = fewer;
-      cut = λ came is. subst IsCut (has_one_meaning sync bytes (Refused ShortBody) came ends is) tt;
+      cut = λ came is. subst IsCut (has_one_meaning reach bytes (Refused ShortBody) came ends is) tt;
     }
-front_heard sync bytes over headers spans h (Ok (Came came count)) within at fits full by taken
+front_heard reach bytes over headers spans h (Ok (Came came count)) within at fits full by taken
     takes fewer may = record {
       within = taken;
       takes = takes;
       may = may;
-      means = λ tail follows. head_arrives sync bytes tail headers spans h came within at fits full
+      means = λ tail follows. head_arrives reach bytes tail headers spans h came within at fits full
           (by tail follows);
     }
-front_heard sync bytes over headers spans h (Err e) within at fits full by taken takes fewer may = tt
+front_heard reach bytes over headers spans h (Err e) within at fits full by taken takes fewer may = tt
 
 -- a whole body, whatever follows it
 pub body_whole : (over : Bool) (posted : Posted) (size : ℕ) (taken : Taken) (front target : List ℕ)
@@ -196,10 +197,10 @@ same_front over f g (Ok (Came came taken)) e by = λ tail follows. by tail follo
 same_front over f g (Err error) e by = tt
 
 -- what comes of a whole request
-pub may_come : (sync : Bool) (result : Result Arrival HearError) (taken : Taken)
-    → IfOk result (MayArrive sync) → IfOk (front_of result taken) (MayComeBy sync)
-may_come sync (Ok came) taken may = may
-may_come sync (Err error) taken may = tt
+pub may_come : (reach : Reach) (result : Result Arrival HearError) (taken : Taken)
+    → IfOk result (MayArrive reach) → IfOk (front_of result taken) (MayComeBy reach)
+may_come reach (Ok came) taken may = may
+may_come reach (Err error) taken may = tt
 
 -- a list of no length is empty
 pub none_of : (xs : List ℕ) → length xs ≡ 0 → xs ≡ []
@@ -207,13 +208,13 @@ none_of [] e = refl
 none_of (x ∷ xs) e = absurd (omega (arith, e))
 
 -- what came at the front arrives in a stream of these bytes and what follows
-pub front_arrives : (sync over : Bool) (bytes : List ℕ) (came : Arrival) (taken : Taken)
-    → HasCome sync bytes over came taken → (tail : List ℕ) → Follows over tail
-    → Arrives sync (Some (bytes ++ tail)) came
-front_arrives sync over bytes came taken front tail follows = (
+pub front_arrives : (reach : Reach) (over : Bool) (bytes : List ℕ) (came : Arrival) (taken : Taken)
+    → HasCome reach bytes over came taken → (tail : List ℕ) → Follows over tail
+    → Arrives reach (Some (bytes ++ tail)) came
+front_arrives reach over bytes came taken front tail follows = (
   front.may,
   λ known is.
-      subst (λ (x : List ℕ). IsArrival sync x came) (some_inj is) (front.means tail follows),
+      subst (λ (x : List ℕ). IsArrival reach x came) (some_inj is) (front.means tail follows),
 )
   where
     some_inj : {a b : List ℕ} → Some a ≡ Some b → a ≡ b
@@ -228,45 +229,45 @@ rest_is_all bytes len fits =
     omega (arith, long, fits)
 
 -- the size of a request, by the parts of its head and what was judged of them
-pub size_at : (sync : Bool) (h : RequestHead) (len : ℕ) (method target : List ℕ) (judged : Judged)
+pub size_at : (reach : Reach) (h : RequestHead) (len : ℕ) (method target : List ℕ) (judged : Judged)
     → len ≡ length (print_request h) → method ≡ h.method → target ≡ h.target
-    → judged ≡ judged_of sync method target (map name_and_value h.fields)
-    → len + size_of judged ≡ request_size sync h
-size_at sync h len method target judged el em et ej =
+    → judged ≡ judged_of reach method target (map name_and_value h.fields)
+    → len + size_of judged ≡ request_size reach h
+size_at reach h len method target judged el em et ej =
     let pairs = map name_and_value h.fields in
     ap (λ n. n + size_of judged) el
     ∙ ap (λ j. length (print_request h) + size_of j)
-    (ej ∙ ap (λ m. judged_of sync m target pairs) em ∙ ap (λ t. judged_of sync h.method t pairs) et)
+    (ej ∙ ap (λ m. judged_of reach m target pairs) em ∙ ap (λ t. judged_of reach h.method t pairs) et)
 
 -- whether the connection may stay behind a request, by the parts of its head and what was judged
-pub stays_at : (sync : Bool) (h : RequestHead) (minor : ℕ) (method target : List ℕ) (pairs : Pairs)
+pub stays_at : (reach : Reach) (h : RequestHead) (minor : ℕ) (method target : List ℕ) (pairs : Pairs)
     (judged : Judged) (stays : Bool) → minor ≡ h.minor → method ≡ h.method → target ≡ h.target
-    → pairs ≡ map name_and_value h.fields → judged ≡ judged_of sync method target pairs
-    → stays ≡ stays_by minor pairs judged → stays ≡ stays_open sync h
-stays_at sync h minor method target pairs judged stays en em et ep ej es =
+    → pairs ≡ map name_and_value h.fields → judged ≡ judged_of reach method target pairs
+    → stays ≡ stays_by minor pairs judged → stays ≡ stays_open reach h
+stays_at reach h minor method target pairs judged stays en em et ep ej es =
     es ∙ ap (stays_by minor pairs) ej ∙ rw (en, em, et, ep) refl
 
 -- a whole request takes its size
-pub request_takes : (sync : Bool) (bytes : List ℕ) (taken : Taken) (request : RequestFields)
-    (result : Result Arrival HearError) → IsOneRequest sync bytes taken
-    → IfOk result (λ came. came ≡ Request request) → IfOk (front_of result taken) (TakesIn sync bytes)
-request_takes sync bytes taken request (Ok came) one e =
-    subst (λ (x : Arrival). Takes sync bytes x taken) (sym e) one
-request_takes sync bytes taken request (Err error) one e = tt
+pub request_takes : (reach : Reach) (bytes : List ℕ) (taken : Taken) (request : RequestFields)
+    (result : Result Arrival HearError) → IsOneRequest reach bytes taken
+    → IfOk result (λ came. came ≡ Request request) → IfOk (front_of result taken) (TakesIn reach bytes)
+request_takes reach bytes taken request (Ok came) one e =
+    subst (λ (x : Arrival). Takes reach bytes x taken) (sym e) one
+request_takes reach bytes taken request (Err error) one e = tt
 
 -- a whole body is that of a request or of an exchange, which takes its size
-pub posted_takes : (sync : Bool) (bytes : List ℕ) (taken : Taken) (posted : Posted) (body : List ℕ)
-    (pairs : Pairs) (result : Result Arrival HearError) → IsOneRequest sync bytes taken
+pub posted_takes : (reach : Reach) (bytes : List ℕ) (taken : Taken) (posted : Posted) (body : List ℕ)
+    (pairs : Pairs) (result : Result Arrival HearError) → IsOneRequest reach bytes taken
     → IfOk result (λ came. came ≡ posted_to posted body pairs)
-    → IfOk (front_of result taken) (TakesIn sync bytes)
-posted_takes sync bytes taken posted body pairs (Ok came) one e =
-    subst (λ (x : Arrival). Takes sync bytes x taken) (sym e) (of posted)
+    → IfOk (front_of result taken) (TakesIn reach bytes)
+posted_takes reach bytes taken posted body pairs (Ok came) one e =
+    subst (λ (x : Arrival). Takes reach bytes x taken) (sym e) (of posted)
   where
-    of : (p : Posted) → Takes sync bytes (posted_to p body pairs) taken
+    of : (p : Posted) → Takes reach bytes (posted_to p body pairs) taken
     of (Form endpoint) = one
     of Pull = one
     of Push = one
-posted_takes sync bytes taken posted body pairs (Err error) one e = tt
+posted_takes reach bytes taken posted body pairs (Err error) one e = tt
 
 -- a head has some bytes, as no bytes are none
 some_head : (h : RequestHead) → IsRequestHead h → 0 < length (print_request h)
@@ -281,18 +282,18 @@ some_head h valid =
     ] refl
 
 -- a request behind which a connection stays took some bytes
-pub some_taken : (sync : Bool) (bytes : List ℕ) (came : Arrival) (taken : Taken)
-    → Takes sync bytes came taken → taken.stays ≡ true → 0 < taken.size
-some_taken sync bytes Silence taken h stays = absurd (false_true (sym h.1 ∙ stays))
+pub some_taken : (reach : Reach) (bytes : List ℕ) (came : Arrival) (taken : Taken)
+    → Takes reach bytes came taken → taken.stays ≡ true → 0 < taken.size
+some_taken reach bytes Silence taken h stays = absurd (false_true (sym h.1 ∙ stays))
   where
     false_true : false ≡ true → ⊥
     false_true e = cc
-some_taken sync bytes (Refused why) taken h stays = absurd (false_true (sym h.1 ∙ stays))
+some_taken reach bytes (Refused why) taken h stays = absurd (false_true (sym h.1 ∙ stays))
   where
     false_true : false ≡ true → ⊥
     false_true e = cc
-some_taken sync bytes (Request request) taken h stays = omega (arith, h.3, some_head h.0 h.2.0)
-some_taken sync bytes (arrival.Exchange exchange) taken h stays = omega (arith, h.3, some_head h.0 h.2.0)
+some_taken reach bytes (Request request) taken h stays = omega (arith, h.3, some_head h.0 h.2.0)
+some_taken reach bytes (arrival.Exchange exchange) taken h stays = omega (arith, h.3, some_head h.0 h.2.0)
 
 -- fewer bytes than a limit are fewer than a greater one
 pub fewer_within : {E : Type 0} (many all limit most : ℕ) (result : Result Front E) → many ≡ all

@@ -5,11 +5,12 @@
 --   hears_head        the meaning of a head that was read from a source, and of what follows it
 --   has_one_meaning   a stream has at most one meaning
 --   silent_is_empty   only an empty stream is silent
---   judged_may        an exchange is requested only if regions exchange facts, and a body is within
---                     its limit
---   all_heard         no exchange arrives unless regions exchange facts
+--   judged_may        an exchange is requested only if all paths are served, and a body is within its
+--                     limit
+--   all_heard         no exchange arrives unless all paths are served
 use Rattle.std.proofs.Common.{◌≡◌, ℕ, ◌≤◌, Bool, true, false, cond, List, [], ◌∷◌, ◌++◌, length, take, drop, Option, Some, None, Result, Ok, Err, IfOk, map, sym, ap, ◌∙◌, subst, arith, nat_le, min, length-take, inl, inr, refl}
 use Rattle.std.specs.Io.KnownBytes.{Consumes}
+use Rattle.std.specs.Option.{option_or}
 use Rattle.std.specs.Str.{bytes_eq}
 use Rattle.std.specs.Str.Parse.{digits_value}
 use Rattle.std.specs.Prelude.{codes}
@@ -27,7 +28,7 @@ use Rattle.tk_edge.specs.Heads.{HasHead, field_limit}
 use Rattle.tk_edge.specs.Heard.{posted_to, arrival_by, arrival_of, headless, IsArrival, MayArrive, Arrives}
 use Rattle.tk_edge.specs.Judged.{judged_of, at_path, at_service, asked, with_body, sized, fits_type, limit_of, MayPost, MayAsk}
 use Rattle.tk_edge.specs.Laws.{HasOneMeaning, HearsAll}
-use Rattle.tk_edge.specs.Paths.{path_of, path_named, sync_named, method_named, service_at}
+use Rattle.tk_edge.specs.Paths.{path_of, path_named, client_named, admin_named, sync_named, inner_named, method_named, service_at}
 use Rattle.tk_format.specs.Numerals.{is_numeral, numeral_up_to}
 use Rattle.tk_format.specs.declared.numeral.Numeral.{Numeral}
 use Rattle.tk_format.specs.declared.numeral.Numeral.TheVariants as numeral
@@ -45,6 +46,8 @@ use Rattle.tk_edge.specs.declared.path.Posted.{Posted}
 use Rattle.tk_edge.specs.declared.path.Posted.TheVariants.{Form, Pull, Push}
 use Rattle.tk_edge.specs.declared.path.Service.{Service}
 use Rattle.tk_edge.specs.declared.path.Service.TheVariants as service
+use Rattle.tk_edge.specs.declared.reach.Reach.{Reach}
+use Rattle.tk_edge.specs.declared.reach.Reach.TheVariants.{Clients, Admin, All}
 use Rattle.tk_edge.specs.declared.refusal.Refusal.TheVariants.{ShortBody}
 
 -- count bytes were read into a body that has room for size: all of the bytes, or as many as fit
@@ -69,48 +72,48 @@ form_in_front front rest size fits =
     let long : size ≤ length (front ++ rest) = omega (arith, fits, length-append front rest) in
     (le-leb size (length (front ++ rest)) long, take-append-le size front rest fits)
 
-pub judged_same : (sync : Bool) (h : RequestHead) (rest method target : List ℕ) (judged : Judged)
-    → method ≡ h.method → target ≡ h.target → judged ≡ judged_of sync method target (map name_and_value h.fields)
-    → arrival_by target (map name_and_value h.fields) rest judged ≡ arrival_of sync h rest
-judged_same sync h rest method target judged em et ej =
+pub judged_same : (reach : Reach) (h : RequestHead) (rest method target : List ℕ) (judged : Judged)
+    → method ≡ h.method → target ≡ h.target → judged ≡ judged_of reach method target (map name_and_value h.fields)
+    → arrival_by target (map name_and_value h.fields) rest judged ≡ arrival_of reach h rest
+judged_same reach h rest method target judged em et ej =
     let pairs = map name_and_value h.fields in
     ap (λ j. arrival_by target pairs rest j)
-    (ej ∙ ap (λ m. judged_of sync m target pairs) em ∙ ap (λ t. judged_of sync h.method t pairs) et)
-    ∙ ap (λ t. arrival_by t pairs rest (judged_of sync h.method h.target pairs)) et
+    (ej ∙ ap (λ m. judged_of reach m target pairs) em ∙ ap (λ t. judged_of reach h.method t pairs) et)
+    ∙ ap (λ t. arrival_by t pairs rest (judged_of reach h.method h.target pairs)) et
 
-whole_head_heard : (sync : Bool) (bytes front : List ℕ) (size : ℕ) (old new : Option (List ℕ))
+whole_head_heard : (reach : Reach) (bytes front : List ℕ) (size : ℕ) (old new : Option (List ℕ))
     (headers : List HeaderSpan) (spans : RequestSpans) (came : Arrival)
     → size ≡ 8192 → old ≡ Some bytes → Consumes old new front
     → ((h : RequestHead) × HasHead bytes size field_limit h × IsRequestAt front headers spans h)
     → ((h : RequestHead) (rest : List ℕ) → IsRequestAt front headers spans h → new ≡ Some rest
-    → came ≡ arrival_of sync h (drop spans.len front ++ rest))
-    → IsArrival sync bytes came
-whole_head_heard sync bytes front size None new headers spans came room e c found told = absurd (cc)
-whole_head_heard sync bytes front size (Some xs) None headers spans came room e c found told = absurd c
-whole_head_heard sync bytes front size (Some xs) (Some rest) headers spans came room e c (h, has, at) told =
+    → came ≡ arrival_of reach h (drop spans.len front ++ rest))
+    → IsArrival reach bytes came
+whole_head_heard reach bytes front size None new headers spans came room e c found told = absurd (cc)
+whole_head_heard reach bytes front size (Some xs) None headers spans came room e c found told = absurd c
+whole_head_heard reach bytes front size (Some xs) (Some rest) headers spans came room e c (h, has, at) told =
     let same : xs ≡ bytes = cc in
     let split : front ++ rest ≡ bytes = sym c ∙ same in
     let reads = subst (λ l. ReadsRequest l h (drop spans.len front ++ rest)) split (ReadsRequest-append front h (drop spans.len front) rest at.reads) in
     inr (h, _, reads, subst (λ n. HasHead bytes n field_limit h) room has, told h rest at refl)
 
-pub hears_head : {E : Type 0} (sync : Bool) (front : List ℕ) (size : ℕ) (old new : Option (List ℕ))
+pub hears_head : {E : Type 0} (reach : Reach) (front : List ℕ) (size : ℕ) (old new : Option (List ℕ))
     (headers : List HeaderSpan) (spans : RequestSpans) (result : Result Arrival E)
     → size ≡ 8192 → Consumes old new front
     → ((bytes : List ℕ) → old ≡ Some bytes → (h : RequestHead) × HasHead bytes size field_limit h × IsRequestAt front headers spans h)
     → ((h : RequestHead) (rest : List ℕ) → IsRequestAt front headers spans h → new ≡ Some rest
-    → IfOk result (λ came. came ≡ arrival_of sync h (drop spans.len front ++ rest)))
-    → IfOk result (MayArrive sync) → IfOk result (Arrives sync old)
-hears_head sync front size old new headers spans (Ok came) room c found told may =
-    (may, λ bytes known. whole_head_heard sync bytes front size old new headers spans came room known c (found bytes known) told)
-hears_head sync front size old new headers spans (Err e) room c found told may = tt
+    → IfOk result (λ came. came ≡ arrival_of reach h (drop spans.len front ++ rest)))
+    → IfOk result (MayArrive reach) → IfOk result (Arrives reach old)
+hears_head reach front size old new headers spans (Ok came) room c found told may =
+    (may, λ bytes known. whole_head_heard reach bytes front size old new headers spans came room known c (found bytes known) told)
+hears_head reach front size old new headers spans (Err e) room c found told may = tt
 
 pub has_one_meaning : HasOneMeaning
-has_one_meaning sync bytes a b (inl (none, p)) (inl (none-2, q)) = p ∙ sym q
-has_one_meaning sync bytes a b (inl (none, p)) (inr (h, rest, reads, has, q)) = absurd (none h has)
-has_one_meaning sync bytes a b (inr (h, rest, reads, has, p)) (inl (none, q)) = absurd (none h has)
-has_one_meaning sync bytes a b (inr (h, rest, reads, has, p)) (inr (k, more, reads-2, has-2, q)) =
+has_one_meaning reach bytes a b (inl (none, p)) (inl (none-2, q)) = p ∙ sym q
+has_one_meaning reach bytes a b (inl (none, p)) (inr (h, rest, reads, has, q)) = absurd (none h has)
+has_one_meaning reach bytes a b (inr (h, rest, reads, has, p)) (inl (none, q)) = absurd (none h has)
+has_one_meaning reach bytes a b (inr (h, rest, reads, has, p)) (inr (k, more, reads-2, has-2, q)) =
     let same = request_unique bytes h k rest more reads reads-2 in
-    p ∙ ap (λ x. arrival_of sync x rest) same.0 ∙ ap (λ x. arrival_of sync k x) same.1 ∙ sym q
+    p ∙ ap (λ x. arrival_of reach x rest) same.0 ∙ ap (λ x. arrival_of reach k x) same.1 ∙ sym q
 
 -- ---- silence
 
@@ -129,75 +132,86 @@ speaks target pairs rest (Body posted n) e =
       | false ↦ λ e. absurd (cc)
     ]) e
 
-pub silent_is_empty : (sync : Bool) (bytes : List ℕ) → IsArrival sync bytes Silence → bytes ≡ []
-silent_is_empty sync [] came = refl
-silent_is_empty sync (b ∷ bytes) (inl (none, e)) = absurd (cc)
-silent_is_empty sync (b ∷ bytes) (inr (h, rest, reads, has, e)) =
-    absurd (speaks h.target (map name_and_value h.fields) rest (judged_of sync h.method h.target (map name_and_value h.fields)) e)
+pub silent_is_empty : (reach : Reach) (bytes : List ℕ) → IsArrival reach bytes Silence → bytes ≡ []
+silent_is_empty reach [] came = refl
+silent_is_empty reach (b ∷ bytes) (inl (none, e)) = absurd (cc)
+silent_is_empty reach (b ∷ bytes) (inr (h, rest, reads, has, e)) =
+    absurd (speaks h.target (map name_and_value h.fields) rest (judged_of reach h.method h.target (map name_and_value h.fields)) e)
 
-pub hears_nothing : (sync : Bool) (known : Option (List ℕ)) (came : Arrival) → came ≡ Silence → Arrives sync known came → (bytes : List ℕ) → known ≡ Some bytes → bytes ≡ []
-hears_nothing sync known came silent arrives bytes is = silent_is_empty sync bytes (subst (IsArrival sync bytes) silent (arrives.1 bytes is))
+pub hears_nothing : (reach : Reach) (known : Option (List ℕ)) (came : Arrival) → came ≡ Silence → Arrives reach known came → (bytes : List ℕ) → known ≡ Some bytes → bytes ≡ []
+hears_nothing reach known came silent arrives bytes is = silent_is_empty reach bytes (subst (IsArrival reach bytes) silent (arrives.1 bytes is))
 
--- ---- if regions exchange no facts
+-- ---- unless all paths are served
 
--- the paths that are served only if regions exchange facts
-abbrev MayServe : Bool → Path → Type 0
-MayServe sync path.Vector = sync ≡ true
-MayServe sync path.Pull = sync ≡ true
-MayServe sync path.Push = sync ≡ true
-MayServe sync path = Unit {0}
+-- the paths that are served only if all are
+abbrev MayServe : Reach → Path → Type 0
+MayServe reach path.Vector = reach ≡ All
+MayServe reach path.Pull = reach ≡ All
+MayServe reach path.Push = reach ≡ All
+MayServe reach path = Unit {0}
 
-abbrev MayServeIf : Bool → Option Path → Type 0
-MayServeIf sync None = Unit {0}
-MayServeIf sync (Some p) = MayServe sync p
+abbrev MayServeIf : Reach → Option Path → Type 0
+MayServeIf reach None = Unit {0}
+MayServeIf reach (Some p) = MayServe reach p
 
-pick : (sync b : Bool) (o p : Option Path) → MayServeIf sync o → MayServeIf sync p → MayServeIf sync (cond b o p)
-pick sync true o p h k = h
-pick sync false o p h k = k
+pick : (reach : Reach) (b : Bool) (o p : Option Path) → MayServeIf reach o → MayServeIf reach p → MayServeIf reach (cond b o p)
+pick reach true o p h k = h
+pick reach false o p h k = k
 
-synced : (sync : Bool) (text : List ℕ) → sync ≡ true → MayServeIf sync (sync_named text)
-synced sync text on =
-    pick sync (bytes_eq text (codes "/sync/vector")) (Some path.Vector) _ on
-    (pick sync (bytes_eq text (codes "/sync/pull")) (Some path.Pull) _ on
-    (pick sync (bytes_eq text (codes "/sync/push")) (Some path.Push) None on tt))
+either : (reach : Reach) (o p : Option Path) → MayServeIf reach o → MayServeIf reach p → MayServeIf reach (option_or o p)
+either reach None p h k = k
+either reach (Some x) p h k = h
 
-if_synced : (sync : Bool) (text : List ℕ) → MayServeIf sync (cond sync (sync_named text) None)
-if_synced true text = synced true text refl
-if_synced false text = tt
+client_may : (reach : Reach) (text : List ℕ) → MayServeIf reach (client_named text)
+client_may reach text =
+    pick reach (bytes_eq text (codes "/authorize")) (Some path.Authorize) _ tt
+    (pick reach (bytes_eq text (codes "/token")) (Some path.Token) _ tt
+    (pick reach (bytes_eq text (codes "/introspect")) (Some path.Introspect) _ tt
+    (pick reach (bytes_eq text (codes "/revoke")) (Some path.Revoke) None tt tt)))
 
-may_serve : (sync : Bool) (text : List ℕ) → MayServeIf sync (path_named sync text)
-may_serve sync text =
-    pick sync (bytes_eq text (codes "/authorize")) (Some path.Authorize) _ tt
-    (pick sync (bytes_eq text (codes "/token")) (Some path.Token) _ tt
-    (pick sync (bytes_eq text (codes "/introspect")) (Some path.Introspect) _ tt
-    (pick sync (bytes_eq text (codes "/revoke")) (Some path.Revoke) _ tt
-    (pick sync (bytes_eq text (codes "/admin/client")) (Some path.Client) _ tt
-    (pick sync (bytes_eq text (codes "/admin/retire")) (Some path.Retire) _ tt
-    (pick sync (bytes_eq text (codes "/admin/consent")) (Some path.Consent) _ tt
-    (pick sync (bytes_eq text (codes "/admin/withdraw")) (Some path.Withdraw) _ tt
-    (pick sync (bytes_eq text (codes "/admin/signout")) (Some path.SignOut) _ tt (if_synced sync text)))))))))
+admin_may : (reach : Reach) (text : List ℕ) → MayServeIf reach (admin_named text)
+admin_may reach text =
+    pick reach (bytes_eq text (codes "/admin/client")) (Some path.Client) _ tt
+    (pick reach (bytes_eq text (codes "/admin/retire")) (Some path.Retire) _ tt
+    (pick reach (bytes_eq text (codes "/admin/consent")) (Some path.Consent) _ tt
+    (pick reach (bytes_eq text (codes "/admin/withdraw")) (Some path.Withdraw) _ tt
+    (pick reach (bytes_eq text (codes "/admin/signout")) (Some path.SignOut) None tt tt))))
 
--- the services that exist only if regions exchange facts
-abbrev MayDo : Bool → Service → Type 0
-MayDo sync (service.Query e) = Unit {0}
-MayDo sync service.Vector = sync ≡ true
-MayDo sync (service.Body posted) = MayPost sync posted
+sync_may : (reach : Reach) (text : List ℕ) → reach ≡ All → MayServeIf reach (sync_named text)
+sync_may reach text on =
+    pick reach (bytes_eq text (codes "/sync/vector")) (Some path.Vector) _ on
+    (pick reach (bytes_eq text (codes "/sync/pull")) (Some path.Pull) _ on
+    (pick reach (bytes_eq text (codes "/sync/push")) (Some path.Push) None on tt))
 
-abbrev MayDoIf : Bool → Option Service → Type 0
-MayDoIf sync None = Unit {0}
-MayDoIf sync (Some s) = MayDo sync s
+inner_may : (reach : Reach) (text : List ℕ) → MayServeIf reach (inner_named reach text)
+inner_may Clients text = tt
+inner_may Admin text = admin_may Admin text
+inner_may All text = either All (admin_named text) (sync_named text) (admin_may All text) (sync_may All text refl)
 
-may_do : (sync : Bool) (p : Path) (m : Option Method) → MayServe sync p → MayDoIf sync (service_at p m)
-may_do sync p None h = tt
-may_do sync path.Vector (Some Get) h = h
-may_do sync p (Some Get) h = tt
-may_do sync path.Pull (Some Post) h = h
-may_do sync path.Push (Some Post) h = h
-may_do sync p (Some Post) h = tt
+may_serve : (reach : Reach) (text : List ℕ) → MayServeIf reach (path_named reach text)
+may_serve reach text = either reach (client_named text) (inner_named reach text) (client_may reach text) (inner_may reach text)
 
-choose : (sync b : Bool) (j k : Judged) → MayAsk sync j → MayAsk sync k → MayAsk sync (cond b j k)
-choose sync true j k h l = h
-choose sync false j k h l = l
+-- the services that exist only if all paths are served
+abbrev MayDo : Reach → Service → Type 0
+MayDo reach (service.Query e) = Unit {0}
+MayDo reach service.Vector = reach ≡ All
+MayDo reach (service.Body posted) = MayPost reach posted
+
+abbrev MayDoIf : Reach → Option Service → Type 0
+MayDoIf reach None = Unit {0}
+MayDoIf reach (Some s) = MayDo reach s
+
+may_do : (reach : Reach) (p : Path) (m : Option Method) → MayServe reach p → MayDoIf reach (service_at p m)
+may_do reach p None h = tt
+may_do reach path.Vector (Some Get) h = h
+may_do reach p (Some Get) h = tt
+may_do reach path.Pull (Some Post) h = h
+may_do reach path.Push (Some Post) h = h
+may_do reach p (Some Post) h = tt
+
+choose : (reach : Reach) (b : Bool) (j k : Judged) → MayAsk reach j → MayAsk reach k → MayAsk reach (cond b j k)
+choose reach true j k h l = h
+choose reach false j k h l = l
 
 -- a number that was read is within its limit
 abbrev pub IsBounded : ℕ → Numeral → Type 0
@@ -216,61 +230,61 @@ bounded limit text = of (is_numeral text) (nat_le n limit) refl
     of true false e = tt
     of true true e = leb-true n limit e
 
-may_size : (sync : Bool) (posted : Posted) (told : Numeral) (kinds : List (List ℕ)) → IsBounded (limit_of posted) told
-    → MayPost sync posted → MayAsk sync (sized posted told kinds)
-may_size sync posted numeral.Malformed kinds fits h = tt
-may_size sync posted numeral.Above kinds fits h = tt
-may_size sync posted (numeral.Within n) kinds fits h = choose sync (fits_type posted kinds) (Body posted n) _ (h, fits) tt
+may_size : (reach : Reach) (posted : Posted) (told : Numeral) (kinds : List (List ℕ)) → IsBounded (limit_of posted) told
+    → MayPost reach posted → MayAsk reach (sized posted told kinds)
+may_size reach posted numeral.Malformed kinds fits h = tt
+may_size reach posted numeral.Above kinds fits h = tt
+may_size reach posted (numeral.Within n) kinds fits h = choose reach (fits_type posted kinds) (Body posted n) _ (h, fits) tt
 
-may_post : (sync : Bool) (posted : Posted) (codings lengths kinds : List (List ℕ)) → MayPost sync posted → MayAsk sync (with_body posted codings lengths kinds)
-may_post sync posted (coding ∷ codings) lengths kinds h = tt
-may_post sync posted [] [] kinds h = tt
-may_post sync posted [] (text ∷ more) kinds h =
-    may_size sync posted (numeral_up_to (limit_of posted) text) kinds (bounded (limit_of posted) text) h
+may_post : (reach : Reach) (posted : Posted) (codings lengths kinds : List (List ℕ)) → MayPost reach posted → MayAsk reach (with_body posted codings lengths kinds)
+may_post reach posted (coding ∷ codings) lengths kinds h = tt
+may_post reach posted [] [] kinds h = tt
+may_post reach posted [] (text ∷ more) kinds h =
+    may_size reach posted (numeral_up_to (limit_of posted) text) kinds (bounded (limit_of posted) text) h
 
-may_be_asked : (sync : Bool) (s : Service) (pairs : Pairs) → MayDo sync s → MayAsk sync (asked s pairs)
-may_be_asked sync (service.Query e) pairs h = tt
-may_be_asked sync service.Vector pairs h = h
-may_be_asked sync (service.Body posted) pairs h = may_post sync posted (coding_in pairs) (length_in pairs) (type_in pairs) h
+may_be_asked : (reach : Reach) (s : Service) (pairs : Pairs) → MayDo reach s → MayAsk reach (asked s pairs)
+may_be_asked reach (service.Query e) pairs h = tt
+may_be_asked reach service.Vector pairs h = h
+may_be_asked reach (service.Body posted) pairs h = may_post reach posted (coding_in pairs) (length_in pairs) (type_in pairs) h
 
-may_at : (sync : Bool) (p : Path) (s : Option Service) (pairs : Pairs) → MayDoIf sync s → MayAsk sync (at_service p s pairs)
-may_at sync p None pairs h = tt
-may_at sync p (Some s) pairs h = choose sync (has_repeats pairs) _ (asked s pairs) tt (may_be_asked sync s pairs h)
+may_at : (reach : Reach) (p : Path) (s : Option Service) (pairs : Pairs) → MayDoIf reach s → MayAsk reach (at_service p s pairs)
+may_at reach p None pairs h = tt
+may_at reach p (Some s) pairs h = choose reach (has_repeats pairs) _ (asked s pairs) tt (may_be_asked reach s pairs h)
 
-may_at_path : (sync : Bool) (o : Option Path) (m : Option Method) (pairs : Pairs) → MayServeIf sync o → MayAsk sync (at_path o m pairs)
-may_at_path sync None m pairs h = tt
-may_at_path sync (Some p) m pairs h = may_at sync p (service_at p m) pairs (may_do sync p m h)
+may_at_path : (reach : Reach) (o : Option Path) (m : Option Method) (pairs : Pairs) → MayServeIf reach o → MayAsk reach (at_path o m pairs)
+may_at_path reach None m pairs h = tt
+may_at_path reach (Some p) m pairs h = may_at reach p (service_at p m) pairs (may_do reach p m h)
 
-may_ask : (sync : Bool) (method target : List ℕ) (pairs : Pairs) → MayAsk sync (judged_of sync method target pairs)
-may_ask sync method target pairs = may_at_path sync _ (method_named method) pairs (may_serve sync (path_of target))
+may_ask : (reach : Reach) (method target : List ℕ) (pairs : Pairs) → MayAsk reach (judged_of reach method target pairs)
+may_ask reach method target pairs = may_at_path reach _ (method_named method) pairs (may_serve reach (path_of target))
 
--- a judgement requests an exchange only if regions exchange facts, whatever fields were read
-pub judged_may : (sync : Bool) (method target : List ℕ) (fields : Fields) (pairs : Pairs) (judged : Judged) → AreFields fields pairs
-    → ((all : Pairs) → AreFields fields all → judged ≡ judged_of sync method target all) → MayAsk sync judged
-judged_may sync method target fields pairs judged are told = subst (MayAsk sync) (sym (told pairs are)) (may_ask sync method target pairs)
+-- a judgement requests an exchange only if all paths are served, whatever fields were read
+pub judged_may : (reach : Reach) (method target : List ℕ) (fields : Fields) (pairs : Pairs) (judged : Judged) → AreFields fields pairs
+    → ((all : Pairs) → AreFields fields all → judged ≡ judged_of reach method target all) → MayAsk reach judged
+judged_may reach method target fields pairs judged are told = subst (MayAsk reach) (sym (told pairs are)) (may_ask reach method target pairs)
 
-by_posted : (posted : Posted) (body : List ℕ) (pairs : Pairs) → MayPost false posted → MayArrive false (posted_to posted body pairs)
-by_posted (Form e) body pairs h = tt
-by_posted Pull body pairs h = h
-by_posted Push body pairs h = h
+by_posted : (reach : Reach) (posted : Posted) (body : List ℕ) (pairs : Pairs) → MayPost reach posted → MayArrive reach (posted_to posted body pairs)
+by_posted reach (Form e) body pairs h = tt
+by_posted reach Pull body pairs h = h
+by_posted reach Push body pairs h = h
 
-by_judged : (target : List ℕ) (pairs : Pairs) (rest : List ℕ) (judged : Judged) → MayAsk false judged → MayArrive false (arrival_by target pairs rest judged)
-by_judged target pairs rest (Refused why) h = tt
-by_judged target pairs rest (Query e) h = tt
-by_judged target pairs rest Vector h = h
-by_judged target pairs rest (Body posted n) h =
-    elim (nat_le n (length rest)) as (λ b. MayArrive false (cond b (posted_to posted (take n rest) pairs) (arrival.Refused ShortBody))) [
-      | true ↦ by_posted posted (take n rest) pairs h.0
+by_judged : (reach : Reach) (target : List ℕ) (pairs : Pairs) (rest : List ℕ) (judged : Judged) → MayAsk reach judged → MayArrive reach (arrival_by target pairs rest judged)
+by_judged reach target pairs rest (Refused why) h = tt
+by_judged reach target pairs rest (Query e) h = tt
+by_judged reach target pairs rest Vector h = h
+by_judged reach target pairs rest (Body posted n) h =
+    elim (nat_le n (length rest)) as (λ b. MayArrive reach (cond b (posted_to posted (take n rest) pairs) (arrival.Refused ShortBody))) [
+      | true ↦ by_posted reach posted (take n rest) pairs h.0
       | false ↦ tt
     ]
 
-headless_may : (bytes : List ℕ) → MayArrive false (headless bytes)
-headless_may [] = tt
-headless_may (b ∷ bytes) = tt
+headless_may : (reach : Reach) (bytes : List ℕ) → MayArrive reach (headless bytes)
+headless_may reach [] = tt
+headless_may reach (b ∷ bytes) = tt
 
 pub all_heard : HearsAll
-all_heard bytes came (inl (none, p)) = subst (MayArrive false) (sym p) (headless_may bytes)
-all_heard bytes came (inr (h, rest, reads, has, p)) =
+all_heard reach bytes came (inl (none, p)) = subst (MayArrive reach) (sym p) (headless_may reach bytes)
+all_heard reach bytes came (inr (h, rest, reads, has, p)) =
     let pairs = map name_and_value h.fields in
-    subst (MayArrive false) (sym p)
-    (by_judged h.target pairs rest (judged_of false h.method h.target pairs) (may_ask false h.method h.target pairs))
+    subst (MayArrive reach) (sym p)
+    (by_judged reach h.target pairs rest (judged_of reach h.method h.target pairs) (may_ask reach h.method h.target pairs))

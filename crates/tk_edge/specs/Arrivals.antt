@@ -12,6 +12,7 @@ use Rattle.tk_edge.specs.declared.ahead.PushError.{PushError}
 use Rattle.tk_edge.specs.declared.exchange.Exchange.TheVariants.{Push}
 use Rattle.tk_edge.specs.declared.hear.Arrival.{Arrival}
 use Rattle.tk_edge.specs.declared.hear.Arrival.TheVariants.{Exchange}
+use Rattle.tk_edge.specs.declared.reach.Reach.{Reach}
 
 -- how replying to an arrival may end, at the moment and with the random words, by whether pushed
 -- bundles that are ahead are refused
@@ -23,8 +24,8 @@ Answers refuses old now words came result new =
     AnswersBy old (answer_by old now words came) (fact_by old now words came) result new
 
 -- the region is unchanged, or a bundle was pushed and some of its facts, from the first on, are in
-abbrev pub IsShort : Bool → Bool → ℕ → Option (List ℕ) → RegionFields → RegionFields → Type 0
-IsShort sync refuses now known old new =
+abbrev pub IsShort : Reach → Bool → ℕ → Option (List ℕ) → RegionFields → RegionFields → Type 0
+IsShort reach refuses now known old new =
     (new ≡ old)
-    ⊎ ((sent : List ℕ) × Arrives sync known (Exchange (Push sent))
+    ⊎ ((sent : List ℕ) × Arrives reach known (Exchange (Push sent))
     × (taken : Result ℕ PushError) × Pushes refuses now old sent taken new)

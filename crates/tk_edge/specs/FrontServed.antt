@@ -17,7 +17,7 @@ use Rattle.tk_edge.specs.declared.tell.Fault.{Fault}
 -- the connection with the bytes that have come, and with what follows them
 abbrev pub asked_by : Asked → List ℕ → List ℕ → Asked
 asked_by asked bytes tail = record {
-  sync = asked.sync;
+  reach = asked.reach;
   refuses_ahead = asked.refuses_ahead;
   log_taken = asked.log_taken;
   known = Some (bytes ++ tail);
@@ -37,9 +37,9 @@ IsServedBy asked bytes over region log still writer sealed result =
 abbrev pub IsFrontServed : Asked → List ℕ → Bool → Step → Change → Type 0 → Change → Bool
     → Result (Option (Served × Taken)) Fault → Type 0
 IsFrontServed asked bytes over region log still writer sealed (Ok None) =
-    IsPartial asked.sync bytes over × IsUntouched region log still writer sealed
+    IsPartial asked.reach bytes over × IsUntouched region log still writer sealed
 IsFrontServed asked bytes over region log still writer sealed (Ok (Some end)) =
-    ((came : Arrival) × HasCome asked.sync bytes over came end.1)
+    ((came : Arrival) × HasCome asked.reach bytes over came end.1)
     × IsServedBy asked bytes over region log still writer sealed (Ok end.0)
 IsFrontServed asked bytes over region log still writer sealed (Err fault) =
     IsServedBy asked bytes over region log still writer sealed (Err fault)

@@ -23,6 +23,7 @@ use Rattle.tk_edge.specs.declared.hear.Arrival.TheVariants.{Silence, Refused, Re
 use Rattle.tk_edge.specs.declared.hear.HearError.{HearError}
 use Rattle.tk_edge.specs.declared.judge.Judged.{Judged}
 use Rattle.tk_edge.specs.declared.judge.Judged.TheVariants as judged
+use Rattle.tk_edge.specs.declared.reach.Reach.{Reach}
 use Rattle.tk_edge.specs.declared.refusal.Refusal.{Refusal}
 use Rattle.tk_edge.specs.declared.refusal.Refusal.TheVariants.{NoHead, ShortBody}
 
@@ -51,45 +52,45 @@ size_of judged.Vector = 0
 size_of (judged.Body posted n) = n
 
 -- how many bytes a request takes: its head, and the body that its length names (RFC 9112, 6.3)
-abbrev pub request_size : Bool → RequestHead → ℕ
-request_size sync h =
+abbrev pub request_size : Reach → RequestHead → ℕ
+request_size reach h =
     length (print_request h)
-    + size_of (judged_of sync h.method h.target (map name_and_value h.fields))
+    + size_of (judged_of reach h.method h.target (map name_and_value h.fields))
 
 -- the bytes that were taken are one whole request, behind which the connection may stay as its head
 -- says
-abbrev pub IsOneRequest : Bool → List ℕ → Taken → Type 0
-IsOneRequest sync bytes taken =
+abbrev pub IsOneRequest : Reach → List ℕ → Taken → Type 0
+IsOneRequest reach bytes taken =
     (h : RequestHead) × (rest : List ℕ) × ReadsRequest bytes h rest
-    × (taken.size ≡ request_size sync h) × (taken.stays ≡ stays_open sync h)
+    × (taken.size ≡ request_size reach h) × (taken.stays ≡ stays_open reach h)
 
 -- What was taken of what came: the bytes of the request and no more. A refusal takes all bytes and
 -- ends the connection, because nothing behind a refused request is read.
-abbrev pub Takes : Bool → List ℕ → Arrival → Taken → Type 0
-Takes sync bytes Silence taken = (taken.size ≡ 0) × (taken.stays ≡ false)
-Takes sync bytes (Refused why) taken = (taken.size ≡ length bytes) × (taken.stays ≡ false)
-Takes sync bytes (Request request) taken = IsOneRequest sync bytes taken
-Takes sync bytes (Exchange exchange) taken = IsOneRequest sync bytes taken
+abbrev pub Takes : Reach → List ℕ → Arrival → Taken → Type 0
+Takes reach bytes Silence taken = (taken.size ≡ 0) × (taken.stays ≡ false)
+Takes reach bytes (Refused why) taken = (taken.size ≡ length bytes) × (taken.stays ≡ false)
+Takes reach bytes (Request request) taken = IsOneRequest reach bytes taken
+Takes reach bytes (Exchange exchange) taken = IsOneRequest reach bytes taken
 
 -- No request is whole: more bytes may follow, there are fewer than a request may have, and a stream
 -- that ended here would end too early.
-pub record IsPartial (sync : Bool) (bytes : List ℕ) (over : Bool) : Type 0 where
+pub record IsPartial (reach : Reach) (bytes : List ℕ) (over : Bool) : Type 0 where
   pub unended : over ≡ false
-  pub fewer : length bytes < request_limit sync
-  pub cut : (came : Arrival) → IsArrival sync bytes came → IsCut came
+  pub fewer : length bytes < request_limit reach
+  pub cut : (came : Arrival) → IsArrival reach bytes came → IsCut came
 
 -- what came at the front: it means the same whatever follows the bytes
-pub record HasCome (sync : Bool) (bytes : List ℕ) (over : Bool) (came : Arrival) (taken : Taken)
+pub record HasCome (reach : Reach) (bytes : List ℕ) (over : Bool) (came : Arrival) (taken : Taken)
     : Type 0 where
   pub within : taken.size ≤ length bytes
-  pub takes : Takes sync bytes came taken
-  pub may : MayArrive sync came
-  pub means : (tail : List ℕ) → Follows over tail → IsArrival sync (bytes ++ tail) came
+  pub takes : Takes reach bytes came taken
+  pub may : MayArrive reach came
+  pub means : (tail : List ℕ) → Follows over tail → IsArrival reach (bytes ++ tail) came
 
 -- what the front of bytes is
-abbrev pub IsFront : Bool → List ℕ → Bool → Front → Type 0
-IsFront sync bytes over More = IsPartial sync bytes over
-IsFront sync bytes over (Came came taken) = HasCome sync bytes over came taken
+abbrev pub IsFront : Reach → List ℕ → Bool → Front → Type 0
+IsFront reach bytes over More = IsPartial reach bytes over
+IsFront reach bytes over (Came came taken) = HasCome reach bytes over came taken
 
 -- the front by the meaning of the bytes with what follows
 abbrev pub IsFrontBy : Bool → (List ℕ → Arrival) → Front → Type 0
@@ -103,19 +104,19 @@ IsTakenWithin most More = ⊤
 IsTakenWithin most (Came came taken) = taken.size ≤ most
 
 -- what came takes its bytes and no more
-abbrev pub TakesIn : Bool → List ℕ → Front → Type 0
-TakesIn sync bytes More = ⊤
-TakesIn sync bytes (Came came taken) = Takes sync bytes came taken
+abbrev pub TakesIn : Reach → List ℕ → Front → Type 0
+TakesIn reach bytes More = ⊤
+TakesIn reach bytes (Came came taken) = Takes reach bytes came taken
 
 -- if no request is whole, the bytes are fewer than the limit
 abbrev pub IsFewer : ℕ → ℕ → Front → Type 0
 IsFewer many limit More = many < limit
 IsFewer many limit (Came came taken) = ⊤
 
--- an exchange comes only if regions exchange facts
-abbrev pub MayComeBy : Bool → Front → Type 0
-MayComeBy sync More = ⊤
-MayComeBy sync (Came came taken) = MayArrive sync came
+-- an exchange comes only if all paths are served
+abbrev pub MayComeBy : Reach → Front → Type 0
+MayComeBy reach More = ⊤
+MayComeBy reach (Came came taken) = MayArrive reach came
 
 -- the front of a whole request, unless memory ran out for it
 abbrev pub front_of : Result Arrival HearError → Taken → Result Front HearError

@@ -2,11 +2,11 @@
 -- and exchanges between regions are own).
 --   request_at   the request for an endpoint, with its form and the fields that a decision reads
 --   arrival_of   the meaning of a head and the bytes behind it; the last refusal is `ShortBody`
---   IsArrival    the meaning of a stream, by whether regions exchange facts
---   IsHeard      the meaning of a stream if regions don't exchange facts
+--   IsArrival    the meaning of a stream, by which paths are served
+--   IsHeard      the meaning of a stream if the paths of clients and of operators are served
 --   Arrives      what may arrive from a source, whose bytes may be unknown
 --   MayArrive    what may arrive whatever the bytes are
-use Rattle.std.specs.Prelude.{◌≡◌, ◌⊎◌, ⊤, ℕ, Bool, true, false, nat_le, List, [], ◌∷◌, length}
+use Rattle.std.specs.Prelude.{◌≡◌, ◌⊎◌, ⊤, ℕ, nat_le, List, [], ◌∷◌, length}
 use Rattle.std.specs.Prelude.{take, map, Option, Some, if◌then◌else◌}
 use Rattle.httparse.specs.Grammar.{RequestHead, ReadsRequest}
 use Rattle.httparse.specs.Spans.{name_and_value}
@@ -24,6 +24,8 @@ use Rattle.tk_edge.specs.declared.judge.Judged.{Judged}
 use Rattle.tk_edge.specs.declared.judge.Judged.TheVariants as judged
 use Rattle.tk_edge.specs.declared.path.Posted.{Posted}
 use Rattle.tk_edge.specs.declared.path.Posted.TheVariants.{Form, Pull, Push}
+use Rattle.tk_edge.specs.declared.reach.Reach.{Reach}
+use Rattle.tk_edge.specs.declared.reach.Reach.TheVariants.{Admin, All}
 use Rattle.tk_edge.specs.declared.refusal.Refusal.TheVariants.{NoHead, ShortBody}
 
 -- the request for an endpoint, with its form and the fields that a decision reads
@@ -51,37 +53,37 @@ arrival_by target pairs rest (judged.Body posted n) =
     if nat_le n (length rest) then posted_to posted (take n rest) pairs else Refused ShortBody
 
 -- the meaning of a head and the bytes behind it
-abbrev pub arrival_of : Bool → RequestHead → List ℕ → Arrival
-arrival_of sync h rest =
+abbrev pub arrival_of : Reach → RequestHead → List ℕ → Arrival
+arrival_of reach h rest =
     arrival_by h.target (map name_and_value h.fields) rest
-    (judged_of sync h.method h.target (map name_and_value h.fields))
+    (judged_of reach h.method h.target (map name_and_value h.fields))
 
 -- the meaning of a stream without a head: silence if it is empty, `NoHead` otherwise
 abbrev pub headless : List ℕ → Arrival
 headless [] = Silence
 headless (b ∷ bytes) = Refused NoHead
 
--- The meaning of a stream, by whether regions exchange facts. At most one beginning of a stream is
--- a head, so that the meaning is unique.
-abbrev pub IsArrival : Bool → List ℕ → Arrival → Type 0
-IsArrival sync bytes came =
+-- The meaning of a stream, by which paths are served. At most one beginning of a stream is a head,
+-- so that the meaning is unique.
+abbrev pub IsArrival : Reach → List ℕ → Arrival → Type 0
+IsArrival reach bytes came =
     (((h : RequestHead) → HasHead bytes head_limit field_limit h → ⊥) × (came ≡ headless bytes))
     ⊎ ((h : RequestHead) × (rest : List ℕ) × ReadsRequest bytes h rest
     × HasHead bytes head_limit field_limit h
-    × (came ≡ arrival_of sync h rest))
+    × (came ≡ arrival_of reach h rest))
 
--- the meaning of a stream if regions don't exchange facts
+-- the meaning of a stream if the paths of clients and of operators are served
 abbrev pub IsHeard : List ℕ → Arrival → Type 0
-IsHeard bytes came = IsArrival false bytes came
+IsHeard bytes came = IsArrival Admin bytes came
 
--- whatever the bytes are, an exchange arrives only if regions exchange facts
-abbrev pub MayArrive : Bool → Arrival → Type 0
-MayArrive sync Silence = ⊤
-MayArrive sync (Refused why) = ⊤
-MayArrive sync (Request request) = ⊤
-MayArrive sync (Exchange asked) = sync ≡ true
+-- whatever the bytes are, an exchange arrives only if all paths are served
+abbrev pub MayArrive : Reach → Arrival → Type 0
+MayArrive reach Silence = ⊤
+MayArrive reach (Refused why) = ⊤
+MayArrive reach (Request request) = ⊤
+MayArrive reach (Exchange asked) = reach ≡ All
 
 -- what may arrive from a source: the meaning of its bytes, if these are known
-abbrev pub Arrives : Bool → Option (List ℕ) → Arrival → Type 0
-Arrives sync known came =
-    MayArrive sync came × ((bytes : List ℕ) → known ≡ Some bytes → IsArrival sync bytes came)
+abbrev pub Arrives : Reach → Option (List ℕ) → Arrival → Type 0
+Arrives reach known came =
+    MayArrive reach came × ((bytes : List ℕ) → known ≡ Some bytes → IsArrival reach bytes came)

@@ -1,5 +1,5 @@
 -- What a head requests, or the first rule that it breaks. The cases in their order:
---   UnknownPath      no service has the path (RFC 9110, 15.5.5)
+--   UnknownPath      no service that is reached has the path (RFC 9110, 15.5.5)
 --   WrongMethod      the path has other methods (RFC 9110, 15.5.6)
 --   DuplicateField   a field is repeated that may be given only once (own; RFC 9110, 5.3)
 --   LengthRequired   the body is in chunks, or has no length (RFC 9110, 15.5.12)
@@ -25,6 +25,8 @@ use Rattle.tk_edge.specs.declared.path.Posted.{Posted}
 use Rattle.tk_edge.specs.declared.path.Posted.TheVariants.{Form, Pull, Push}
 use Rattle.tk_edge.specs.declared.path.Service.{Service}
 use Rattle.tk_edge.specs.declared.path.Service.TheVariants as service
+use Rattle.tk_edge.specs.declared.reach.Reach.{Reach}
+use Rattle.tk_edge.specs.declared.reach.Reach.TheVariants.{All}
 use Rattle.tk_edge.specs.declared.refusal.Refusal.{Refusal}
 use Rattle.tk_edge.specs.declared.refusal.Refusal.TheVariants.{Sealed, UnknownPath, WrongMethod}
 use Rattle.tk_edge.specs.declared.refusal.Refusal.TheVariants.{DuplicateField, LengthRequired}
@@ -90,20 +92,20 @@ abbrev pub at_path : Option Path → Option Method → Pairs → Judged
 at_path None method pairs = Refused UnknownPath
 at_path (Some path) method pairs = at_service path (service_at path method) pairs
 
--- the judgement of a head, by whether regions exchange facts
-abbrev pub judged_of : Bool → List ℕ → List ℕ → Pairs → Judged
-judged_of sync method target pairs =
-    at_path (path_named sync (path_of target)) (method_named method) pairs
+-- the judgement of a head, by which paths are served
+abbrev pub judged_of : Reach → List ℕ → List ℕ → Pairs → Judged
+judged_of reach method target pairs =
+    at_path (path_named reach (path_of target)) (method_named method) pairs
 
--- an exchange is a use of a body only if regions exchange facts
-abbrev pub MayPost : Bool → Posted → Type 0
-MayPost sync (Form endpoint) = ⊤
-MayPost sync Pull = sync ≡ true
-MayPost sync Push = sync ≡ true
+-- an exchange is a use of a body only if all paths are served
+abbrev pub MayPost : Reach → Posted → Type 0
+MayPost reach (Form endpoint) = ⊤
+MayPost reach Pull = reach ≡ All
+MayPost reach Push = reach ≡ All
 
--- a judgement requests an exchange only if regions exchange facts, and a body within its limit
-abbrev pub MayAsk : Bool → Judged → Type 0
-MayAsk sync (Refused why) = ⊤
-MayAsk sync (Query endpoint) = ⊤
-MayAsk sync Vector = sync ≡ true
-MayAsk sync (Body posted n) = MayPost sync posted × (n ≤ limit_of posted)
+-- a judgement requests an exchange only if all paths are served, and a body within its limit
+abbrev pub MayAsk : Reach → Judged → Type 0
+MayAsk reach (Refused why) = ⊤
+MayAsk reach (Query endpoint) = ⊤
+MayAsk reach Vector = reach ≡ All
+MayAsk reach (Body posted n) = MayPost reach posted × (n ≤ limit_of posted)

@@ -1,6 +1,6 @@
 -- Laws of streams (RFC 9112, 3 and 6) and of pushed bundles (own), whatever a program does.
 --   HasOneMeaning   a stream has at most one meaning
---   HearsAll        no exchange arrives unless regions exchange facts
+--   HearsAll        no exchange arrives unless all paths are served
 --   RefusedIsLost   a bundle that is refused because it is ahead changes nothing
 --   TakesAsRegion   an edge that refuses none takes a bundle in as its region does
 use Rattle.std.specs.Prelude.{◌≡◌, ℕ, Bool, true, false, List, Result}
@@ -13,16 +13,19 @@ use Rattle.tk_edge.specs.Exchanges.{Pushes, TakesBundle}
 use Rattle.tk_edge.specs.declared.ahead.PushError.{PushError}
 use Rattle.tk_edge.specs.Heard.{IsArrival, MayArrive}
 use Rattle.tk_edge.specs.declared.hear.Arrival.{Arrival}
+use Rattle.tk_edge.specs.declared.reach.Reach.{Reach}
 
 -- a stream has at most one meaning
 abbrev pub HasOneMeaning : Type 0
 HasOneMeaning =
-    (sync : Bool) (bytes : List ℕ) (a b : Arrival) → IsArrival sync bytes a → IsArrival sync bytes b
-    → a ≡ b
+    (reach : Reach) (bytes : List ℕ) (a b : Arrival) → IsArrival reach bytes a
+    → IsArrival reach bytes b → a ≡ b
 
--- no exchange arrives unless regions exchange facts
+-- no exchange arrives unless all paths are served
 abbrev pub HearsAll : Type 0
-HearsAll = (bytes : List ℕ) (came : Arrival) → IsArrival false bytes came → MayArrive false came
+HearsAll =
+    (reach : Reach) (bytes : List ℕ) (came : Arrival) → IsArrival reach bytes came
+    → MayArrive reach came
 
 -- a pushed bundle that is refused because it is ahead is a lost one: the region is unchanged
 abbrev pub RefusedIsLost : Type 0

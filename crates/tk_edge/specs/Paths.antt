@@ -1,15 +1,18 @@
 -- The paths that tokend serves, and what each serves under a method (RFC 6749, 3.1 and 3.2; RFC
--- 7662, 2; RFC 7009, 2; the paths of administration and of exchanges between regions are own).
+-- 7662, 2; RFC 7009, 2; the paths of operators and of exchanges between regions are own).
 --   path_of        the part of a target before its first `?` (RFC 9112, 3.2.1)
 --   query_of       the part of a target behind its first `?`
---   path_named     the path of a name, byte for byte
+--   client_named   the path of a name among those of clients
+--   admin_named    the path of a name among those of operators
 --   sync_named     the path of a name among those by which regions exchange facts
+--   path_named     the path of a name, byte for byte, if it is reached
 --   method_named   the method of a name, which is case-sensitive (RFC 9110, 9.1)
 --   service_at     what a path serves under a method
 --   allowed_at     the methods of a path, as `Allow` names them (RFC 9110, 10.2.1)
-use Rattle.std.specs.Prelude.{ℕ, ◌+◌, ◌==◌, Bool, List, take, drop, Option, None, Some, codes}
+use Rattle.std.specs.Prelude.{ℕ, ◌+◌, ◌==◌, List, take, drop, Option, None, Some, codes}
 use Rattle.std.specs.Prelude.{if◌then◌else◌}
 use Rattle.std.specs.List.{position_or_len}
+use Rattle.std.specs.Option.{option_or}
 use Rattle.std.specs.Str.{bytes_eq}
 use Rattle.tk_message.specs.declared.request.Endpoint.{Endpoint}
 use Rattle.tk_message.specs.declared.request.Endpoint.TheVariants as endpoint
@@ -22,6 +25,8 @@ use Rattle.tk_edge.specs.declared.path.Method.TheVariants.{Get, Post}
 use Rattle.tk_edge.specs.declared.path.Posted.TheVariants as posted
 use Rattle.tk_edge.specs.declared.path.Service.{Service}
 use Rattle.tk_edge.specs.declared.path.Service.TheVariants as service
+use Rattle.tk_edge.specs.declared.reach.Reach.{Reach}
+use Rattle.tk_edge.specs.declared.reach.Reach.TheVariants.{Clients, Admin, All}
 
 -- the part of a target before its first `?`, which has the code 63
 abbrev pub path_of : List ℕ → List ℕ
@@ -31,6 +36,25 @@ path_of target = take (position_or_len (λ b. b == 63) target) target
 abbrev pub query_of : List ℕ → List ℕ
 query_of target = drop (position_or_len (λ b. b == 63) target + 1) target
 
+-- the path of a name among those of clients
+abbrev pub client_named : List ℕ → Option Path
+client_named path =
+    if bytes_eq path (codes "/authorize") then Some Authorize
+    else if bytes_eq path (codes "/token") then Some Token
+    else if bytes_eq path (codes "/introspect") then Some Introspect
+    else if bytes_eq path (codes "/revoke") then Some Revoke
+    else None
+
+-- the path of a name among those of operators
+abbrev pub admin_named : List ℕ → Option Path
+admin_named path =
+    if bytes_eq path (codes "/admin/client") then Some Client
+    else if bytes_eq path (codes "/admin/retire") then Some Retire
+    else if bytes_eq path (codes "/admin/consent") then Some Consent
+    else if bytes_eq path (codes "/admin/withdraw") then Some Withdraw
+    else if bytes_eq path (codes "/admin/signout") then Some SignOut
+    else None
+
 -- the path of a name among those by which regions exchange facts
 abbrev pub sync_named : List ℕ → Option Path
 sync_named path =
@@ -39,20 +63,15 @@ sync_named path =
     else if bytes_eq path (codes "/sync/push") then Some Push
     else None
 
--- the path of a name, by whether regions exchange facts
-abbrev pub path_named : Bool → List ℕ → Option Path
-path_named sync path =
-    if bytes_eq path (codes "/authorize") then Some Authorize
-    else if bytes_eq path (codes "/token") then Some Token
-    else if bytes_eq path (codes "/introspect") then Some Introspect
-    else if bytes_eq path (codes "/revoke") then Some Revoke
-    else if bytes_eq path (codes "/admin/client") then Some Client
-    else if bytes_eq path (codes "/admin/retire") then Some Retire
-    else if bytes_eq path (codes "/admin/consent") then Some Consent
-    else if bytes_eq path (codes "/admin/withdraw") then Some Withdraw
-    else if bytes_eq path (codes "/admin/signout") then Some SignOut
-    else if sync then sync_named path
-    else None
+-- the path of a name among those that clients don't have, if it is reached
+abbrev pub inner_named : Reach → List ℕ → Option Path
+inner_named Clients path = None
+inner_named Admin path = admin_named path
+inner_named All path = option_or (admin_named path) (sync_named path)
+
+-- the path of a name, if it is reached
+abbrev pub path_named : Reach → List ℕ → Option Path
+path_named reach path = option_or (client_named path) (inner_named reach path)
 
 -- the method of a name, GET or POST alone
 abbrev pub method_named : List ℕ → Option Method

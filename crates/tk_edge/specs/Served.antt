@@ -26,14 +26,15 @@ use Rattle.tk_edge.specs.declared.exchange.Exchange.TheVariants.{Push}
 use Rattle.tk_edge.specs.declared.hear.Arrival.TheVariants.{Exchange, Silence}
 use Rattle.tk_edge.specs.declared.hear.HearError.{HearError}
 use Rattle.tk_edge.specs.declared.hear.HearError.TheVariants as hear
+use Rattle.tk_edge.specs.declared.reach.Reach.{Reach}
 use Rattle.tk_edge.specs.declared.refusal.Refusal.TheVariants.{Sealed}
 use Rattle.tk_edge.specs.declared.tell.Fault.{Fault}
 use Rattle.tk_edge.specs.declared.tell.Fault.TheVariants.{Read, Write, Log, Memory}
 
--- a connection: whether regions exchange facts, whether pushed bundles that are ahead are refused,
--- whether taken bundles are logged, its bytes, if known, the moment, and the random words
+-- a connection: which paths are served, whether pushed bundles that are ahead are refused, whether
+-- taken bundles are logged, its bytes, if known, the moment, and the random words
 pub record Asked : Type 0 where
-  pub sync : Bool
+  pub reach : Reach
   pub refuses_ahead : Bool
   pub log_taken : Bool
   pub known : Option (List ℕ)
@@ -91,7 +92,7 @@ RepliesTo (Some bytes) refuses now words came region log still writer sealed res
 abbrev pub IsAnswered : Asked → Step → Change → Type 0 → Change → Bool → Result StatusCode Fault
     → Type 0
 IsAnswered asked region log still writer sealed result =
-    (came : Arrival) × Arrives asked.sync asked.known came × (came ≢ Silence)
+    (came : Arrival) × Arrives asked.reach asked.known came × (came ≢ Silence)
     × RepliesTo (bundle_to_log asked.log_taken came) asked.refuses_ahead asked.now asked.words came
     region log still writer sealed result
 
@@ -99,11 +100,11 @@ IsAnswered asked region log still writer sealed result =
 -- or a bundle was pushed and the log has it if its facts may be new.
 abbrev pub RunsOut : Bool → Asked → Step → Change → Type 0 → Change → Bool → Type 0
 RunsOut false asked region log still writer sealed =
-    IsShort asked.sync asked.refuses_ahead asked.now asked.known region.before region.after
+    IsShort asked.reach asked.refuses_ahead asked.now asked.known region.before region.after
     × WritesNothing log still writer sealed
 RunsOut true asked region log still writer sealed =
     IsUntouched region log still writer sealed
-    ⊎ ((sent : List ℕ) × Arrives asked.sync asked.known (Exchange (Push sent))
+    ⊎ ((sent : List ℕ) × Arrives asked.reach asked.known (Exchange (Push sent))
     × TakesAndLogs asked.refuses_ahead asked.now sent region.before region.after log still writer
     sealed (Err Memory))
 

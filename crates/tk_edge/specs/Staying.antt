@@ -11,6 +11,7 @@ use Rattle.tk_edge.specs.HeadFields.{coding_in, connection_in, length_in}
 use Rattle.tk_edge.specs.Judged.{judged_of}
 use Rattle.tk_edge.specs.declared.judge.Judged.{Judged}
 use Rattle.tk_edge.specs.declared.judge.Judged.TheVariants.{Refused, Query, Vector, Body}
+use Rattle.tk_edge.specs.declared.reach.Reach.{Reach}
 
 -- the client lets its connection stay: it says nothing of it, or `keep-alive` alone
 abbrev pub lets_stay : List (List ℕ) → Bool
@@ -42,7 +43,7 @@ stays_by minor pairs judged =
 
 -- the connection may stay behind the reply to a head: connections of HTTP/1.1 do, unless the
 -- client asks for the end, or the request is refused
-abbrev pub stays_open : Bool → RequestHead → Bool
-stays_open sync h =
+abbrev pub stays_open : Reach → RequestHead → Bool
+stays_open reach h =
     stays_by h.minor (map name_and_value h.fields)
-    (judged_of sync h.method h.target (map name_and_value h.fields))
+    (judged_of reach h.method h.target (map name_and_value h.fields))

@@ -6,15 +6,18 @@
 use std::marker::Model;
 use tk_region::Region;
 
-/// A region behind its connections, over which other regions may exchange facts.
+/// A region behind its connections.
+///
+/// Which paths are served is an argument of each request, since it depends on the connection. If
+/// all are, other regions ask for the region's vector, pull pages of what they lack and push
+/// bundles.
 ///
 /// An edge is sealed once its log has failed, because facts that it made later might be lost.
-/// Contracts see the region, whether regions exchange facts, whether pushed bundles that are ahead
-/// are refused, and whether the edge is sealed.
+/// Contracts see the region, whether pushed bundles that are ahead are refused, and whether the
+/// edge is sealed.
 #[derive(Drop)]
 pub struct Edge {
     region: Region,
-    sync: bool,
     refuses_ahead: bool,
     sealed: bool,
 }
@@ -28,7 +31,6 @@ impl Model for Edge {
 
     ghost view = { λ e. record {
       region = e.region;
-      sync = e.sync;
       refuses_ahead = e.refuses_ahead;
       sealed = e.sealed;
     } };
@@ -64,6 +66,7 @@ use crate::front::{Taken, ending};
 use crate::given::Given;
 use crate::head::HEAD_LIMIT;
 use crate::hear::{Arrival, HearError, hear};
+use crate::reach::Reach;
 use crate::refusal::Refusal;
 use crate::serving::{serve_arrival, serve_front_open, turn_away};
 use crate::tell::Fault;
@@ -74,23 +77,18 @@ use tk_message::StatusCode;
 impl Edge {
     /// Returns an edge that isn't sealed, over this region.
     ///
-    /// If `sync` is true, the paths below `/sync/` let other regions ask for the region's vector,
-    /// pull pages of what they lack and push bundles. If `sync` is false, these paths are unknown.
-    ///
     /// If `refuses_ahead` is true, a pushed bundle whose horizon is later than the moment of the
     /// request is refused: the reply is 409 `horizon_ahead`, nothing is logged, and the region is
     /// unchanged. If `refuses_ahead` is false, the region takes such a bundle in as any other.
-    pub fn new(region: Region, sync: bool, refuses_ahead: bool) -> Edge
+    pub fn new(region: Region, refuses_ahead: bool) -> Edge
         ensures { result ≡ record {
           region = region;
-          sync = sync;
           refuses_ahead = refuses_ahead;
           sealed = false;
         } }
     {
         Edge {
             region,
-            sync,
             refuses_ahead,
             sealed: false,
         }
@@ -108,7 +106,6 @@ impl Edge {
         ensures* writes_back { sem 𝓛 (Lends edge_row region_row self.entry result
             (λ region. record {
               region = region;
-              sync = self.entry.now.sync;
               refuses_ahead = self.entry.now.refuses_ahead;
               sealed = self.entry.now.sealed;
             })) }
@@ -133,9 +130,10 @@ impl Edge {
 
     /// Handles one request, given as the bytes of a stream that then ends.
     ///
-    /// `now` is the current moment, `words` the random words for new handles. The fact made for the
-    /// reply, if any, is already added. A sealed edge replies 503 temporarily_unavailable and makes
-    /// no fact. An empty request gets the status 400 and no bytes.
+    /// `reach` is which paths are served, `now` the current moment, and `words` the random words
+    /// for new handles. The fact made for the reply, if any, is already added. A sealed edge
+    /// replies 503 temporarily_unavailable and makes no fact. An empty request gets the status 400
+    /// and no bytes.
     ///
     /// # Errors
     ///
@@ -144,28 +142,28 @@ impl Edge {
     pub fn answer(
         &mut self,
         alloc: Global,
+        reach: Reach,
         now: Moment,
         words: &[u64; 6],
         bytes: &[u8],
     ) -> Result<Answer, AllocError>
         ensures answers { self.old.sealed ≡ false
-            → OnOk result ((came : AnyArrival) × IsArrival self.old.sync bytes.now came
+            → OnOk result ((came : AnyArrival) × IsArrival reach bytes.now came
             × Answers self.old.refuses_ahead self.old.region now words.now came result
             self.new.region) }
         ensures away { self.old.sealed ≡ true
             → IfOk result (λ answer. answer ≡ refused_by Refusal.Sealed) }
         ensures untouched { self.old.sealed ≡ true → self.new ≡ self.old }
         ensures sealed { self.new.sealed ≡ self.old.sealed }
-        ensures sync { self.new.sync ≡ self.old.sync }
         ensures refuses_ahead { self.new.refuses_ahead ≡ self.old.refuses_ahead }
         ensures err { OnErr result
-            (IsShort self.old.sync self.old.refuses_ahead now (Some bytes.now) self.old.region
+            (IsShort reach self.old.refuses_ahead now (Some bytes.now) self.old.region
             self.new.region) }
     {
         if self.sealed {
             return refuse(alloc, Refusal::Sealed);
         }
-        let came = hear_bytes(alloc, self.sync, bytes)?;
+        let came = hear_bytes(alloc, reach, bytes)?;
         answer_arrival(
             alloc,
             &mut self.region,
@@ -188,6 +186,7 @@ impl Edge {
     pub fn serve_one<S: Source, L: Sink, W: Sink>(
         &mut self,
         alloc: Global,
+        reach: Reach,
         reader: &mut S,
         writer: &mut W,
         log: &mut L,
@@ -197,14 +196,13 @@ impl Edge {
     ) -> Result<Served, Fault>
         requires { length buf.old ≡ head_limit }
         ensures room { length buf.new ≡ length buf.old }
-        ensures sync { self.new.sync ≡ self.old.sync }
         ensures refuses_ahead { self.new.refuses_ahead ≡ self.old.refuses_ahead }
 
         // What holds after each result. If the source's bytes are unknown, some request was
         // answered.
         ensures served { self.old.sealed ≡ false → IsServed
             (record {
-              sync = self.old.sync;
+              reach = reach;
               refuses_ahead = self.old.refuses_ahead;
               log_taken = false;
               known = S.coming reader.old;
@@ -222,7 +220,7 @@ impl Edge {
             → (self.new ≡ self.old) × (reader.new ≡ reader.old) × (log.new ≡ log.old) }
 
         // The edge reads at most a head and a body within their limits.
-        ensures bounded { TakesAtMost (request_limit self.old.sync) (S.coming reader.old)
+        ensures bounded { TakesAtMost (request_limit reach) (S.coming reader.old)
             (S.coming reader.new) }
 
         // A fault of a device is returned only if that device failed in this call.
@@ -232,7 +230,7 @@ impl Edge {
             → Rose (W.failed writer.old) (W.failed writer.new) }
         ensures log_fault { result ≡ Err Fault.Log → Rose (L.failed log.old) (L.failed log.new) }
     {
-        self.serve_one_logging(alloc, reader, writer, log, false, buf, now, words)
+        self.serve_one_logging(alloc, reach, reader, writer, log, false, buf, now, words)
     }
 
     /// Serves one connection as [`Edge::serve_one`] does, and logs the bundles taken in if
@@ -245,6 +243,7 @@ impl Edge {
     pub fn serve_one_logging<S: Source, L: Sink, W: Sink>(
         &mut self,
         alloc: Global,
+        reach: Reach,
         reader: &mut S,
         writer: &mut W,
         log: &mut L,
@@ -255,12 +254,11 @@ impl Edge {
     ) -> Result<Served, Fault>
         requires { length buf.old ≡ head_limit }
         ensures room { length buf.new ≡ length buf.old }
-        ensures sync { self.new.sync ≡ self.old.sync }
         ensures refuses_ahead { self.new.refuses_ahead ≡ self.old.refuses_ahead }
 
         ensures served { self.old.sealed ≡ false → IsServed
             (record {
-              sync = self.old.sync;
+              reach = reach;
               refuses_ahead = self.old.refuses_ahead;
               log_taken = log_taken;
               known = S.coming reader.old;
@@ -277,7 +275,7 @@ impl Edge {
         ensures untouched { self.old.sealed ≡ true
             → (self.new ≡ self.old) × (reader.new ≡ reader.old) × (log.new ≡ log.old) }
 
-        ensures bounded { TakesAtMost (request_limit self.old.sync) (S.coming reader.old)
+        ensures bounded { TakesAtMost (request_limit reach) (S.coming reader.old)
             (S.coming reader.new) }
 
         ensures reader_fault { result ≡ Err Fault.Read
@@ -289,7 +287,7 @@ impl Edge {
         if self.sealed {
             return turn_away(alloc, writer);
         }
-        match hear(alloc, self.sync, reader, buf) {
+        match hear(alloc, reach, reader, buf) {
             Ok(came) => serve_arrival(
                 alloc,
                 &mut self.region,
@@ -310,16 +308,18 @@ impl Edge {
     /// Serves the request at the front of the bytes that have come over a connection, if that
     /// request is whole. Returns how serving it ended, and what it took of the bytes.
     ///
-    /// `is_over` is whether the client has ended its side, so that no more bytes follow. A request
-    /// is served as [`Edge::serve_one_logging`] serves it, whatever follows its bytes. If no
-    /// request is whole, the result is `None`: nothing is changed or written, and more bytes are
-    /// needed. A sealed edge takes all bytes, and writes the reply 503 temporarily_unavailable.
+    /// `reach` is which paths are served over the connection. `is_over` is whether the client has
+    /// ended its side, so that no more bytes follow. A request is served as
+    /// [`Edge::serve_one_logging`] serves it, whatever follows its bytes. If no request is whole,
+    /// the result is `None`: nothing is changed or written, and more bytes are needed. A sealed
+    /// edge takes all bytes, and writes the reply 503 temporarily_unavailable.
     ///
     /// Each reply says `Connection: close`. If the connection may stay, [`keep_open`] takes that
     /// line out.
     pub fn serve_front<L: Sink, W: Sink>(
         &mut self,
         alloc: Global,
+        reach: Reach,
         bytes: &[u8],
         is_over: bool,
         writer: &mut W,
@@ -328,12 +328,11 @@ impl Edge {
         now: Moment,
         words: &[u64; 6],
     ) -> Result<Option<(Served, Taken)>, Fault>
-        ensures sync { self.new.sync ≡ self.old.sync }
         ensures refuses_ahead { self.new.refuses_ahead ≡ self.old.refuses_ahead }
 
         ensures served { self.old.sealed ≡ false → IsFrontServed
             (record {
-              sync = self.old.sync;
+              reach = reach;
               refuses_ahead = self.old.refuses_ahead;
               log_taken = log_taken;
               known = None;
@@ -362,8 +361,8 @@ impl Edge {
         }
         serve_front_open(
             alloc,
+            reach,
             &mut self.region,
-            self.sync,
             self.refuses_ahead,
             &mut self.sealed,
             bytes,
@@ -379,12 +378,12 @@ impl Edge {
 
 // Reads a request from the bytes of a stream that then ends. Memory alone can run out: the source
 // is a slice, which doesn't fail.
-fn hear_bytes(alloc: Global, sync: bool, bytes: &[u8]) -> Result<Arrival, AllocError>
-    ensures came { IfOk result (IsArrival sync bytes.now) }
-    ensures may { IfOk result (MayArrive sync) }
+fn hear_bytes(alloc: Global, reach: Reach, bytes: &[u8]) -> Result<Arrival, AllocError>
+    ensures came { IfOk result (IsArrival reach bytes.now) }
+    ensures may { IfOk result (MayArrive reach) }
 {
     let mut buf = [0u8; HEAD_LIMIT];
-    match hear(alloc, sync, &mut Given { rest: bytes }, &mut buf) {
+    match hear(alloc, reach, &mut Given { rest: bytes }, &mut buf) {
         Ok(came) => Ok(came),
         Err(_) => Err(AllocError),
     }

@@ -20,7 +20,7 @@ pub(crate) enum Front {
     Came(Arrival, Taken),
 }
 
-ghost use Rattle.std.specs.Prelude.{◌≡◌, ◌++◌, ◌+◌, ◌^◌, ◌<◌, ◌≤◌, ℕ, Bool, List, [], length, drop};
+ghost use Rattle.std.specs.Prelude.{◌≡◌, ◌++◌, ◌+◌, ◌^◌, ◌<◌, ◌≤◌, ℕ, List, [], length, drop};
 ghost use Rattle.std.specs.Prelude.{IfOk, false};
 ghost use Rattle.httparse.specs.Grammar.{RequestHead, HasNoRequest};
 ghost use Rattle.httparse.specs.Spans.{IsRequestAt, IsRequestWithin};
@@ -33,6 +33,7 @@ ghost use Rattle.tk_edge.specs.Heads.{head_limit};
 ghost use Rattle.tk_edge.specs.Heard as spec;
 ghost use Rattle.tk_edge.specs.Judged.{MayPost};
 ghost use Rattle.tk_edge.specs.declared.judge.Judged.TheVariants.{Body};
+ghost use Rattle.tk_edge.specs.declared.reach.Reach.{Reach as AnyReach};
 
 use crate::exchange::Exchange;
 use crate::field::{Fields, fields_of};
@@ -40,6 +41,7 @@ use crate::head::HEAD_LIMIT;
 use crate::hear::{HearError, asked, lent};
 use crate::judge::{Judged, judge};
 use crate::path::{Posted, split_target};
+use crate::reach::Reach;
 use crate::refusal::Refusal;
 use crate::staying::stays_by;
 use httparse::Status;
@@ -50,11 +52,11 @@ use std::alloc::Global;
 // is whether no more bytes follow.
 pub(crate) fn hear_front(
     alloc: Global,
-    sync: bool,
+    reach: Reach,
     bytes: &[u8],
     is_over: bool,
 ) -> Result<Front, HearError>
-    ensures { IfOk result (IsFront sync bytes.now is_over) }
+    ensures { IfOk result (IsFront reach bytes.now is_over) }
 {
     if bytes.is_empty() {
         return Ok(nothing_front(is_over));
@@ -65,7 +67,7 @@ pub(crate) fn hear_front(
             if spans.len > HEAD_LIMIT {
                 return Ok(headless_front(bytes));
             }
-            head_front(alloc, sync, bytes, is_over, &headers, spans)
+            head_front(alloc, reach, bytes, is_over, &headers, spans)
         }
         Ok(Status::Partial) => Ok(partial_front(bytes, is_over)),
         Err(_) => Ok(headless_front(bytes)),
@@ -74,7 +76,7 @@ pub(crate) fn hear_front(
 
 // Returns the front of no bytes.
 fn nothing_front(is_over: bool) -> Front
-    ensures { (sync : Bool) → IsFront sync [] is_over result }
+    ensures { (reach : AnyReach) → IsFront reach [] is_over result }
 {
     if is_over {
         Front::Came(Arrival::Silence, ending(0))
@@ -87,7 +89,7 @@ fn nothing_front(is_over: bool) -> Front
 fn partial_front(bytes: &[u8], is_over: bool) -> Front
     requires some { 0 < length bytes.now }
     requires none { HasNoRequest bytes.now }
-    ensures { (sync : Bool) → IsFront sync bytes.now is_over result }
+    ensures { (reach : AnyReach) → IsFront reach bytes.now is_over result }
 {
     if is_over {
         return headless_front(bytes);
@@ -116,7 +118,7 @@ pub(crate) fn ending(size: usize) -> Taken
 // Returns the front of bytes that begin with a head.
 fn head_front(
     alloc: Global,
-    sync: bool,
+    reach: Reach,
     bytes: &[u8],
     is_over: bool,
     headers: &[HeaderSpan],
@@ -126,17 +128,17 @@ fn head_front(
     requires short { spans.len ≤ head_limit }
     ensures came { (h : RequestHead) → IsRequestAt bytes.now headers.now spans h
         → IfOk result (IsFrontBy is_over
-        (λ tail. spec.arrival_of sync h (drop spans.len bytes.now ++ tail))) }
+        (λ tail. spec.arrival_of reach h (drop spans.len bytes.now ++ tail))) }
     ensures within { IfOk result (IsTakenWithin (length bytes.now)) }
     ensures takes { (h : RequestHead) → IsRequestAt bytes.now headers.now spans h
-        → IfOk result (TakesIn sync bytes.now) }
-    ensures fewer { IfOk result (IsFewer (length bytes.now) (request_limit sync)) }
-    ensures may { IfOk result (MayComeBy sync) }
+        → IfOk result (TakesIn reach bytes.now) }
+    ensures fewer { IfOk result (IsFewer (length bytes.now) (request_limit reach)) }
+    ensures may { IfOk result (MayComeBy reach) }
 {
     let fields = fields_of(bytes, &headers[..spans.headers]);
     let method = spans.method.of(bytes);
     let target = spans.path.of(bytes);
-    let judged = judge(sync, method, target, &fields);
+    let judged = judge(reach, method, target, &fields);
     let head = Taken {
         size: spans.len,
         stays: stays_by(spans.version, &fields, &judged),
@@ -181,12 +183,12 @@ fn body_front(
         → IfOk result (IsFrontBy is_over
         (λ tail. spec.arrival_by target pairs (rest.now ++ tail) (Body posted size))) }
     ensures within { IfOk result (IsTakenWithin (head.size + length rest.now)) }
-    ensures takes { (sync : Bool) (bytes : List ℕ) (pairs : Pairs) → AreFields fields.now pairs
+    ensures takes { (reach : AnyReach) (bytes : List ℕ) (pairs : Pairs) → AreFields fields.now pairs
         → length bytes ≡ head.size + length rest.now
-        → IsOneRequest sync bytes (record { size = head.size + size; stays = head.stays })
-        → IfOk result (TakesIn sync bytes) }
+        → IsOneRequest reach bytes (record { size = head.size + size; stays = head.stays })
+        → IfOk result (TakesIn reach bytes) }
     ensures fewer { IfOk result (IsFewer (head.size + length rest.now) (head.size + size)) }
-    ensures may { (sync : Bool) → MayPost sync posted → IfOk result (MayComeBy sync) }
+    ensures may { (reach : AnyReach) → MayPost reach posted → IfOk result (MayComeBy reach) }
 {
     if size <= rest.len() {
         let taken = Taken {

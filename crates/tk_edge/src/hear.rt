@@ -26,7 +26,7 @@ pub(crate) enum HearError {
     Memory,
 }
 
-ghost use Rattle.std.specs.Prelude.{◌≡◌, ℕ, Bool, ◌++◌, List, length, drop, take, nat_le, map, All};
+ghost use Rattle.std.specs.Prelude.{◌≡◌, ℕ, ◌++◌, List, length, drop, take, nat_le, map, All};
 ghost use Rattle.std.specs.Prelude.{Some, true, IfOk};
 ghost use Rattle.std.specs.Option.{option_copied, option_map};
 ghost use Rattle.httparse.specs.Grammar.{RequestHead};
@@ -39,6 +39,7 @@ ghost use Rattle.tk_edge.specs.Heard as spec;
 ghost use Rattle.tk_edge.specs.Judged.{MayPost};
 ghost use Rattle.tk_edge.specs.Served.{IsReadFault};
 ghost use Rattle.tk_edge.specs.declared.judge.Judged.TheVariants.{Body};
+ghost use Rattle.tk_edge.specs.declared.reach.Reach.{Reach as AnyReach};
 
 use crate::body::read_body;
 use crate::device::Source;
@@ -46,23 +47,24 @@ use crate::field::{Fields, fields_of, only_value};
 use crate::head::{HeadRead, read_head};
 use crate::judge::{Judged, judge};
 use crate::path::{Posted, split_target};
+use crate::reach::Reach;
 use httparse::spans::{EMPTY_HEADER_SPAN, HeaderSpan, RequestSpans};
 use std::alloc::{AllocError, Global};
 use tk_message::Endpoint;
 use tk_params::Params;
 
-// Reads a request. `sync` is whether regions exchange facts.
+// Reads a request. `reach` is which paths are served.
 // A stream that ends early is no read error: the bytes before the end are judged.
 pub(crate) fn hear<S: Source>(
     alloc: Global,
-    sync: bool,
+    reach: Reach,
     reader: &mut S,
     buf: &mut [u8],
 ) -> Result<Arrival, HearError>
     requires { length buf.old ≡ head_limit }
     ensures room { length buf.new ≡ length buf.old }
-    ensures came { IfOk result (spec.Arrives sync (S.coming reader.old)) }
-    ensures most { TakesAtMost (request_limit sync) (S.coming reader.old) (S.coming reader.new) }
+    ensures came { IfOk result (spec.Arrives reach (S.coming reader.old)) }
+    ensures most { TakesAtMost (request_limit reach) (S.coming reader.old) (S.coming reader.new) }
     ensures fault { IsReadFault result (S.failed reader.old) (S.failed reader.new) }
 {
     let mut headers = [EMPTY_HEADER_SPAN; 64];
@@ -71,7 +73,7 @@ pub(crate) fn hear<S: Source>(
     };
     match head {
         HeadRead::Whole { filled, spans } => {
-            head_heard(alloc, sync, reader, &buf[..filled], &headers, spans)
+            head_heard(alloc, reach, reader, &buf[..filled], &headers, spans)
         }
         HeadRead::Missing { filled } => {
             if filled == 0 {
@@ -85,7 +87,7 @@ pub(crate) fn hear<S: Source>(
 // Reads the request whose head is at the front of `buf`. The bytes behind that head begin the body.
 fn head_heard<S: Source>(
     alloc: Global,
-    sync: bool,
+    reach: Reach,
     reader: &mut S,
     buf: &[u8],
     headers: &[HeaderSpan],
@@ -94,15 +96,15 @@ fn head_heard<S: Source>(
     requires { IsRequestWithin buf.now headers.now spans }
     ensures came { (h : RequestHead) (rest : List ℕ) → IsRequestAt buf.now headers.now spans h
         → S.coming reader.old ≡ Some rest
-        → IfOk result (λ came. came ≡ spec.arrival_of sync h (drop spans.len buf.now ++ rest)) }
-    ensures may { IfOk result (spec.MayArrive sync) }
-    ensures most { TakesAtMost (body_limit sync) (S.coming reader.old) (S.coming reader.new) }
+        → IfOk result (λ came. came ≡ spec.arrival_of reach h (drop spans.len buf.now ++ rest)) }
+    ensures may { IfOk result (spec.MayArrive reach) }
+    ensures most { TakesAtMost (body_limit reach) (S.coming reader.old) (S.coming reader.new) }
     ensures fault { IsReadFault result (S.failed reader.old) (S.failed reader.new) }
 {
     let fields = fields_of(buf, &headers[..spans.headers]);
     let method = spans.method.of(buf);
     let target = spans.path.of(buf);
-    match judge(sync, method, target, &fields) {
+    match judge(reach, method, target, &fields) {
         Judged::Refused(why) => Ok(Arrival::Refused(why)),
         Judged::Query(endpoint) => {
             let query = split_target(target).1;
@@ -129,7 +131,7 @@ fn body_heard<S: Source>(
         → S.coming reader.old ≡ Some rest
         → IfOk result (λ came. came
         ≡ spec.arrival_by target pairs (front.now ++ rest) (Body posted size)) }
-    ensures may { (sync : Bool) → MayPost sync posted → IfOk result (spec.MayArrive sync) }
+    ensures may { (reach : AnyReach) → MayPost reach posted → IfOk result (spec.MayArrive reach) }
     ensures most { TakesAtMost size (S.coming reader.old) (S.coming reader.new) }
     ensures fault { IsReadFault result (S.failed reader.old) (S.failed reader.new) }
 {
@@ -173,7 +175,7 @@ pub(crate) fn lent(
 ) -> Result<Arrival, HearError>
     ensures came { (pairs : Pairs) → AreFields fields.now pairs
         → IfOk result (λ came. came ≡ spec.posted_to posted body.now pairs) }
-    ensures may { (sync : Bool) → MayPost sync posted → IfOk result (spec.MayArrive sync) }
+    ensures may { (reach : AnyReach) → MayPost reach posted → IfOk result (spec.MayArrive reach) }
     ensures fault { IsReadFault result 0 0 }
 {
     match posted {
@@ -196,7 +198,7 @@ fn kept(
 ) -> Result<Arrival, HearError>
     ensures came { (pairs : Pairs) → AreFields fields.now pairs
         → IfOk result (λ came. came ≡ spec.posted_to posted body.items pairs) }
-    ensures may { (sync : Bool) → MayPost sync posted → IfOk result (spec.MayArrive sync) }
+    ensures may { (reach : AnyReach) → MayPost reach posted → IfOk result (spec.MayArrive reach) }
     ensures fault { IsReadFault result 0 0 }
 {
     match posted {
@@ -216,7 +218,7 @@ pub(crate) fn asked(
     ensures came { (pairs : Pairs) → AreFields fields.now pairs
         → IfOk result (λ came. came
         ≡ Arrival.Request (spec.request_at endpoint form.now pairs)) }
-    ensures may { (sync : Bool) → IfOk result (spec.MayArrive sync) }
+    ensures may { (reach : AnyReach) → IfOk result (spec.MayArrive reach) }
     ensures fault { IsReadFault result 0 0 }
 {
     match request_of(alloc, endpoint, form, fields) {

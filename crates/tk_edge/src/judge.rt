@@ -10,6 +10,7 @@ ghost use Rattle.tk_edge.specs.Judged as spec;
 use crate::field::{Field, Fields, any_repeats};
 use crate::media_type::is_form_type;
 use crate::path::{Method, Path, Posted, Service, method_named, path_named, split_target};
+use crate::reach::Reach;
 use crate::refusal::Refusal;
 use tk_format::{Numeral, read_numeral};
 use tk_message::Endpoint;
@@ -24,13 +25,13 @@ pub(crate) enum Judged {
     Body(Posted, u32),
 }
 
-// Judges a head by its method, target and fields. `sync` is whether regions exchange facts.
-pub(crate) fn judge(sync: bool, method: &[u8], target: &[u8], fields: &Fields<'_>) -> Judged
+// Judges a head by its method, target and fields. `reach` is which paths are served.
+pub(crate) fn judge(reach: Reach, method: &[u8], target: &[u8], fields: &Fields<'_>) -> Judged
     ensures { (pairs : Pairs) → AreFields fields.now pairs
-        → result ≡ spec.judged_of sync method.now target.now pairs }
+        → result ≡ spec.judged_of reach method.now target.now pairs }
 {
     at_path(
-        path_named(sync, split_target(target).0),
+        path_named(reach, split_target(target).0),
         method_named(method),
         fields,
     )

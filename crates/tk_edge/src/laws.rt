@@ -8,8 +8,8 @@ pub fn one_meaning()
     ensures { HasOneMeaning }
 {}
 
-/// States that no exchange arrives unless regions exchange facts. The call does nothing at run
-/// time.
+/// States that no exchange arrives over a connection unless all paths are served there. The call
+/// does nothing at run time.
 pub fn hears_all()
     ensures { HearsAll }
 {}

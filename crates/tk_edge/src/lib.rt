@@ -9,6 +9,7 @@
 //! - [`Source`] and [`Sink`]: devices that give and take bytes, and count their failures.
 //!   [`Counted`] makes them of std's readers and writers, and [`Discard`] drops what it takes.
 //! - `head`, `field`, `body`: read the parts of a request.
+//! - [`Reach`]: which paths are served over a connection.
 //! - [`Path`] and `judge`: which service a head requests, or the [`Refusal`] of it, by ordered
 //!   cases.
 //! - [`Arrival`]: what a stream means. An [`Exchange`] is with another region.
@@ -46,6 +47,7 @@ mod path;
 mod pull;
 mod push;
 mod put;
+mod reach;
 mod refusal;
 mod render;
 mod serving;
@@ -65,5 +67,6 @@ pub use laws::{hears_all, one_meaning, refused_is_lost, takes_as_region};
 pub use open_reply::keep_open;
 pub use path::Path;
 pub use put::{Discard, put_whole};
+pub use reach::Reach;
 pub use refusal::Refusal;
 pub use tell::Fault;

@@ -7,6 +7,7 @@ ghost use Rattle.std.specs.List.{position_or_len};
 ghost use Rattle.std.specs.Str.{bytes_eq};
 ghost use Rattle.tk_edge.specs.Paths as spec;
 
+use crate::reach::Reach;
 use tk_message::Endpoint;
 
 /// A path that tokend serves.
@@ -103,9 +104,33 @@ fn is_named(text: &[u8], name: &[u8]) -> bool
     text == name
 }
 
-// Returns the path of this name. The paths of `/sync/` exist only if `sync` is true.
-pub(crate) fn path_named(sync: bool, path: &[u8]) -> Option<Path>
-    ensures { result ≡ spec.path_named sync path.now }
+// Returns the path of this name, if it is reached.
+pub(crate) fn path_named(reach: Reach, path: &[u8]) -> Option<Path>
+    ensures { result ≡ spec.path_named reach path.now }
+{
+    match client_named(path) {
+        Some(found) => Some(found),
+        None => inner_named(reach, path),
+    }
+}
+
+// Returns the path of this name among those that clients don't have, if it is reached.
+fn inner_named(reach: Reach, path: &[u8]) -> Option<Path>
+    ensures { result ≡ spec.inner_named reach path.now }
+{
+    match reach {
+        Reach::Clients => None,
+        Reach::Admin => admin_named(path),
+        Reach::All => match admin_named(path) {
+            Some(found) => Some(found),
+            None => sync_named(path),
+        },
+    }
+}
+
+// Returns the path of this name among those of clients.
+fn client_named(path: &[u8]) -> Option<Path>
+    ensures { result ≡ spec.client_named path.now }
 {
     if is_named(path, b"/authorize") {
         return Some(Path::Authorize);
@@ -119,6 +144,13 @@ pub(crate) fn path_named(sync: bool, path: &[u8]) -> Option<Path>
     if is_named(path, b"/revoke") {
         return Some(Path::Revoke);
     }
+    None
+}
+
+// Returns the path of this name among those of `/admin/`.
+fn admin_named(path: &[u8]) -> Option<Path>
+    ensures { result ≡ spec.admin_named path.now }
+{
     if is_named(path, b"/admin/client") {
         return Some(Path::Client);
     }
@@ -134,7 +166,7 @@ pub(crate) fn path_named(sync: bool, path: &[u8]) -> Option<Path>
     if is_named(path, b"/admin/signout") {
         return Some(Path::SignOut);
     }
-    if sync { sync_named(path) } else { None }
+    None
 }
 
 // Returns the path of this name among those of `/sync/`.

@@ -1,13 +1,14 @@
 //! Serves what arrived at an edge: `serve_arrival`, and `serve_front_open` for the front of bytes.
 //! `turn_away` writes the reply of a sealed edge.
 
-ghost use Rattle.std.specs.Prelude.{◌≡◌, ◌≢◌, ℕ, Bool, true, false, List, Option, None, Err};
+ghost use Rattle.std.specs.Prelude.{◌≡◌, ◌≢◌, ℕ, true, false, List, Option, None, Err};
 ghost use Rattle.tk_edge.specs.Failures.{Rose};
 ghost use Rattle.tk_edge.specs.FrontServed.{IsFrontServed};
 ghost use Rattle.tk_edge.specs.Heard.{Arrives};
 ghost use Rattle.tk_edge.specs.Pushes.{bundle_to_log};
 ghost use Rattle.tk_edge.specs.Served.{IsServed, IsTurnedAway, Replies, RepliesTo};
 ghost use Rattle.tk_edge.specs.Told.{IsFaultOfDevice};
+ghost use Rattle.tk_edge.specs.declared.reach.Reach.{Reach as AnyReach};
 
 use crate::answer::{answer_arrival, refuse};
 use crate::device::Sink;
@@ -16,6 +17,7 @@ use crate::front::{Front, Taken, hear_front};
 use crate::hear::Arrival;
 use crate::push::{bundle_to_log, take_and_log};
 use crate::put::put_whole;
+use crate::reach::Reach;
 use crate::refusal::Refusal;
 use crate::tell::{Fault, tell};
 use std::alloc::Global;
@@ -26,8 +28,8 @@ use tk_region::Region;
 // Serves the request at the front of bytes that came to an edge that isn't sealed, if it is whole.
 pub(crate) fn serve_front_open<L: Sink, W: Sink>(
     alloc: Global,
+    reach: Reach,
     region: &mut Region,
-    sync: bool,
     refuses_ahead: bool,
     sealed: &mut bool,
     bytes: &[u8],
@@ -41,7 +43,7 @@ pub(crate) fn serve_front_open<L: Sink, W: Sink>(
     requires { sealed.old ≡ false }
     ensures served { IsFrontServed
         (record {
-          sync = sync;
+          reach = reach;
           refuses_ahead = refuses_ahead;
           log_taken = log_taken;
           known = None;
@@ -56,7 +58,7 @@ pub(crate) fn serve_front_open<L: Sink, W: Sink>(
         → Rose (W.failed writer.old) (W.failed writer.new) }
     ensures log_fault { result ≡ Err Fault.Log → Rose (L.failed log.old) (L.failed log.new) }
 {
-    match hear_front(alloc, sync, bytes, is_over) {
+    match hear_front(alloc, reach, bytes, is_over) {
         Ok(Front::More) => Ok(None),
         Ok(Front::Came(came, taken)) => {
             match serve_arrival(
@@ -93,10 +95,10 @@ pub(crate) fn serve_arrival<L: Sink, W: Sink>(
     came: Arrival,
 ) -> Result<Served, Fault>
     requires { sealed.old ≡ false }
-    ensures served { (sync : Bool) (known : Option (List ℕ)) → Arrives sync known came
+    ensures served { (reach : AnyReach) (known : Option (List ℕ)) → Arrives reach known came
         → IsServed
         (record {
-          sync = sync;
+          reach = reach;
           refuses_ahead = refuses_ahead;
           log_taken = log_taken;
           known = known;

@@ -1,20 +1,46 @@
-//! Tests of connections over devices that fail, which no row of `check/rows/` can show.
+//! Tests of connections over devices that fail, and of which paths are served, which no row of
+//! `check/rows/` can show.
 //!
-//! `serving` has the tests, `frail` the devices, and `talks` the requests.
+//! `serving` has the tests with devices, `frail` the devices, and `talks` the requests. `reaches`
+//! has the tests of paths.
 
 mod frail;
+mod reaches;
 mod serving;
 mod talks;
 
 use std::alloc::Global;
-use tk_edge::Edge;
-use tk_handle::RegionNumber;
+use tk_edge::{Edge, Reach};
+use tk_handle::{Moment, RegionNumber};
+use tk_message::StatusCode;
 use tk_region::{Region, Settings};
 
-// Returns an edge over region 1 without facts, with a program's default lives, over which regions
-// exchange facts.
+// Returns an edge over region 1 without facts, with a program's default lives.
 fn new_edge(alloc: Global) -> Option<Edge> {
     let settings = Settings::new(60, 3_600, 86_400, 2_592_000, 1_000_000)?;
     let number = RegionNumber::new(1)?;
-    Some(Edge::new(Region::new(alloc, number, settings), true, false))
+    Some(Edge::new(Region::new(alloc, number, settings), false))
+}
+
+// Returns whether the bytes get this reply without devices, and make no record.
+fn is_answered(
+    alloc: Global,
+    edge: &mut Edge,
+    reach: Reach,
+    bytes: &[u8],
+    told: (StatusCode, &[u8]),
+) -> bool {
+    let Some(now) = Moment::new(1_000) else {
+        return false;
+    };
+    let (status, reply) = told;
+    match edge.answer(alloc, reach, now, &[0; 6], bytes) {
+        Ok(answer) => {
+            let is_bare = answer.logged.is_none();
+            let is_told = answer.status == status && answer.bytes.as_slice() == reply;
+            drop(answer);
+            is_bare && is_told
+        }
+        Err(_) => false,
+    }
 }

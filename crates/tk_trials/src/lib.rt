@@ -6,7 +6,7 @@
 //! - `ledger`: ledgers that run out of memory, ledgers beside a plain one, with facts skipped and
 //!   families pruned too, forests, and how many look-ups a reply takes.
 //! - `dots`: maps and sets by dots beside plain lists, also out of memory.
-//! - `edge`: connections over devices that fail.
+//! - `edge`: connections over devices that fail, and which paths are served.
 //! - `region`: a region that runs out of memory.
 //! - `results` and `uris`: results of calls that the program doesn't print.
 //! - `uncalled`: calls that no program makes.

@@ -5,7 +5,7 @@
 --   settings_after, world_after       the settings and the world after a write at an index
 --   request_steps                     how a request ends is how its event ends
 --   ended                             what holds of the fields holds of the world
-use Rattle.std.proofs.Common.{◌≡◌, ℕ, T, List, slice_get, get_or, set, Option, Some, None, Result, Ok, Err, Vec, Global, IsSome, IfSome, is_some, Bool, true, false, inl, inr, refl, sym, ap, subst, ◌∙◌}
+use Rattle.std.proofs.Common.{◌≡◌, ℕ, T, List, slice_get, get_or, set, Option, Some, None, Result, Ok, Err, Vec, Global, IsSome, IfSome, is_some, Bool, false, inl, inr, refl, sym, ap, subst, ◌∙◌}
 use Rattle.std.specs.List.{insert}
 use Rattle.std.specs.Ordering.{nat_cmp}
 use Rattle.std.specs.Cmp.{nat_cmp_total}
@@ -26,6 +26,7 @@ use Rattle.tk_edge.specs.EdgeFields.{EdgeFields}
 use Rattle.tk_edge.specs.Arrivals.{Answers, IsShort}
 use Rattle.tk_edge.specs.Heard.{IsArrival, IsHeard}
 use Rattle.tk_edge.specs.declared.hear.Arrival.{Arrival}
+use Rattle.tk_edge.specs.declared.reach.Reach.TheVariants.{Admin, All}
 use Rattle.tk_edge.proofs.AnswerLaws.{answers_alone}
 use Rattle.tk_edge.proofs.StreamLaws.{all_heard}
 use Rattle.tk_world.specs.AskedFields.{AskedFields}
@@ -41,10 +42,9 @@ use Rattle.tk_world.specs.declared.event.Outcome.TheVariants.{Opened, Reply, Bun
 use Rattle.tk_world.proofs.RegionLaws.{entry_at, entries_set, entries_insert, settings_at, settings_set, settings_insert}
 use Rattle.tk_world.proofs.StandsLaws.{same_again}
 
--- an edge has the settings of another, is sealed if that one is, and exchanges facts if that one
--- does
+-- an edge has the settings of another, and is sealed if that one is
 abbrev IsAsOpen : EdgeFields → EdgeFields → Type 0
-IsAsOpen p q = (q.region.settings ≡ p.region.settings) × (q.sealed ≡ p.sealed) × (q.sync ≡ p.sync)
+IsAsOpen p q = (q.region.settings ≡ p.region.settings) × (q.sealed ≡ p.sealed)
 
 abbrev pub fields_of : SettingsFields → List (ℕ × StoreFields) → List BundleFields → WorldFields
 fields_of settings rs bs = record { settings = settings; regions = map.from_sorted rs; bundles = bs }
@@ -118,7 +118,7 @@ module _ (settings : SettingsFields) (rs : List EdgeFields) (bs : List BundleFie
   pub absent_at : IsGap nat_cmp (entries_of rs) r i → map.get (world settings rs bs).regions r ≡ None
   absent_at gap = get_at_gap nat_cmp_total (entries_of rs) sorted r i gap
 
-  module _ (gap : IsGap nat_cmp (entries_of rs) r i) (p : EdgeFields) (is : p ≡ record { region = record { number = r; settings = settings; facts = empty_store }; sync = false; refuses_ahead = false; sealed = false }) where
+  module _ (gap : IsGap nat_cmp (entries_of rs) r i) (p : EdgeFields) (is : p ≡ record { region = record { number = r; settings = settings; facts = empty_store }; refuses_ahead = false; sealed = false }) where
     -- the entries after a region that knows nothing is inserted
     opened_entries : (new : List EdgeFields) → new ≡ insert rs i p → entries_of new ≡ insert (entries_of rs) i (r, empty_store)
     opened_entries new h = ap entries_of h ∙ entries_insert rs i p ∙ ap (λ x. insert (entries_of rs) i (entry_of x)) is
@@ -135,7 +135,7 @@ module _ (settings : SettingsFields) (rs : List EdgeFields) (bs : List BundleFie
     sorted_new o new h = absurd h
 
     pub settings_new : (o : Outcome) (new : List EdgeFields) → Opens rs i p o new → HaveSettings settings rs → HaveSettings settings new
-    settings_new Opened new h all = subst (HaveSettings settings) (sym h) (settings_insert settings rs i p (subst (IsOpen settings) (sym is) (refl, refl, refl)) all)
+    settings_new Opened new h all = subst (HaveSettings settings) (sym h) (settings_insert settings rs i p (subst (IsOpen settings) (sym is) (refl, refl)) all)
     settings_new Memory new h all = subst (HaveSettings settings) (sym h) all
     settings_new o new h all = absurd h
 
@@ -165,9 +165,6 @@ module _ (settings : SettingsFields) (rs : List EdgeFields) (bs : List BundleFie
     pub open_at : p.sealed ≡ false
     open_at = (settings_at settings rs i p at.in_range is all).1
 
-    pub alone_at : p.sync ≡ false
-    alone_at = (settings_at settings rs i p at.in_range is all).2
-
     module _ (q : EdgeFields) (number : q.region.number ≡ p.region.number) (same : IsAsOpen p q) where
       after : entries_of (set rs i q) ≡ set (entries_of rs) i ((get_or (entries_of rs) i (entry_of p)).0, q.region.facts)
       after = entries_set rs i q ∙ ap (λ (n : ℕ). set (entries_of rs) i (n, q.region.facts)) (number ∙ ap (λ (e : ℕ × StoreFields). e.0) entry_is)
@@ -176,7 +173,7 @@ module _ (settings : SettingsFields) (rs : List EdgeFields) (bs : List BundleFie
       sorted_after = subst (λ es. T (map.is_sorted nat_cmp es)) (sym after) (sorted_at_place nat_cmp_total (entries_of rs) sorted r i at q.region.facts (entry_of p))
 
       pub settings_after : HaveSettings settings (set rs i q)
-      settings_after = settings_set settings rs i q (same.0 ∙ (settings_at settings rs i p at.in_range is all).0, same.1 ∙ open_at, same.2 ∙ alone_at) all
+      settings_after = settings_set settings rs i q (same.0 ∙ (settings_at settings rs i p at.in_range is all).0, same.1 ∙ open_at) all
 
       pub world_after : world settings (set rs i q) bs ≡ with_store (world settings rs bs) r q.region.facts
       world_after =
@@ -190,15 +187,11 @@ carried_number {F = F} way p q asked o a = by o a
     same : q ≡ p → (q.region.number ≡ p.region.number) × IsAsOpen p q
     same e = (
       ap (λ (x : EdgeFields). x.region.number) e,
-      (
-        ap (λ (x : EdgeFields). x.region.settings) e,
-        ap (λ (x : EdgeFields). x.sealed) e,
-        ap (λ (x : EdgeFields). x.sync) e,
-      ),
+      (ap (λ (x : EdgeFields). x.region.settings) e, ap (λ (x : EdgeFields). x.sealed) e),
     )
 
     made : (heard : Arrival) → Makes p asked heard q → (q.region.number ≡ p.region.number) × IsAsOpen p q
-    made heard m = (m.gains.number, (m.gains.settings, m.sealed, m.sync))
+    made heard m = (m.gains.number, (m.gains.settings, m.sealed))
 
     by : (o : Result Outcome F) → Carries way p asked o q → (q.region.number ≡ p.region.number) × IsAsOpen p q
     by (Ok (Reply status bytes)) a = made a.0 a.3
@@ -207,48 +200,46 @@ carried_number {F = F} way p q asked o a = by o a
     by (Err fault) (inl e) = same e
     by (Err fault) (inr (heard, hears, m)) = made heard m
 
--- if regions don't exchange facts, an arrival is heard
-heard_answer : (sync refuses : Bool) (r new : RegionFields) (asked : AskedFields) (seen : AnswerFields) → sync ≡ false
-    → ((came : Arrival) × IsArrival sync asked.bytes came × Answers refuses r asked.now asked.words came (Ok seen) new)
+-- if no path of `/sync/` is served, an arrival is heard
+heard_answer : (refuses : Bool) (r new : RegionFields) (asked : AskedFields) (seen : AnswerFields)
+    → ((came : Arrival) × IsArrival Admin asked.bytes came × Answers refuses r asked.now asked.words came (Ok seen) new)
     → (heard : Arrival) × IsHeard asked.bytes heard × AnswersBy r (answer_by r asked.now asked.words heard) (fact_by r asked.now asked.words heard) (Ok seen) new
-heard_answer sync refuses r new asked seen off (came, is, told) =
-    let there : IsArrival false asked.bytes came = subst (λ s. IsArrival s asked.bytes came) off is in
-    (came, there, answers_alone refuses r asked.now asked.words came (Ok seen) new (all_heard asked.bytes came there) told)
+heard_answer refuses r new asked seen (came, is, told) =
+    (came, is, answers_alone refuses r asked.now asked.words came (Ok seen) new (all_heard Admin asked.bytes came is) told)
 
--- if regions don't exchange facts, running out of memory leaves the region unchanged
-pub untouched : (p q : EdgeFields) (now : ℕ) (bytes : List ℕ) → p.sync ≡ false → q.sealed ≡ p.sealed → q.sync ≡ p.sync → q.refuses_ahead ≡ p.refuses_ahead
-    → IsShort p.sync p.refuses_ahead now (Some bytes) p.region q.region → q ≡ p
-untouched p q now bytes off sealed sync ahead (inl same) =
-    ap (λ (r : RegionFields). record { region = r; sync = q.sync; refuses_ahead = q.refuses_ahead; sealed = q.sealed }) same
-    ∙ ap (λ b. record { region = p.region; sync = b; refuses_ahead = q.refuses_ahead; sealed = q.sealed }) sync
-    ∙ ap (λ b. record { region = p.region; sync = p.sync; refuses_ahead = b; sealed = q.sealed }) ahead
-    ∙ ap (λ b. record { region = p.region; sync = p.sync; refuses_ahead = p.refuses_ahead; sealed = b }) sealed
-untouched p q now bytes off sealed sync ahead (inr (sent, arrives, taken, took)) = absurd (clash (sym off ∙ arrives.0))
+-- if no path of `/sync/` is served, running out of memory leaves the region unchanged
+pub untouched : (p q : EdgeFields) (now : ℕ) (bytes : List ℕ) → q.sealed ≡ p.sealed → q.refuses_ahead ≡ p.refuses_ahead
+    → IsShort Admin p.refuses_ahead now (Some bytes) p.region q.region → q ≡ p
+untouched p q now bytes sealed ahead (inl same) =
+    ap (λ (r : RegionFields). record { region = r; refuses_ahead = q.refuses_ahead; sealed = q.sealed }) same
+    ∙ ap (λ b. record { region = p.region; refuses_ahead = b; sealed = q.sealed }) ahead
+    ∙ ap (λ b. record { region = p.region; refuses_ahead = p.refuses_ahead; sealed = b }) sealed
+untouched p q now bytes sealed ahead (inr (sent, arrives, taken, took)) = absurd (clash arrives.0)
   where
-    clash : false ≡ true → ⊥
+    clash : Admin ≡ All → ⊥
     clash e = cc
 
 -- the answer of an edge, by what contracts see of it
-pub answered_part : (p q : EdgeFields) (asked : AskedFields) (told seen : AnswerFields) → told ≡ seen → p.sync ≡ false → q.sealed ≡ p.sealed → q.sync ≡ p.sync → q.refuses_ahead ≡ p.refuses_ahead
-    → ((came : Arrival) × IsArrival p.sync asked.bytes came × Answers p.refuses_ahead p.region asked.now asked.words came (Ok seen) q.region)
+pub answered_part : (p q : EdgeFields) (asked : AskedFields) (told seen : AnswerFields) → told ≡ seen → q.sealed ≡ p.sealed → q.refuses_ahead ≡ p.refuses_ahead
+    → ((came : Arrival) × IsArrival Admin asked.bytes came × Answers p.refuses_ahead p.region asked.now asked.words came (Ok seen) q.region)
     → (heard : Arrival) × IsHeard asked.bytes heard × IsReplied (answer_by p.region asked.now asked.words heard) told.status told.bytes × Makes p asked heard q
-answered_part p q asked told seen is off sealed sync ahead came =
-    let a = heard_answer p.sync p.refuses_ahead p.region q.region asked seen off came in (
+answered_part p q asked told seen is sealed ahead came =
+    let a = heard_answer p.refuses_ahead p.region q.region asked seen came in (
       a.0,
       a.1,
       (ap (λ (x : AnswerFields). x.status) (is ∙ a.2.0), ap (λ (x : AnswerFields). x.bytes) (is ∙ a.2.0)),
-      record { gains = a.2.1; next = a.2.2; sealed = sealed; sync = sync; refuses_ahead = ahead },
+      record { gains = a.2.1; next = a.2.2; sealed = sealed; refuses_ahead = ahead },
     )
 
-pub taken_number : (p q : EdgeFields) (b : BundleFields) (o : Outcome) → TakesBundle p.region b o q.region → q.sealed ≡ p.sealed → q.sync ≡ p.sync → (q.region.number ≡ p.region.number) × IsAsOpen p q
-taken_number p q b (Took n) t sealed sync = (t.0.number, (t.0.settings, sealed, sync))
-taken_number p q b Memory t sealed sync = (t.0.number, (t.0.settings, sealed, sync))
-taken_number p q b o t sealed sync = absurd t
+pub taken_number : (p q : EdgeFields) (b : BundleFields) (o : Outcome) → TakesBundle p.region b o q.region → q.sealed ≡ p.sealed → (q.region.number ≡ p.region.number) × IsAsOpen p q
+taken_number p q b (Took n) t sealed = (t.0.number, (t.0.settings, sealed))
+taken_number p q b Memory t sealed = (t.0.number, (t.0.settings, sealed))
+taken_number p q b o t sealed = absurd t
 
-pub pruned_number : (p q : EdgeFields) (moment : ℕ) (o : Outcome) → PrunesTo p.region moment o q.region → q.sealed ≡ p.sealed → q.sync ≡ p.sync → (q.region.number ≡ p.region.number) × IsAsOpen p q
-pruned_number p q moment (Pruned n) t sealed sync = (t.0.number, (t.0.settings, sealed, sync))
-pruned_number p q moment Memory t sealed sync = (ap (λ (r : RegionFields). r.number) t, (ap (λ (r : RegionFields). r.settings) t, sealed, sync))
-pruned_number p q moment o t sealed sync = absurd t
+pub pruned_number : (p q : EdgeFields) (moment : ℕ) (o : Outcome) → PrunesTo p.region moment o q.region → q.sealed ≡ p.sealed → (q.region.number ≡ p.region.number) × IsAsOpen p q
+pruned_number p q moment (Pruned n) t sealed = (t.0.number, (t.0.settings, sealed))
+pruned_number p q moment Memory t sealed = (ap (λ (r : RegionFields). r.number) t, (ap (λ (r : RegionFields). r.settings) t, sealed))
+pruned_number p q moment o t sealed = absurd t
 
 -- ---- the end of a call
 

@@ -25,6 +25,7 @@ use Rattle.tk_region.specs.RegionFields.{RegionFields, place_in}
 use Rattle.tk_region.specs.Step.{PreparedFields, early_in, prepared_by}
 use Rattle.tk_edge.specs.Answers.{answer_by, rendered}
 use Rattle.tk_edge.specs.declared.hear.Arrival.TheVariants.{Request as Asked}
+use Rattle.tk_edge.specs.declared.reach.Reach.TheVariants.{Admin}
 use Rattle.tk_edge.proofs.StreamLaws.{has_one_meaning}
 use Rattle.tk_world.specs.declared.event.Event.{Event}
 use Rattle.tk_world.specs.declared.event.Event.TheVariants.{Request}
@@ -88,7 +89,7 @@ tells_of_sets old es os ss new run i r now request status reply q from =
     let k : Kept = at.step.0 in
     let held : k.facts ≡ held_before old es ss i r = ap facts_of (sym at.step.1.is_open) ∙ joins.joins in
     let soon : k.horizon ≤ now = subst (λ h. h ≤ now) (ap horizon_of at.step.1.is_open) from in
-    let one : at.step.2 ≡ Asked request = has_one_meaning false q.bytes.items at.step.2 (Asked request) at.step.3 q.heard in
+    let one : at.step.2 ≡ Asked request = has_one_meaning Admin q.bytes.items at.step.2 (Asked request) at.step.3 q.heard in
     let told = ap (answer_by (region_with mid r k) now q.words) one ∙ introspects mid r k now q.words request soon q.introspects
     ∙ ap (λ G. rendered (introspection_of (whole_store G) now request) None None) held in
     subst (λ a. IsReplied a status reply) told (at.step.4.0, sym q.replied ∙ at.step.4.1)

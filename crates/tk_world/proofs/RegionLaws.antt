@@ -42,7 +42,7 @@ entries_insert (r ∷ rs) (suc i) q = ap (λ es. entry_of r ∷ es) (entries_ins
 
 -- a region with this entry
 abbrev region_of : ℕ × StoreFields → EdgeFields
-region_of e = record { region = record { number = e.0; settings = record { code = 0; access = 0; refresh = 0; family = 0; cap = 0; choices = profile_choices }; facts = e.1 }; sync = false; refuses_ahead = false; sealed = false }
+region_of e = record { region = record { number = e.0; settings = record { code = 0; access = 0; refresh = 0; family = 0; cap = 0; choices = profile_choices }; facts = e.1 }; refuses_ahead = false; sealed = false }
 
 get_entry : (rs : List EdgeFields) (i : ℕ) (d : EdgeFields) → get_or (entries_of rs) i (entry_of d) ≡ entry_of (get_or rs i d)
 get_entry [] i d = refl

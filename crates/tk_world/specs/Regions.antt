@@ -1,6 +1,6 @@
 -- The regions of a world behind their edges, as a list whose numbers rise (own).
 --   entries_of    each number with its region's store
---   HaveSettings  the regions have these settings, none is sealed, and none serves `/sync/`
+--   HaveSettings  the regions have these settings, and none is sealed
 use Rattle.std.specs.Prelude.{◌≡◌, ℕ, false, List, map}
 use Rattle.std.specs.List.{AllByRecursion}
 use Rattle.tk_store.specs.StoreFields.{StoreFields}
@@ -15,11 +15,10 @@ entry_of edge = (edge.region.number, edge.region.facts)
 abbrev pub entries_of : List EdgeFields → List (ℕ × StoreFields)
 entries_of edges = map entry_of edges
 
--- the region has these settings, isn't sealed, and doesn't serve `/sync/`
+-- the region has these settings and isn't sealed
 abbrev pub IsOpen : SettingsFields → EdgeFields → Type 0
-IsOpen settings edge =
-    (edge.region.settings ≡ settings) × (edge.sealed ≡ false) × (edge.sync ≡ false)
+IsOpen settings edge = (edge.region.settings ≡ settings) × (edge.sealed ≡ false)
 
--- all regions have these settings, none is sealed, and none serves `/sync/`
+-- all regions have these settings, and none is sealed
 abbrev pub HaveSettings : SettingsFields → List EdgeFields → Type 0
 HaveSettings settings edges = AllByRecursion (IsOpen settings) edges

@@ -7,7 +7,7 @@ ghost use Rattle.tk_world.specs.Carrying.{in_place, Carries, Way};
 use crate::event::Outcome;
 use std::alloc::Global;
 use std::convert::Infallible;
-use tk_edge::Edge;
+use tk_edge::{Edge, Reach};
 use tk_handle::Moment;
 
 /// Carries requests to edges, and replies back.
@@ -22,7 +22,9 @@ pub trait Carrier {
     /// Hands a request to an edge, at a moment and with six random words, and returns the reply, or
     /// `Memory` if memory runs out.
     ///
-    /// The request is the bytes of a stream that then ends.
+    /// The request is the bytes of a stream that then ends. The carrier hands it over at
+    /// [`Reach::Admin`], also if it carries by sockets: the paths of clients and of operators are
+    /// served, and those below `/sync/` are unknown.
     ///
     /// # Errors
     ///
@@ -36,7 +38,6 @@ pub trait Carrier {
         bytes: &[u8],
     ) -> Result<Outcome, Self::Fault>
         requires sealed { edge.old.sealed ≡ false }
-        requires sync { edge.old.sync ≡ false }
         ensures { Carries way edge.old
             (record { now = now; words = words.now; bytes = bytes.now }) result edge.new };
 }
@@ -68,7 +69,7 @@ impl Carrier for InPlace {
         words: &[u64; 6],
         bytes: &[u8],
     ) -> Result<Outcome, Infallible> {
-        match edge.answer(self.alloc, now, words, bytes) {
+        match edge.answer(self.alloc, Reach::Admin, now, words, bytes) {
             Ok(answer) => Ok(Outcome::Reply {
                 status: answer.status,
                 bytes: answer.bytes,

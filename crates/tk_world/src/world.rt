@@ -12,8 +12,7 @@ use tk_region::{Region, Settings};
 pub struct World {
     alloc: Global,
     settings: Settings,
-    // The edges, ascending by number. Each has these settings, none is sealed, and none serves
-    // `/sync/`.
+    // The edges, ascending by number. Each has these settings, and none is sealed.
     regions: Vec<Edge>,
     // The bundles in the order of making. All facts that regions made are one set, for parts of
     // which regions and bundles stand.
@@ -248,7 +247,7 @@ impl World {
             Ok(_) => Outcome::NumberTaken,
             Err(at) => {
                 let region = Region::new(self.alloc, number, self.settings);
-                let edge = Edge::new(region, false, false);
+                let edge = Edge::new(region, false);
                 open_region(&mut self.regions, at, edge)
             }
         }

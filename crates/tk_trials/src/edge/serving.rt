@@ -1,10 +1,10 @@
 //! Connections over devices that fail: what each device holds then, and what the edge holds.
 
 use super::frail::{Fails, FrailSink, FrailSource};
-use super::new_edge;
 use super::talks::{EXCHANGE, PUSH, REGISTRATION, Talk};
+use super::{is_answered, new_edge};
 use std::alloc::Global;
-use tk_edge::{Counted, Discard, Edge, Fault, HEAD_LIMIT, Served, Sink, Source};
+use tk_edge::{Counted, Discard, Edge, Fault, HEAD_LIMIT, Reach, Served, Sink, Source};
 use tk_handle::Moment;
 use tk_message::StatusCode;
 
@@ -82,6 +82,7 @@ fn ends_at(
     let mut log = FrailSink::new(alloc, taken.max(1), log);
     let result = edge.serve_one_logging(
         alloc,
+        Reach::All,
         &mut reader,
         &mut writer,
         &mut log,
@@ -107,7 +108,7 @@ fn makes_fact(alloc: Global, edge: &mut Edge, request: &[u8]) -> bool {
     let Some(now) = Moment::new(1_000) else {
         return false;
     };
-    match edge.answer(alloc, now, &[0; 6], request) {
+    match edge.answer(alloc, Reach::All, now, &[0; 6], request) {
         Ok(answer) => {
             let is_made = answer.logged.is_some();
             drop(answer);
@@ -263,23 +264,6 @@ fn a_writer_that_fails_leaves_fact_and_record(rt: HostRuntime) {
     }
 }
 
-// Returns whether the bytes get this reply without devices, and make no record.
-fn is_answered(alloc: Global, edge: &mut Edge, bytes: &[u8], told: (StatusCode, &[u8])) -> bool {
-    let Some(now) = Moment::new(1_000) else {
-        return false;
-    };
-    let (status, reply) = told;
-    match edge.answer(alloc, now, &[0; 6], bytes) {
-        Ok(answer) => {
-            let is_bare = answer.logged.is_none();
-            let is_told = answer.status == status && answer.bytes.as_slice() == reply;
-            drop(answer);
-            is_bare && is_told
-        }
-        Err(_) => false,
-    }
-}
-
 // Returns whether the request is served without a log, and over std's own reader and writer.
 fn is_served_by_std(alloc: Global, edge: &mut Edge) -> bool {
     let Some(now) = Moment::new(1_000) else {
@@ -291,6 +275,7 @@ fn is_served_by_std(alloc: Global, edge: &mut Edge) -> bool {
     let mut buf = [0u8; HEAD_LIMIT];
     let result = edge.serve_one(
         alloc,
+        Reach::All,
         &mut reader,
         &mut writer,
         &mut log,
@@ -339,7 +324,7 @@ const HALF_AWAY: End = End { result: Err(Fault::Write), facts: 2, sealed: true, 
 // once, again and without devices, and a write that fails is a fault.
 fn life_at(alloc: Global, edge: &mut Edge) -> [bool; 8] {
     [
-        is_answered(alloc, edge, b"", (StatusCode::BadRequest, b"")),
+        is_answered(alloc, edge, Reach::All, b"", (StatusCode::BadRequest, b"")),
         ends_at(alloc, edge, &SILENT, STEPS, MUTE, &NOTHING),
         is_served_by_std(alloc, edge),
         ends_at(alloc, edge, &REGISTRATION, STEPS, UNLOGGABLE, &SEALED),
@@ -348,6 +333,7 @@ fn life_at(alloc: Global, edge: &mut Edge) -> [bool; 8] {
         is_answered(
             alloc,
             edge,
+            Reach::All,
             TURNED.request,
             (StatusCode::ServiceUnavailable, AWAY),
         ),

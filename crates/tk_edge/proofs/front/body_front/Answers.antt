@@ -2,10 +2,10 @@ use Rattle.tk_edge.proofs.FrontLaws.{may_come, posted_takes}
 use Rattle.tk_edge.proofs.front.body_front.Goals as goal
 
 pub returns-then-size-rest-clause-takes : goal.returns-then-size-rest-clause-takes
-returns-then-size-rest-clause-takes c = λ sync bytes pairs are long one.
-    rw (c.whole_front.ensures) (posted_takes sync bytes _ c.args.posted _ pairs c.lent.result one
+returns-then-size-rest-clause-takes c = λ reach bytes pairs are long one.
+    rw (c.whole_front.ensures) (posted_takes reach bytes _ c.args.posted _ pairs c.lent.result one
     (c.lent.ensures.came pairs are))
 
 pub returns-then-size-rest-clause-may : goal.returns-then-size-rest-clause-may
-returns-then-size-rest-clause-may c = λ sync post.
-    rw (c.whole_front.ensures) (may_come sync c.lent.result _ (c.lent.ensures.may sync post))
+returns-then-size-rest-clause-may c = λ reach post.
+    rw (c.whole_front.ensures) (may_come reach c.lent.result _ (c.lent.ensures.may reach post))

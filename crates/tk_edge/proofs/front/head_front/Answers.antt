@@ -15,26 +15,26 @@ pub returns-in-Query-clause-takes : goal.returns-in-Query-clause-takes
 returns-in-Query-clause-takes c = λ h at.
     let pairs = map name_and_value h.fields in
     let are : AreFields c.fields_of-fields.result pairs = rw at.fields at c.fields_of-fields.ensures in
-    let size = size_at c.args.sync h c.args.spans.len c.of-method.result.now c.of-target.result.now
+    let size = size_at c.args.reach h c.args.spans.len c.of-method.result.now c.of-target.result.now
     (Query c.in-Query.endpoint) at.len (c.of-method.ensures ∙ at.method)
     (c.of-target.ensures ∙ at.path) (sym c.in-Query.is ∙ c.judge-judged.ensures _ are) in
-    let stays = stays_at c.args.sync h c.args.spans.version c.of-method.result.now
+    let stays = stays_at c.args.reach h c.args.spans.version c.of-method.result.now
     c.of-target.result.now pairs c.judge-judged.result c.stays_by.result at.version
     (c.of-method.ensures ∙ at.method) (c.of-target.ensures ∙ at.path) refl
     (c.judge-judged.ensures pairs are) (c.stays_by.ensures pairs are) in
-    let one : IsOneRequest c.args.sync c.args.bytes.now
+    let one : IsOneRequest c.args.reach c.args.bytes.now
     (record { size = c.args.spans.len; stays = c.stays_by.result }) =
     (h, drop c.args.spans.len c.args.bytes.now, at.reads, sym (add-zero c.args.spans.len) ∙ size, stays) in
-    rw (c.whole_front.ensures) (request_takes c.args.sync c.args.bytes.now _ _ c.asked.result one (c.asked.ensures.came pairs are))
+    rw (c.whole_front.ensures) (request_takes c.args.reach c.args.bytes.now _ _ c.asked.result one (c.asked.ensures.came pairs are))
 
 pub returns-in-Vector-clause-takes : goal.returns-in-Vector-clause-takes
 returns-in-Vector-clause-takes c = λ h at.
     let pairs = map name_and_value h.fields in
     let are : AreFields c.fields_of-fields.result pairs = rw at.fields at c.fields_of-fields.ensures in
-    let size = size_at c.args.sync h c.args.spans.len c.of-method.result.now c.of-target.result.now
+    let size = size_at c.args.reach h c.args.spans.len c.of-method.result.now c.of-target.result.now
     Vector at.len (c.of-method.ensures ∙ at.method) (c.of-target.ensures ∙ at.path)
     (sym c.in-Vector.is ∙ c.judge-judged.ensures _ are) in
-    let stays = stays_at c.args.sync h c.args.spans.version c.of-method.result.now
+    let stays = stays_at c.args.reach h c.args.spans.version c.of-method.result.now
     c.of-target.result.now pairs c.judge-judged.result c.stays_by.result at.version
     (c.of-method.ensures ∙ at.method) (c.of-target.ensures ∙ at.path) refl
     (c.judge-judged.ensures pairs are) (c.stays_by.ensures pairs are) in
@@ -42,7 +42,7 @@ returns-in-Vector-clause-takes c = λ h at.
 
 pub returns-in-Vector-clause-may : goal.returns-in-Vector-clause-may
 returns-in-Vector-clause-may c =
-    subst (MayAsk c.args.sync) c.in-Vector.is (judged_may c.args.sync c.of-method.result.now
+    subst (MayAsk c.args.reach) c.in-Vector.is (judged_may c.args.reach c.of-method.result.now
     c.of-target.result.now _ _ _ c.fields_of-fields.ensures c.judge-judged.ensures)
 
 pub returns-in-Body-clause-came : goal.returns-in-Body-clause-came
@@ -50,7 +50,7 @@ returns-in-Body-clause-came c = λ h at.
     let pairs = map name_and_value h.fields in
     let are : AreFields c.fields_of-fields.result pairs = rw at.fields at c.fields_of-fields.ensures in
     same_front c.args.is_over _ _ c.body_front.result
-    (λ tail. judged_same c.args.sync h (drop c.args.spans.len c.args.bytes.now ++ tail)
+    (λ tail. judged_same c.args.reach h (drop c.args.spans.len c.args.bytes.now ++ tail)
     c.of-method.result.now c.of-target.result.now (Body c.in-Body.posted c.in-Body.size)
     (c.of-method.ensures ∙ at.method) (c.of-target.ensures ∙ at.path)
     (sym c.in-Body.is ∙ c.judge-judged.ensures _ are))
@@ -61,28 +61,28 @@ pub returns-in-Body-clause-takes : goal.returns-in-Body-clause-takes
 returns-in-Body-clause-takes c = λ h at.
     let pairs = map name_and_value h.fields in
     let are : AreFields c.fields_of-fields.result pairs = rw at.fields at c.fields_of-fields.ensures in
-    let size = size_at c.args.sync h c.args.spans.len c.of-method.result.now c.of-target.result.now
+    let size = size_at c.args.reach h c.args.spans.len c.of-method.result.now c.of-target.result.now
     (Body c.in-Body.posted c.in-Body.size) at.len (c.of-method.ensures ∙ at.method)
     (c.of-target.ensures ∙ at.path) (sym c.in-Body.is ∙ c.judge-judged.ensures _ are) in
-    let stays = stays_at c.args.sync h c.args.spans.version c.of-method.result.now
+    let stays = stays_at c.args.reach h c.args.spans.version c.of-method.result.now
     c.of-target.result.now pairs c.judge-judged.result c.stays_by.result at.version
     (c.of-method.ensures ∙ at.method) (c.of-target.ensures ∙ at.path) refl
     (c.judge-judged.ensures pairs are) (c.stays_by.ensures pairs are) in
-    let one : IsOneRequest c.args.sync c.args.bytes.now
+    let one : IsOneRequest c.args.reach c.args.bytes.now
     (record { size = c.args.spans.len + c.in-Body.size; stays = c.stays_by.result }) =
     (h, drop c.args.spans.len c.args.bytes.now, at.reads, size, stays) in
     let fits : c.args.spans.len ≤ length c.args.bytes.now = search rules in
-    c.body_front.ensures.takes c.args.sync c.args.bytes.now pairs are
+    c.body_front.ensures.takes c.args.reach c.args.bytes.now pairs are
     (rest_is_all c.args.bytes.now c.args.spans.len fits) one
 
 pub returns-in-Body-clause-fewer : goal.returns-in-Body-clause-fewer
 returns-in-Body-clause-fewer c =
-    let may = judged_may c.args.sync c.of-method.result.now c.of-target.result.now _ _ _
+    let may = judged_may c.args.reach c.of-method.result.now c.of-target.result.now _ _ _
     c.fields_of-fields.ensures c.judge-judged.ensures in
-    let fits = subst (MayAsk c.args.sync) c.in-Body.is may in
-    let small : c.in-Body.size ≤ body_limit c.args.sync =
-    size_within c.args.sync c.in-Body.posted c.in-Body.size fits.0 fits.1 in
-    let most : c.args.spans.len + c.in-Body.size ≤ request_limit c.args.sync =
+    let fits = subst (MayAsk c.args.reach) c.in-Body.is may in
+    let small : c.in-Body.size ≤ body_limit c.args.reach =
+    size_within c.args.reach c.in-Body.posted c.in-Body.size fits.0 fits.1 in
+    let most : c.args.spans.len + c.in-Body.size ≤ request_limit c.args.reach =
     omega (arith, small, c.requires.short) in
     let fits : c.args.spans.len ≤ length c.args.bytes.now = search rules in
     fewer_within _ _ _ _ c.body_front.result (sym (rest_is_all c.args.bytes.now c.args.spans.len fits))
@@ -90,6 +90,6 @@ returns-in-Body-clause-fewer c =
 
 pub returns-in-Body-clause-may : goal.returns-in-Body-clause-may
 returns-in-Body-clause-may c =
-    let may = judged_may c.args.sync c.of-method.result.now c.of-target.result.now _ _ _
+    let may = judged_may c.args.reach c.of-method.result.now c.of-target.result.now _ _ _
     c.fields_of-fields.ensures c.judge-judged.ensures in
-    c.body_front.ensures.may c.args.sync (subst (MayAsk c.args.sync) c.in-Body.is may).0
+    c.body_front.ensures.may c.args.reach (subst (MayAsk c.args.reach) c.in-Body.is may).0

@@ -4,15 +4,15 @@ use Rattle.tk_edge.proofs.HeadLaws.{no_head_of_none}
 use Rattle.tk_edge.proofs.front.nothing_front.Goals as goal
 
 pub returns-then-is_over : goal.returns-then-is_over
-returns-then-is_over c = λ sync.
+returns-then-is_over c = λ reach.
     let over : c.args.is_over ≡ true = search rules in
-    rw (c.ending.ensures) (silent_comes sync c.args.is_over over)
+    rw (c.ending.ensures) (silent_comes reach c.args.is_over over)
 
 pub returns-else-is_over : goal.returns-else-is_over
-returns-else-is_over c = λ sync.
+returns-else-is_over c = λ reach.
     let over : c.args.is_over ≡ false = search rules in
     record {
       unended = over;
       fewer = omega arith;
-      cut = λ came is. partial_cut sync [] no_head_of_none came is;
+      cut = λ came is. partial_cut reach [] no_head_of_none came is;
     }

@@ -6,18 +6,18 @@ use Rattle.tk_edge.specs.declared.tell.Fault.TheVariants.{Write, Log}
 use Rattle.tk_edge.proofs.serving.serve_arrival.Goals as goal
 
 pub returns-then-is_silent-clause-served : goal.returns-then-is_silent-clause-served
-returns-then-is_silent-clause-served g c = λ sync known arrives.
-    (hears_nothing sync known _ (c.is_silent.ensures.silent (search rules)) arrives, search rules)
+returns-then-is_silent-clause-served g c = λ reach known arrives.
+    (hears_nothing reach known _ (c.is_silent.ensures.silent (search rules)) arrives, search rules)
 
 pub returns-in-Ok-clause-served : goal.returns-in-Ok-clause-served
-returns-in-Ok-clause-served g c = λ sync known arrives.
-    served (record { sync = sync; refuses_ahead = c.args.refuses_ahead; log_taken = c.args.log_taken; known = known; now = c.args.now; words = c.args.words.now }) c.args.came
+returns-in-Ok-clause-served g c = λ reach known arrives.
+    served (record { reach = reach; refuses_ahead = c.args.refuses_ahead; log_taken = c.args.log_taken; known = known; now = c.args.now; words = c.args.words.now }) c.args.came
     c.args.region.now c.reply.new.region _ _ _ c.reply.new.sealed
     arrives (c.is_silent.ensures.spoke (search rules)) c.in-Ok.status c.in-Ok.ensures.replies
 
 pub returns-clause-served : goal.returns-clause-served
-returns-clause-served g c = λ sync known arrives.
-    faulted (record { sync = sync; refuses_ahead = c.args.refuses_ahead; log_taken = c.args.log_taken; known = known; now = c.args.now; words = c.args.words.now }) c.args.came
+returns-clause-served g c = λ reach known arrives.
+    faulted (record { reach = reach; refuses_ahead = c.args.refuses_ahead; log_taken = c.args.log_taken; known = known; now = c.args.now; words = c.args.words.now }) c.args.came
     c.args.region.now c.reply.new.region _ _ _ c.reply.new.sealed
     arrives (c.is_silent.ensures.spoke (search rules)) c.in-Err.fault c.in-Err.ensures.replies
 

@@ -7,15 +7,15 @@ returns-in-Ok-clause-served g c =
     let front = rw c.in-Ok-Came.field-0-is at c.in-Ok-Came.ensures in (
       (c.in-Ok-Came.came, front),
       λ tail follows.
-          c.in-Ok.ensures.served c.args.sync (Some (c.args.bytes.now ++ tail))
-          (front_arrives c.args.sync c.args.is_over c.args.bytes.now c.in-Ok-Came.came c.in-Ok-Came.taken
+          c.in-Ok.ensures.served c.args.reach (Some (c.args.bytes.now ++ tail))
+          (front_arrives c.args.reach c.args.is_over c.args.bytes.now c.in-Ok-Came.came c.in-Ok-Came.taken
           front tail follows),
     )
 
 pub returns-in-Err-serve_arrival-clause-served : goal.returns-in-Err-serve_arrival-clause-served
 returns-in-Err-serve_arrival-clause-served g c =
     let front = rw c.in-Ok-Came.field-0-is at c.in-Ok-Came.ensures in
-    λ tail follows. c.in-Err-serve_arrival.ensures.served c.args.sync
+    λ tail follows. c.in-Err-serve_arrival.ensures.served c.args.reach
     (Some (c.args.bytes.now ++ tail))
-    (front_arrives c.args.sync c.args.is_over c.args.bytes.now c.in-Ok-Came.came c.in-Ok-Came.taken
+    (front_arrives c.args.reach c.args.is_over c.args.bytes.now c.in-Ok-Came.came c.in-Ok-Came.taken
     front tail follows)

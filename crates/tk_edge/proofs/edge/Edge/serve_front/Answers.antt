@@ -16,7 +16,7 @@ returns-clause-served g c = λ unsealed.
     } in
     subst (λ (e : EdgeFields). IsFrontServed
     (record {
-      sync = e.sync;
+      reach = c.args.reach;
       refuses_ahead = e.refuses_ahead;
       log_taken = c.args.log_taken;
       known = None;

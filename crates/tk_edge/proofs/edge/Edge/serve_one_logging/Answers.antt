@@ -9,9 +9,9 @@ returns-in-Ok-clause-served g c = λ unsealed.
     let known = g.S.Source.coming c.args.reader.now in
     let log : Change = record { before = g.L.Sink.holds c.args.log.now; after = g.L.Sink.holds c.serve_arrival.new.log } in
     let writer : Change = record { before = g.W.Sink.holds c.args.writer.now; after = g.W.Sink.holds c.serve_arrival.new.writer } in
-    subst (λ (e : EdgeFields). IsServed (record { sync = e.sync; refuses_ahead = e.refuses_ahead; log_taken = c.args.log_taken; known = known; now = c.args.now; words = c.args.words.now })
+    subst (λ (e : EdgeFields). IsServed (record { reach = c.args.reach; refuses_ahead = e.refuses_ahead; log_taken = c.args.log_taken; known = known; now = c.args.now; words = c.args.words.now })
     (record { before = e.region; after = c.serve_arrival.new.region }) log (c.serve_arrival.new.log ≡ c.args.log.now) writer c.serve_arrival.new.sealed c.serve_arrival.result) c.self.view_is
-    (c.serve_arrival.ensures.served c.self.inside.sync known c.in-Ok.ensures.came)
+    (c.serve_arrival.ensures.served c.args.reach known c.in-Ok.ensures.came)
 
 pub returns-then-self-clause-untouched : goal.returns-then-self-clause-untouched
 returns-then-self-clause-untouched g c = search rules
