@@ -25,7 +25,7 @@ def filled(folder):
     text = text.replace("        listen 127.0.0.1:@FRONT@ ssl;\n",
                         "        listen 443 ssl;\n        listen [::]:443 ssl;\n")
     for name, value in (("DIR", folder), ("TOKEND", "127.0.0.1:9"), ("PAGE", "9"),
-                        ("INTROSPECT", "9009"), ("USER", "nobody")):
+                        ("INTROSPECT", "9009"), ("USER", "www-data")):
         text = text.replace("@%s@" % name, value)
     with open(folder + "/nginx.conf", "w", encoding="utf-8") as file:
         file.write(text)

@@ -14,11 +14,15 @@ OUT = os.path.join(TOP, "examples/scale-out")
 
 
 class Site(Child, Tokend):
-    """A site with a folder and a port of its own, or two sockets there; `child` is its run."""
+    """A site with a folder and a port of its own, or one or two sockets; `child` is its run.
 
-    def __init__(self, folder, first, count=99, has_sockets=False):
-        if has_sockets:
-            super().__init__(os.path.join(folder, "socket"), os.path.join(folder, "inner"))
+    The second socket is the inner one.
+    """
+
+    def __init__(self, folder, first, count=99, sockets=0):
+        if sockets:
+            inner = os.path.join(folder, "inner") if sockets == 2 else None
+            super().__init__(os.path.join(folder, "socket"), inner)
         else:
             super().__init__(free_port())
         self.folder, self.first = Path(folder), first

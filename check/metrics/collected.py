@@ -136,7 +136,7 @@ class Collected(Case):
 
     def test_a_site_with_sockets(self):
         """The server is found by its socket, also beside one that has another."""
-        one, two = self.begin(has_sockets=True), self.begin(101, has_sockets=True)
+        one, two = self.begin(sockets=2), self.begin(101, sockets=2)
         two.add(200)
         one.add(3)
         self.assertTrue(one.url.startswith("unix:"))

@@ -23,14 +23,14 @@ class AskedFront(Front):
 
     def by(self):
         """Whose requests each was, and which site replied, by HAProxy's log."""
-        return re.findall(r"^\S+ (?:GET|POST) \S+ \d+ (?:token-)?(\S+) ", self.said(), re.M)
+        return re.findall(r"^\S+ (?:GET|POST) \S+ \d+ (?:kept-)?(\S+) ", self.said(), re.M)
 
 
 @unittest.skipUnless(HAPROXY, "passed over: no HAProxy (apt-get install haproxy)")
 class Fronts(Case):
     def setUp(self):
         super().setUp()
-        self.sites = {name: self.site(FIRST[name], is_up=False, has_sockets=name == "two")
+        self.sites = {name: self.site(FIRST[name], is_up=False, sockets=name == "two")
                       for name in ("one", "two")}
         self.assertTrue(until(lambda: all(it.is_up() for it in self.sites.values())))
         copy_maps(self.folder)
@@ -206,18 +206,18 @@ class Kept(Case):
             self.assertEqual(self.status(path), 200)
         return made() - before
 
-    def test_connections_are_kept_but_for_those_of_token(self):
-        for path in "/introspect", "/revoke":
-            self.assertLessEqual(self.connections(path), 3, path)
-        self.assertGreaterEqual(self.connections("/token"), self.TIMES - 1)
-        self.assertEqual(self.site.asked.count("/token"), self.TIMES)
+    def test_introspections_alone_share_connections(self):
+        self.assertLessEqual(self.connections("/introspect"), 3)
+        for path in "/token", "/revoke":
+            self.assertGreaterEqual(self.connections(path), self.TIMES - 1)
+            self.assertEqual(self.site.asked.count(path), self.TIMES)
 
     def test_a_request_to_token_is_never_sent_twice(self):
         self.lost.add("/token")
         self.assertEqual(self.status("/token"), 502)
         self.assertEqual(self.site.asked.count("/token"), 1)
 
-    def test_other_requests_are_tried_again(self):
+    def test_an_introspection_is_tried_again(self):
         """As if the site had ended while a kept connection was used."""
         self.assertEqual(self.status("/introspect"), 200)
         self.lost.add("/introspect")
