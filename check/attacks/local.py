@@ -13,7 +13,7 @@ from lib.facts import clients
 
 FRONT, NOBODY = 33, 65534  # www-data of Debian, and nobody
 AS_USER = """
-import os, socket, sys
+import encodings.idna, os, socket, sys  # what a user may not read is read before
 uid, place, target = int(sys.argv[1]), sys.argv[2], sys.argv[3]
 os.setgroups([]); os.setgid(uid); os.setuid(uid)
 sys.stdin.close()
