@@ -28,6 +28,18 @@ try:
 except PermissionError:
     print("denied")
 """
+AS_THIEF = """
+import os, socket, sys
+uid, place = int(sys.argv[1]), sys.argv[2]
+os.setgroups([]); os.setgid(uid); os.setuid(uid)
+for attempt in (lambda: os.unlink(place), lambda: os.rename(place, place + "x"),
+                lambda: socket.socket(socket.AF_UNIX).bind(place + "x")):
+    try:
+        attempt()
+        print("done")
+    except OSError:
+        pass
+"""
 # what a page's form sends of itself: a browser asks nobody before
 FORM = ("POST /admin/client HTTP/1.1\r\nHost: 127.0.0.1:%d\r\nOrigin: https://evil.example\r\n"
         "Content-Type: application/x-www-form-urlencoded\r\nContent-Length: 55\r\n\r\n"
@@ -96,13 +108,9 @@ class Local(Case):
             self.skipTest("passed over: it takes root to be another user")
         it = self.at_sockets()
         it.stop()
-        script = "import os, socket, sys; u = int(sys.argv[1]); os.setgroups([]); os.setgid(u); " \
-            "os.setuid(u)\nfor do in (os.unlink, lambda p: socket.socket(socket.AF_UNIX).bind(p + " \
-            "'x'), lambda p: os.rename(p, p + 'x')):\n try:\n  do(sys.argv[2]); print('done')\n" \
-            " except OSError: pass"
         for uid in FRONT, NOBODY:
             for place in it.socket, it.inner:
-                done = subprocess.run([sys.executable, "-c", script, str(uid), place],
+                done = subprocess.run([sys.executable, "-c", AS_THIEF, str(uid), place],
                                       capture_output=True, text=True, check=True, cwd="/")
                 self.assertEqual(done.stdout, "", (uid, place))
         self.assertTrue(os.path.exists(it.socket))

@@ -93,7 +93,8 @@ class Sockets(Case):
         folder = os.path.join(self.folder, str(region))
         os.mkdir(folder, 0o700)
         words = ["--socket", folder + "/socket"]
-        return self.tokend(region, *items, options=words + is_inner * ["--inner", folder + "/inner"])
+        words += ["--inner", folder + "/inner"] if is_inner else []
+        return self.tokend(region, *items, options=words)
 
     def environ(self, server):
         """The settings of its site."""

@@ -31,7 +31,8 @@ class Tables(unittest.TestCase):
         self.assertEqual(len(table(*GOOD).sites), 3)
         for lines, why in (
                 ((dir1, a1, b1.replace("b1", "a1")), "the name a1 is there twice"),
-                ((dir1, a1, b1.replace(" 3 ", " 2 ")), "the place http://127.0.0.1:2 is there twice"),
+                ((dir1, a1, b1.replace(" 3 ", " 2 ")),
+                 "the place http://127.0.0.1:2 is there twice"),
                 ((dir1, a1.replace(" 2 ", " unix:s "), b1.replace(" 3 ", " unix:./s ")),
                  "the place unix:s is there twice"),
                 ((dir1, a1, b1.replace(" 3 ", " 0 ")), "0 is no range within 1-65535"),
