@@ -29,7 +29,7 @@ def compare_paths(name):
 def compare():
     listed = {re.search(r"\w+", it[0])[0]: it[-2] for it in rows(text_of(INDEX), "check | ")}
     same(INDEX, "the checks", folders(), sorted(listed))
-    run = re.findall(r"^check/(\w+)/run", text_of(GATE), re.M)
+    run = list(dict.fromkeys(re.findall(r"^check/(\w+)/run", text_of(GATE), re.M)))
     same(INDEX, "the checks of the gate", sorted(run),
          sorted(name for name, part in listed.items() if part.startswith("yes")))
     same(DOCUMENT, "the checks of the gate", run,

@@ -38,15 +38,17 @@ def of_sources():
     same(FAULT, "faults without a line of their own", {"Words": 2, "Output": 1}, statuses)
     for name in re.findall(r'EdgeFault::\w+ => say\(faults, &\[b"([^"\\]*)\\n"\]\)', server):
         errors[name] = None
-    output = {line_of(listen, name) for name in ("dropped_bytes", "pruned_facts", "port")}
+    names = re.findall(r"fn put_(dropped_bytes|pruned_facts|inner|port|path)<", listen)
+    output = {line_of(listen, name) for name in names}
     return output | {line_of(text_of(CHECK), "count")}, errors
 
 
 def line_of(listen, name):
-    """The line that a function prints, with a letter for its number."""
-    pieces = listen.split("fn put_%s<" % name, 1)[1].split("\n}\n", 1)[0].rsplit("&[", 1)[1]
-    found = re.findall(r'b"([^"]*)"|(\w+)', pieces.split("]", 1)[0])
-    letter = "P" if name == "port" else "N"
+    """The line that a function prints, with a letter for its number, or FILE for its path."""
+    body = listen.split("fn put_%s<" % name, 1)[1].split("\n}\n", 1)[0]
+    pieces = re.search(r'&\[(b"[^\]]*)\]', body)[1].replace(".as_bytes()", "")
+    found = re.findall(r'b"([^"]*)"|(\w+)', pieces)
+    letter = {"port": "P", "path": "FILE", "inner": "FILE"}.get(name, "N")
     return "".join(text or letter for text, _ in found).replace("\\n", "")
 
 

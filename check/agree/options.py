@@ -22,6 +22,8 @@ def range_in(text):
 
 
 def default_in(text, limits):
+    if text.startswith("or `--"):  # another option may be given in its place
+        return ""
     text = text.replace(",", "").strip("`")
     if text == "the greatest":
         return str(limits[1]) if limits else ""

@@ -24,7 +24,8 @@ def filled(folder):
         text = file.read()
     text = text.replace("        listen 127.0.0.1:@FRONT@ ssl;\n",
                         "        listen 443 ssl;\n        listen [::]:443 ssl;\n")
-    for name, value in ("DIR", folder), ("TOKEND", "9"), ("PAGE", "9"):
+    for name, value in (("DIR", folder), ("TOKEND", "127.0.0.1:9"), ("PAGE", "9"),
+                        ("INTROSPECT", "9009"), ("USER", "www-data")):
         text = text.replace("@%s@" % name, value)
     with open(folder + "/nginx.conf", "w", encoding="utf-8") as file:
         file.write(text)

@@ -23,6 +23,7 @@ class Carriers(Case):
         os.makedirs(units)
         shutil.copy(CARRY, units)
         shutil.copytree(os.path.join(TOP, "examples/carry"), commands)
+        shutil.copy(os.path.join(TOP, "starter/bases.py"), commands)
 
     def carrier(self, name, hub, *peers):
         """The unit of a file of two lines."""

@@ -85,7 +85,8 @@ class FrontedCase(Subjects):
 
     def logged(self):
         with open(self.file("haproxy.out"), encoding="utf-8") as file:
-            return re.findall(r"^\S+ (?:GET|POST) \S+ \d+ (\S+) ", file.read(), re.M)
+            return re.findall(r"^\S+ (?:GET|POST) \S+ \d+ (?:kept-)?(\S+) ", file.read(),
+                              re.M)
 
     def by(self):
         """Which backend and site replied to each request. HAProxy logs it after its reply."""

@@ -26,11 +26,12 @@ class CellsCase(Case):
         self.write_table(*self.sites)
 
     def write_table(self, *lines, **ports):
-        """Writes lines that lack ports, which are free ones or those given."""
+        """Writes lines that lack places: sockets, free ports for the directory, or those given."""
         found = []
         for line in lines:
             name, cell, *rest = line.split()
-            found.append(" ".join([name, cell, str(ports.get(name) or free_port()), *rest]))
+            place = free_port() if cell == "directory" else "unix:%s/socket" % name
+            found.append(" ".join([name, cell, str(ports.get(name) or place), *rest]))
         self.path = os.path.join(self.state, "table")
         with open(self.path, "w", encoding="ascii") as file:
             file.write("# a comment\n\n" + "".join(it + "\n" for it in found))
@@ -58,7 +59,8 @@ class CellsCase(Case):
 
     def server(self, name):
         """A site, to ask it itself."""
-        return Tokend(read_table(Path(self.path)).site(name).port)
+        it = read_table(Path(self.path)).site(name)
+        return Tokend(it.socket or int(it.place))
 
     def is_up(self, name):
         try:

@@ -50,8 +50,8 @@ class Moves(Subjects):
         far = self.subjects(16, 31, 1)[0]
         for it in ann, bob, joe, far:
             self.consent("a1", it)
-        self.consent("a1", ann, "read write")
         self.form("a1", "/admin/withdraw", consent_id=self.consent("a1", ann, "write"))
+        self.consent("a1", ann, "read write")
         gone = json.loads(self.form("dir1", "/admin/client", kind="public", scope="read",
                                     redirects=REDIRECT))["client_id"]
         self.done("carry", "--once")
@@ -132,7 +132,7 @@ class SignOuts(Subjects):
         self.up("dir1", "a1", "a2")
         status, output, _ = self.cells("sign-out", "--for", "0.1", "ann")
         self.assertEqual(status, 1)
-        self.assertIn("b: not yet: b1: Connection refused\n", output)
+        self.assertIn("b: not yet: b1: No such file or directory\n", output)
         self.up("b1")
         self.assertEqual(self.outs("b1"), {1})
 

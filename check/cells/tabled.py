@@ -31,7 +31,15 @@ class Tables(unittest.TestCase):
         self.assertEqual(len(table(*GOOD).sites), 3)
         for lines, why in (
                 ((dir1, a1, b1.replace("b1", "a1")), "the name a1 is there twice"),
-                ((dir1, a1, b1.replace(" 3 ", " 2 ")), "the port 2 is there twice"),
+                ((dir1, a1, b1.replace(" 3 ", " 2 ")),
+                 "the place http://127.0.0.1:2 is there twice"),
+                ((dir1, a1.replace(" 2 ", " unix:s "), b1.replace(" 3 ", " unix:./s ")),
+                 "the place unix:s is there twice"),
+                ((dir1, a1, b1.replace(" 3 ", " 0 ")), "0 is no range within 1-65535"),
+                ((dir1, a1, b1.replace(" 3 ", " unix: ")), "unix:: '' is no path of a socket"),
+                ((dir1, a1, b1.replace(" 3 ", " unix:a?b ")), "is no path of a socket"),
+                ((dir1, a1, b1.replace(" 3 ", " unix:" + "x" * 108 + " ")), "has over 107 bytes"),
+                ((dir1, a1, b1.replace("b1", "kept-a1")), "kept-a1 is no name for a site"),
                 ((dir1, a1, b1.replace("32-63", "31-63")), "the slot 31 is there twice"),
                 ((dir1, a1, b1.replace("200-", "199-")), "a1 and b1 share the number 199"),
                 ((dir1, a1, b1.replace("32-63", "33-63")), "no site has the slot 32"),
@@ -45,7 +53,7 @@ class Tables(unittest.TestCase):
                 ((dir1, a1, b1.replace("299", "65536")), "200-65536 is no range within 1-65535"),
                 ((dir1, a1, b1.replace("32-63", "63-32")), "63-32 is no range within 0-63"),
                 ((dir1, a1, b1.replace("63", "64")), "32-64 is no range within 0-63"),
-                ((dir1, a1, "b1 b 3 200-299"), "not site, cell, port, numbers and slots")):
+                ((dir1, a1, "b1 b 3 200-299"), "not site, cell, place, numbers and slots")):
             with self.subTest(why=why):
                 with self.assertRaisesRegex(Wrong, why):
                     table(*lines)
@@ -73,11 +81,14 @@ class Tables(unittest.TestCase):
             text = configuration(it, Path(folder), WORDS)
         self.assertNotRegex(text, "@[A-Z]+@")
         found = {name: re.findall(r"^    server (\w+) ", body, re.M) for name, body in re.findall(
-            r"^backend (\w+)\n((?:    .*\n)*)", text, re.M)}
-        self.assertEqual(found, {
-            "dir1": ["dir1"], "directory": ["dir1"], "a1": ["a1", "a2"], "a2": ["a2", "a1"],
-            "b1": ["b1", "b2"], "b2": ["b2", "b1"], "c1": ["c1", "c2"], "c2": ["c2", "c1"],
-            "any": ["a1", "a2", "b1", "b2", "c1", "c2"]})
+            r"^backend ([\w-]+)\n((?:    .*\n)*)", text, re.M)}
+        wanted = {"dir1": ["dir1"], "a1": ["a1", "a2"], "a2": ["a2", "a1"],
+                  "b1": ["b1", "b2"], "b2": ["b2", "b1"], "c1": ["c1", "c2"], "c2": ["c2", "c1"],
+                  "any": ["a1", "a2", "b1", "b2", "c1", "c2"]}
+        kept = {"kept-" + name: servers for name, servers in wanted.items()}
+        self.assertEqual(found, wanted | kept | {"directory": ["dir1"]})
+        bodies = re.findall(r"^backend ([\w-]+)\n((?:    .*\n)*)", text, re.M)
+        self.assertEqual({name for name, body in bodies if "http-reuse always" in body}, set(kept))
 
 
 class Settings(CellsCase):
@@ -86,8 +97,9 @@ class Settings(CellsCase):
         for name, first, peers in (("dir1", 1, []), ("a1", 100, ["a2", "dir1"]),
                                    ("a2", 200, ["a1", "dir1"]), ("b1", 300, ["dir1"])):
             said = dict(it.split("=", 1) for it in self.done("settings", name).splitlines())
+            place = "TOKEND_PORT" if name == "dir1" else "TOKEND_SOCKET"
             self.assertEqual(said, {
-                "TOKEND_PORT": url[name].rpartition(":")[2], "TOKEND_FIRST": str(first),
+                place: url[name].rpartition(":")[2], "TOKEND_FIRST": str(first),
                 "TOKEND_LAST": str(first + 98 + (name != "dir1")),
                 "TOKEND_PEERS": " ".join(url[it] for it in peers)})
 

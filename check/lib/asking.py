@@ -1,12 +1,15 @@
-"""asking: requests to an OAuth 2.0 server on 127.0.0.1, and what its replies have."""
+"""asking: requests to an OAuth 2.0 server of this machine, and what its replies have.
+
+A server's place is a port of 127.0.0.1, or the path of a Unix socket.
+"""
 import base64
 import contextlib
-import http.client
 import json
 import re
 import socket
 import urllib.parse
 
+from bases import UNIX, connection_to, read_base
 from lib import Broken
 from lib.facts import REDIRECT
 
@@ -44,27 +47,43 @@ def is_whole(said):
     return bool(end and length) and len(body) >= int(length[1])
 
 
-def connect(port, sent=b"", is_narrow=False, patience=60):
+def dial(place, patience=60):
+    """A connection to a place."""
+    if isinstance(place, int):
+        return socket.create_connection(("127.0.0.1", place), patience)
+    link = connection_to(read_base(url_of(place)), patience)
+    link.connect()
+    return link.sock
+
+
+def url_of(place):
+    """The base URL of a place."""
+    return "http://127.0.0.1:%d" % place if isinstance(place, int) else UNIX + place
+
+
+def connect(place, sent=b"", is_narrow=False, patience=60):
     """A connection that has sent this.
 
     A narrow one has room for little: of a long reply that its client doesn't read, the system takes
     some 50 KB, and not all of it as it does otherwise.
     """
-    peer = socket.socket()
-    peer.settimeout(patience)
-    if is_narrow:
+    if not is_narrow or not isinstance(place, int):  # a Unix socket has room for 200 KB
+        peer = dial(place, patience)
+    else:
+        peer = socket.socket()
+        peer.settimeout(patience)
         peer.setsockopt(socket.SOL_SOCKET, socket.SO_RCVBUF, 4096)
         peer.setsockopt(socket.IPPROTO_TCP, socket.TCP_MAXSEG, 536)
-    peer.connect(("127.0.0.1", port))
+        peer.connect(("127.0.0.1", place))
     peer.sendall(sent)
     return peer
 
 
-def exchange(port, sent, patience=60):
+def exchange(place, sent, patience=60):
     """What comes back of a connection that sends this and no more, until it ends or fails."""
     said = b""
     with contextlib.suppress(OSError):
-        with socket.create_connection(("127.0.0.1", port), patience) as peer:
+        with dial(place, patience) as peer:
             peer.sendall(sent)
             peer.shutdown(socket.SHUT_WR)
             while piece := peer.recv(65536):
@@ -88,35 +107,49 @@ def authorize(target, client_id):
 
 
 class Asked:
-    """A server that is asked. The fields without a value here are set once it is enrolled."""
+    """A server that is asked. The fields without a value here are set once it is enrolled.
 
-    port = client = resource = authorize = None
+    It has a port or a socket, and perhaps an inner socket, which gets what is for it alone.
+    """
+
+    port = socket = inner = client = resource = authorize = None
     introspect, token, revoke = "/introspect", "/token", "/revoke"  # targets
     subject = "X-Subject: ann"  # the header line of a browser that ann signed in with
     closing = ()  # header lines that have a server close after its reply
 
     @property
-    def url(self):
-        return "http://127.0.0.1:%d" % self.port
+    def place(self):
+        return self.socket or self.port
 
-    def link(self):
-        return http.client.HTTPConnection("127.0.0.1", self.port, timeout=30)
+    @property
+    def url(self):
+        """The base URL at which all paths are answered."""
+        return url_of(self.inner or self.place)
+
+    def place_of(self, target):
+        """The place at which a target is answered."""
+        is_inner = self.inner and re.match("/(admin|sync)/", target)
+        return self.inner if is_inner else self.place
+
+    def link(self, path=""):
+        return connection_to(read_base(url_of(self.place_of(path))), 30)
 
     def ask(self, path, body=None):
         """Status and body of the reply to a GET, or to a POST if there is a body."""
-        with contextlib.closing(self.link()) as link:
+        with contextlib.closing(self.link(path)) as link:
             link.request("POST" if body else "GET", path, body or None)
             reply = link.getresponse()
             return reply.status, reply.read()
 
     def ask_as(self, method, path, body=None, **fields):
         """Status, `Location` and body of the reply to a request with header fields."""
-        with contextlib.closing(self.link()) as link:
+        with contextlib.closing(self.link(path)) as link:
             return ask_over(link, method, path, body, **fields)
 
     def send(self, sent, patience=60):
         """The status of the reply to a request, which must be whole, and the reply."""
-        with socket.create_connection(("127.0.0.1", self.port), patience) as peer:
+        target = re.match(rb"[A-Z]+ (\S*)", sent)
+        with dial(self.place_of(target[1].decode() if target else ""), patience) as peer:
             peer.sendall(sent)
             said = self.hear(peer)
         if not is_whole(said):

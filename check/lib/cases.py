@@ -58,9 +58,9 @@ class Case(unittest.TestCase):
         until(lambda: what() == value)
         self.assertEqual(what(), value)
 
-    def site(self, first, *neighbours, options="", count=99, is_up=True, **more):
+    def site(self, first, *neighbours, options="", count=99, is_up=True, sockets=0, **more):
         """A site whose first region number is given, and its first run."""
-        site = Site(os.path.join(self.folder, str(first)), first, count)
+        site = Site(os.path.join(self.folder, str(first)), first, count, sockets)
         site.begin(neighbours, options, **more)
         self.addCleanup(site.stop)
         if is_up:

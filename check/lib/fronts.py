@@ -34,19 +34,25 @@ def copy_maps(folder):
         shutil.copy(os.path.join(OUT, name), folder)
 
 
+def address(place):
+    """A port or a socket, as HAProxy is given it."""
+    return "127.0.0.1:%d" % place if isinstance(place, int) else "unix@" + place
+
+
 class Front(Child):
     """HAProxy by examples/scale-out/haproxy.cfg, without TLS and without a limit of rates.
 
-    The folder has the maps. `ports` are those of sites by their names; the others aren't there.
+    The folder has the maps. `places` are ports or sockets of sites by their names; the others
+    aren't there.
     """
 
-    def __init__(self, folder, ports, subjects=()):
+    def __init__(self, folder, places, subjects=()):
         if not HAPROXY:
             raise Absent("no HAProxy (haproxy)")
         self.port, self.inner = free_port(), free_port()
         self.output = os.path.join(folder, "haproxy.out")
         words = {"DIR": folder, "INNER": self.inner, "RATE": 10**9}
-        words |= {name.upper(): ports.get(name) or free_port() for name in FIRST}
+        words |= {name.upper(): address(places.get(name) or free_port()) for name in FIRST}
         with open(os.path.join(OUT, "haproxy.cfg"), encoding="utf-8") as file:
             text = re.sub("@FRONT@ ssl .*", str(self.port), file.read())
         text = re.sub("@([A-Z]+)@", lambda it: str(words[it[1]]), text)

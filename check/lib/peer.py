@@ -44,6 +44,10 @@ class Peer:
                 super().setup()
                 peer.connections += 1
 
+            def handle(self):
+                with contextlib.suppress(ConnectionError):  # a client may end it as it likes
+                    super().handle()
+
             def do_GET(self):
                 with contextlib.suppress(ConnectionError):
                     self.close_connection = peer.answer(self)

@@ -17,6 +17,8 @@ from lib.facts import CURSOR, EMPTY_VECTOR, MARK, bundle, facts_of
 PATIENCE = 600  # seconds that a start with a long history may take
 FULL = 128  # items of a page that isn't the last
 SECRET, WORD = "s3cret", "res0urce"
+# where a server listens: at an inner socket, at a port, at a socket
+LISTENING = rb"(?:inner unix:(.*)\n)?listening (?:127\.0\.0\.1:(\d+)|unix:(.*))\n"
 
 
 def push(sent):
@@ -24,10 +26,11 @@ def push(sent):
 
 
 class Tokend(Asked):
-    """A region, by its port."""
+    """A region, by its place."""
 
-    def __init__(self, port):
-        self.port = port
+    def __init__(self, place, inner=None):
+        self.port, self.socket = (place, None) if isinstance(place, int) else (None, place)
+        self.inner = inner
 
     def push(self, items, horizon=None):
         """Status and body of the reply to one bundle."""
@@ -106,12 +109,12 @@ class Child:
 class Process(Child, Asked):
     """A child that prints where it listens, and its errors to a file of its folder."""
 
-    first_lines = re.compile(rb"(?:dropped \d+ bytes\n)?(?:pruned \d+\n)?"
-                             rb"listening 127\.0\.0\.1:(\d+)\n")
-    begin_with = b"dropped ", b"pruned ", b"listening "
+    first_lines = re.compile(rb"(?:dropped \d+ bytes\n)?(?:pruned \d+\n)?" + LISTENING)
+    begin_with = b"dropped ", b"pruned ", b"inner ", b"listening "
 
     def __init__(self, words, folder, errors="errors", **options):
         self.folder, self.errors_name, self.output = folder, errors, b""
+        self.cwd = options.get("cwd") or os.getcwd()
         with open(self.path(errors), "wb") as file:
             self.child = subprocess.Popen(words, **{
                 "stdin": subprocess.DEVNULL, "bufsize": 0, "stdout": subprocess.PIPE,
@@ -128,8 +131,8 @@ class Process(Child, Asked):
         return self.content(self.errors_name).decode(errors="replace")
 
     def open_connections(self):
-        """How many connections the child has open, which has one socket more: it listens."""
-        folder, count = "/proc/%d/fd" % self.child.pid, -1
+        """How many connections the child has open, beside those sockets at which it listens."""
+        folder, count = "/proc/%d/fd" % self.child.pid, -2 if self.inner else -1
         for name in os.listdir(folder):
             with contextlib.suppress(FileNotFoundError):  # it was closed meanwhile
                 count += os.readlink(os.path.join(folder, name)).startswith("socket:")
@@ -146,8 +149,13 @@ class Process(Child, Asked):
             lines = self.output.split(b"\n")[:-1]
             if not piece or not all(it.startswith(self.begin_with) for it in lines):
                 self.give_up(10 if is_there and not piece else 0)
-        self.port = int(found[1])
+        inner, port, path = found.groups()
+        self.inner, self.socket = (it and self.absolute(it.decode()) for it in (inner, path))
+        self.port = port and int(port)
         return self
+
+    def absolute(self, path):
+        return os.path.join(self.cwd, path)
 
     def give_up(self, seconds):
         """Ends it, unless it ends by itself within some seconds."""
@@ -165,14 +173,15 @@ class Server(Process, Tokend):
         """Starts it in a folder, or in one of its own; in an option, {} is that folder.
 
         With `load`, it loads these bytes and has a log. Words may stand before the program, of a
-        command that starts it.
+        command that starts it. Without --socket among the options it takes a free port.
         """
         self.own = None if folder else tempfile.TemporaryDirectory()
         folder = folder or self.own.name
         seed, old, log = (os.path.join(folder, it) for it in ("seed", "old", "log"))
         with open(seed, "wb") as file:
             file.write(self.seed())
-        words = [*before, program, "serve", "--region", str(region), "--port", "0", "--seed", seed]
+        place = [] if "--socket" in options else ["--port", "0"]
+        words = [*before, program, "serve", "--region", str(region), *place, "--seed", seed]
         if load is not None:
             with open(old, "wb") as file:
                 file.write(load)

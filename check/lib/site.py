@@ -5,6 +5,7 @@ import os
 import subprocess
 from pathlib import Path
 
+from bases import UNIX
 from lib import TOP, command
 from lib.server import Child, Tokend
 from lib.waiting import free_port
@@ -13,10 +14,17 @@ OUT = os.path.join(TOP, "examples/scale-out")
 
 
 class Site(Child, Tokend):
-    """A site with a folder and a port of its own; `child` is its run."""
+    """A site with a folder and a port of its own, or one or two sockets; `child` is its run.
 
-    def __init__(self, folder, first, count=99):
-        super().__init__(free_port())
+    The second socket is the inner one.
+    """
+
+    def __init__(self, folder, first, count=99, sockets=0):
+        if sockets:
+            inner = os.path.join(folder, "inner") if sockets == 2 else None
+            super().__init__(os.path.join(folder, "socket"), inner)
+        else:
+            super().__init__(free_port())
         self.folder, self.first = Path(folder), first
         self.numbers = "%d-%d" % (first, first + count - 1)
         for name in "log", "old":
@@ -30,10 +38,12 @@ class Site(Child, Tokend):
     def begin(self, neighbours=(), options="", before=(), script="scale-out/start", program=None):
         """Starts the next run. Its output goes to a file. A command may be put before it."""
         variables = {"TOKEND": program or command.GIVEN.program, "TOKEND_OPTIONS": options,
-                     "TOKEND_NEIGHBOURS": " ".join(str(it.folder) for it in neighbours)}
+                     "TOKEND_NEIGHBOURS": " ".join(str(it.folder) for it in neighbours),
+                     "TOKEND_INNER": self.inner or ""}
+        place = UNIX + self.socket if self.socket else str(self.port)
         with open(self.folder / "said", "ab") as said:
             self.child = subprocess.Popen(
-                [*before, os.path.join(TOP, "examples", script), str(self.folder), str(self.port),
+                [*before, os.path.join(TOP, "examples", script), str(self.folder), place,
                  self.numbers],
                 env=os.environ | variables, stdin=subprocess.DEVNULL, stdout=said, stderr=said)
         return self

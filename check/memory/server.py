@@ -37,7 +37,7 @@ def push(items):
 class Server(lib.server.Server):
     """A server on a free port, with a table by which its allocations fail. It may not start."""
 
-    first_lines = re.compile(rb"(?:pruned \d+\n)?listening 127\.0\.0\.1:(\d+)\n")
+    first_lines = re.compile(rb"(?:pruned \d+\n)?" + lib.server.LISTENING)
 
     def __init__(self, lab, region, load=b"", options="", **refusal):
         self.table = Table(lab.folder)

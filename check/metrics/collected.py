@@ -24,14 +24,15 @@ class Collected(Case):
         super().setUp()
         self.file = os.path.join(self.folder, "one.prom")
 
-    def begin(self, first=1):
-        return self.site(first)
+    def begin(self, first=1, **more):
+        return self.site(first, **more)
 
     def collect(self, site, peer_urls=(), **more):
         """Runs the command, and returns the values by metric and labels without the site."""
         first, last = site.numbers.split("-")
         status, output, errors = self.run_script(
-            COMMAND, "one", self.file, TOKEND_PORT=str(site.port), TOKEND_FIRST=first,
+            COMMAND, "one", self.file, TOKEND_PORT=str(site.port or ""), TOKEND_FIRST=first,
+            TOKEND_SOCKET=site.socket or "", TOKEND_INNER=site.inner or "",
             TOKEND_LAST=last, TOKEND_PEERS=" ".join(peer_urls), SITE_DIRECTORY=str(site.folder),
             RUN_DIRECTORY=self.folder, UNIT_DIRECTORY=self.folder, **more)
         self.assertEqual((status, output, errors), (0, "", ""))
@@ -105,12 +106,13 @@ class Collected(Case):
         time.sleep(max(0.0, horizon - time.time()))
         self.assertEqual(self.collect(one)["serves_clients"], 1)
 
-    def end_carrier(self, name, port, moment):
+    def end_carrier(self, name, url, moment):
         """What the unit of a carrier leaves when it has ended well."""
-        done = os.path.join(self.folder, "tokend-carry-" + name, "done.%d" % port)
+        done = os.path.join(self.folder, "tokend-carry-" + name, "done")
         os.makedirs(os.path.dirname(done), exist_ok=True)
-        with open(done, "w", encoding="utf-8"):
-            os.utime(done, (moment, moment))
+        with open(done, "w", encoding="utf-8") as file:
+            file.write(url + "\n")
+        os.utime(done, (moment, moment))
 
     def carriers(self, site, peer_urls):
         """When each carrier ended, by its name."""
@@ -122,23 +124,41 @@ class Collected(Case):
         one = self.begin()
         self.assertEqual(self.carriers(one, []), {})
         self.assertEqual(self.carriers(one, [one.url]), {"one": 0})
-        self.end_carrier("two", one.port, 1000)
-        self.end_carrier("three", one.port, 2000)
+        self.end_carrier("two", one.url, 1000)
+        self.end_carrier("three", one.url, 2000)
         self.assertEqual(self.carriers(one, [one.url]), {"two": 1000, "three": 2000})
 
     def test_carriers_of_another_site_are_not_claimed(self):
         one = self.begin()
-        self.end_carrier("one", one.port, 1000)
-        self.end_carrier("other", one.port + 1, 2000)
+        self.end_carrier("one", one.url, 1000)
+        self.end_carrier("other", one.url + "1", 2000)
         self.assertEqual(self.carriers(one, [one.url]), {"one": 1000})
+
+    def test_a_site_with_sockets(self):
+        """The server is found by its socket, also beside one that has another."""
+        one, two = self.begin(sockets=2), self.begin(101, sockets=2)
+        two.add(200)
+        one.add(3)
+        self.assertTrue(one.url.startswith("unix:"))
+        found = self.collect(one, [two.url])
+        self.assertEqual((found["up"], found["serves_clients"]), (1, 1))
+        self.assertEqual(found['facts,made_by="own"'], 3)
+        self.assertEqual(found['lag_facts,peer="%s",lacking="here"' % two.url], 200)
+        self.assertEqual(found["resident_bytes"], one.resident())
+        self.end_carrier("one", one.url, 1000)
+        self.assertEqual(self.carriers(one, [two.url]), {"one": 1000})
+        one.stop()
+        found = self.collect(one, [two.url])
+        self.assertEqual((found["up"], found["serves_clients"]), (0, 0))
+        self.assertNotIn("resident_bytes", found)
 
     def test_a_masked_carrier_is_none(self):
         """Whether or not it has run, and its folder is there."""
         one = self.begin()
         os.symlink("/dev/null", os.path.join(self.folder, "tokend-carry@one.timer"))
         self.assertEqual(self.carriers(one, [one.url]), {})
-        self.end_carrier("one", one.port, 1000)
-        self.end_carrier("two", one.port, 2000)
+        self.end_carrier("one", one.url, 1000)
+        self.end_carrier("two", one.url, 2000)
         self.assertEqual(self.carriers(one, [one.url]), {"two": 2000})
 
     @unittest.skipUnless(shutil.which("openssl"), "passed over: no openssl")

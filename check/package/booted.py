@@ -12,6 +12,9 @@ from lib.runbook import PAGE, chunks, sections
 
 CLIENT = "-d kind=public -d scope=read -d redirects=https://app.example/cb"
 CONFIGURATION = "TOKEND_PORT=%d\\nTOKEND_FIRST=%d\\nTOKEND_LAST=%d\\nTOKEND_PEERS=%s\\n"
+SOCKETS = "TOKEND_SOCKET=/run/tokend-front/one/socket\\nTOKEND_GROUP=www-data\\n" \
+    "TOKEND_INNER=/run/tokend/one/inner\\nTOKEND_FIRST=1\\nTOKEND_LAST=99\\nTOKEND_PEERS=\\n"
+FRONT, INNER = "/run/tokend-front/one/socket", "/run/tokend/one/inner"
 # in the place of await-clock, as a container may not ask for the state of the clock
 GIVES_UP = "[Service]\\nExecStart=\\nExecStart=/bin/sh -c \"sleep 6; exit 1\"\\n"
 SOON = 5  # seconds that a start takes without a wait for the clock
@@ -103,6 +106,37 @@ class Booted(unittest.TestCase):
         self.assertNotIn("go on with the program", self.install())
         self.do("systemctl start tokend@one")
         self.assertTrue(self.has_client("c1-1"))
+
+    def asked_as(self, user, path, place):
+        """The status of a user's request at a socket; 000 if there is no connection."""
+        return self.do("setpriv --reuid=%s --regid=$(id -g %s) --clear-groups curl -s -o /dev/null "
+                       "-w '%%{http_code}' --unix-socket %s http://localhost%s || true"
+                       % (user, user, place, path))
+
+    def test_sockets_are_for_the_front_end_and_for_the_units(self):
+        self.install()
+        self.do("printf '%s' >/etc/tokend/one.conf; systemctl enable --now tokend@one" % SOCKETS)
+        for user, place, path, wanted in (
+                ("www-data", FRONT, "/authorize", "400"), ("www-data", FRONT, "/admin/x", "404"),
+                ("www-data", FRONT, "/sync/vector", "404"),
+                ("www-data", INNER, "/sync/vector", "000"), ("nobody", FRONT, "/authorize", "000"),
+                ("nobody", INNER, "/sync/vector", "000"), ("tokend", INNER, "/sync/vector", "200")):
+            self.assertEqual(self.asked_as(user, path, place), wanted, (user, place, path))
+        self.assertEqual(self.do("grep -c ' 0A ' /proc/net/tcp || true"), "0\n")
+        self.do("curl -s --unix-socket %s http://localhost/admin/client %s" % (INNER, CLIENT))
+        for name in "carry", "backup", "compact", "metrics":
+            self.do("systemctl start tokend-%s@one" % name)
+        self.assertIn('tokend_up{site="one"} 1\n', self.metrics())
+        self.assertEqual(self.has_failed(), "")
+        self.do("kill -9 " + self.shown("MainPID"))
+        self.assertTrue(self.machine.until(lambda: self.asked_as(
+            "www-data", "/authorize", FRONT) == "400"))
+        self.do("systemctl restart tokend@one")
+        self.assertEqual(self.asked_as("www-data", "/authorize", FRONT), "400")
+        self.do("systemctl start tokend-compact@one")  # of the logs of two runs
+        self.assertRegex(self.do("journalctl -u tokend-compact@one -o cat"), r"2 files of \d+ bytes")
+        self.do("systemctl stop tokend@one")
+        self.assertEqual(self.do("find /run/tokend /run/tokend-front -name one"), "")
 
     def test_metrics_of_a_region_that_runs_and_of_one_that_ended(self):
         self.begin()

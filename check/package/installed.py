@@ -56,6 +56,20 @@ class Installed(unittest.TestCase):
                    % (port, first, first + 98, peers))
         return port
 
+    def configure_sockets(self, name="one", first=1, peers=""):
+        """A site that listens at sockets, whose folders its units would make: returns it."""
+        front, inner = (self.path("run/%s/%s" % (it, name)) for it in ("tokend-front", "tokend"))
+        os.makedirs(inner, 0o750, exist_ok=True)
+        status, said = run([self.path("usr/lib/tokend/front-folder"), front, inner,
+                            str(os.getegid())], env=os.environ | {"TOKEND_SOCKET": "x"})
+        self.assertEqual((status, said), (0, ""))
+        it = Tokend(front + "/socket", inner + "/inner")
+        self.write("etc/tokend/%s.conf" % name,
+                   "TOKEND_SOCKET=%s\nTOKEND_INNER=%s\nTOKEND_GROUP=%d\nTOKEND_FIRST=%d\n"
+                   "TOKEND_LAST=%d\nTOKEND_PEERS=%s\n"
+                   % (it.socket, it.inner, os.getegid(), first, first + 98, peers))
+        return it
+
     def unit(self, kind="tokend", site="one"):
         return Unit(self.root, kind + "@.service", site)
 
@@ -134,18 +148,66 @@ class Installed(unittest.TestCase):
         self.begin("two")
         self.begin()
         client = Tokend(one).add_client()
+        last = 'carry_timestamp_seconds{site="one",carrier="one"} '
+        self.assertIn(last + "0\n", self.metrics())
         status, said = self.unit("tokend-carry").run()
         self.assertEqual(status, 0, said)
         self.assertTrue(self.has_client(two, client))
-        last = 'carry_timestamp_seconds{site="one",carrier="one"} '
-        self.assertIn(last + "0\n", self.metrics())
-        self.assertEqual(self.unit("tokend-carry").run("ExecStartPost"), (0, ""))
         self.assertRegex(self.metrics(), last + r"\d+[.]")
         self.assertIn('tokend_facts{site="one",made_by="own"} 1\n', self.metrics())
         status, said = self.unit("tokend-backup").run()
         self.assertEqual(status, 0, said)
         self.assertIn(": 1 facts in ", said)
         self.assertEqual(len(glob.glob(self.path("var/lib/tokend-backup/one/*.otb"))), 1)
+
+    def test_each_unit_of_a_site_with_sockets_uses_the_inner_one(self):
+        self.install()
+        two = self.configure_sockets("two", 101)
+        one = self.configure_sockets(peers=two.url)
+        self.assertEqual(stat.S_IMODE(os.stat(os.path.dirname(one.socket)).st_mode), 0o2750)
+        self.begin("two")
+        child = self.begin()
+        for it in one.socket, one.inner:
+            self.assertEqual(stat.S_IMODE(os.stat(it).st_mode), 0o660)
+        client = one.add_client()
+        self.assertEqual(Tokend(one.socket).ask("/admin/client?client_id=" + client)[0], 404)
+        for kind in "carry", "backup", "compact":
+            status, said = self.unit("tokend-" + kind).run()
+            self.assertEqual(status, 0, said)
+        self.assertEqual(two.ask("/admin/client?client_id=" + client)[0], 200)
+        said = self.metrics()
+        for line in ('up{site="one"} 1', 'serves_clients{site="one"} 1',
+                     'facts{site="one",made_by="own"} 1'):
+            self.assertIn("tokend_%s\n" % line, said)
+        self.assertRegex(said, r'carry_timestamp_seconds\{site="one",carrier="one"\} \d+[.]')
+        self.assertRegex(said, r'tokend_resident_bytes\{site="one"\} [1-9]')
+        child.kill()
+        child.wait()
+        self.begin()  # over the sockets that the killed server left
+        self.assertEqual(one.ask("/admin/client?client_id=" + client)[0], 200)
+
+    def test_a_site_moves_from_a_port_to_sockets(self):
+        """Its file is all that changes; before that an upgrade changes nothing for it."""
+        self.install()
+        port = self.configure()
+        child = self.begin()
+        client = Tokend(port).add_client()
+        child.kill()
+        child.wait()
+        it = self.configure_sockets()
+        self.begin()
+        self.assertEqual(it.ask("/admin/client?client_id=" + client)[0], 200)
+        self.assertEqual(it.add_client(), "c2-1")
+
+    def test_a_folder_for_the_front_end_is_made_for_sockets_alone(self):
+        self.install()
+        script, like = self.path("usr/lib/tokend/front-folder"), self.path("var")
+        folder = self.path("run/tokend-front/one")
+        for environ, words, wanted in (
+                ({}, [folder, like, str(os.getegid())], 0), ({}, [folder], 2),
+                ({"TOKEND_SOCKET": "x"}, [folder, like, "no-such-group"], 1)):
+            self.assertEqual(run([script, *words], env=os.environ | environ)[0], wanted, words)
+            self.assertFalse(os.path.exists(folder) and not environ)
 
     def test_an_upgrade_keeps_all_and_stops_nothing(self):
         self.install()

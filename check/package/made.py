@@ -61,6 +61,7 @@ class Made(unittest.TestCase):
         for name in ("/usr/bin/tokend", "/usr/bin/tokend-start", "/usr/lib/tokend/tokend-start",
                      "/usr/lib/tokend/starting/site.py", "/usr/lib/tokend/carry",
                      "/usr/lib/tokend/backup", "/usr/lib/tokend/servers.py", "/etc/tokend/",
+                     "/usr/lib/tokend/bases.py", "/usr/lib/tokend/front-folder",
                      "/usr/lib/sysusers.d/tokend.conf", "/usr/share/man/man1/tokend.1.gz",
                      "/usr/share/man/man1/tokend-start.1.gz",
                      "/usr/share/doc/tokend/docs/OPERATING.md",

@@ -18,9 +18,11 @@ INPUTS, OUTPUTS = ("folder", "reset", "interrupted"), ("full", "shut", "interrup
 class Connection:
     """What a client does, and what it is to get."""
 
-    def __init__(self, pause, drip):
-        self.pause = pause  # how many milliseconds pass before the client connects
-        self.drip = drip  # how many pass between two bytes, how many it may be open, and the place
+    def __init__(self, coming):
+        self.pause = coming.get("--", 0)  # how many milliseconds pass before the client connects
+        # how many pass between two bytes, how many it may be open, and the place
+        self.drip = coming.get("-:")
+        self.socket = coming.get("-@")  # of the folder, if it isn't where the service listens
         self.sent = b""
         self.reply = []  # the texts that are to come back, each with its place
 
@@ -37,7 +39,7 @@ class Part:
         self.files = {}  # to each name its bytes
         self.afterwards = {}  # to each name what its bytes are to be then, as texts with places
         self.connections = []
-        self.coming = {}  # to the signs `--` and `-:` what they say of the next connection
+        self.coming = {}  # to the signs `--`, `-:` and `-@` what they say of the next connection
         self.beginnings, self.is_used = [], False
 
     def use(self):
@@ -164,9 +166,13 @@ def put_drip(part, text, place, known):
     put_coming(part, "-:", (gap, least, most, place), place)
 
 
+def put_socket(part, text, place, known):
+    put_coming(part, "-@", named(text, place)[0], place)
+
+
 def put_request(part, text, place, known):
     if not is_open(part):
-        part.connections.append(Connection(part.coming.get("--", 0), part.coming.get("-:")))
+        part.connections.append(Connection(part.coming))
         part.coming = {}
     part.connections[-1].sent += bytes_in(text, place)
 
@@ -182,7 +188,7 @@ FORMS = {
     "1>": lambda part, text, place, known: put_output(part, "1>", text, place),
     "2>": lambda part, text, place, known: put_output(part, "2>", text, place),
     "+": put_file, "=": put_afterwards, "->": put_request, "<-": put_reply,
-    "--": put_pause, "-:": put_drip,
+    "--": put_pause, "-:": put_drip, "-@": put_socket,
 }
 
 

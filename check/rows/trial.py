@@ -15,7 +15,7 @@ import termios
 import time
 
 SECONDS = 60
-LISTENING = re.compile(rb"^listening 127\.0\.0\.1:(\d+)\n", re.M)
+LISTENING = re.compile(rb"^listening (?:127\.0\.0\.1:(\d+)|unix:(\w+))\n", re.M)
 
 
 class Ran:
@@ -32,6 +32,11 @@ class Ran:
         """The port that a service told, as text."""
         told = LISTENING.search(self.output)
         return told and told[1]
+
+    def socket(self):
+        """The socket that a service told, as text."""
+        told = LISTENING.search(self.output)
+        return told and told[2]
 
 
 def reset_behind(sent):
@@ -137,9 +142,9 @@ def started(program, words, row, room, ends):
             stdout=ends.get("1>", subprocess.PIPE), stderr=ends.get("2>", subprocess.PIPE))
 
 
-def wait_for_port(process, ran):
-    """Reads on until the port is told. There may come none."""
-    while not ran.port():
+def wait_for_place(process, ran):
+    """Reads on until port or socket are told. There may come none."""
+    while not LISTENING.search(ran.output):
         ready, _, _ = select.select([process.stdout], [], [], SECONDS)
         piece = os.read(process.stdout.fileno(), 65536) if ready else b""
         if not piece:
@@ -169,12 +174,23 @@ def send_in_drips(connection, sent, gap):
             left = left[1:]
 
 
-def answered(port, wanted):
+def connected(room, ran, wanted):
+    """A connection to the socket of the folder that is wanted, or where the service listens."""
+    name = wanted.socket or (ran.socket() or b"").decode()
+    if not name:
+        return socket.create_connection(("127.0.0.1", int(ran.port())), SECONDS)
+    connection = socket.socket(socket.AF_UNIX)
+    connection.settimeout(SECONDS)
+    connection.connect(os.path.join(room, name))
+    return connection
+
+
+def answered(room, ran, wanted):
     """What comes back of a connection, and how many milliseconds it was open."""
     time.sleep(wanted.pause / 1000)
     said, begun = b"", time.monotonic()
     try:
-        with socket.create_connection(("127.0.0.1", port), SECONDS) as connection:
+        with connected(room, ran, wanted) as connection:
             sending = (send_in_drips(connection, wanted.sent, wanted.drip[0]) if wanted.drip
                        else send_at_once(connection, wanted.sent))
             for piece in sending:
@@ -184,12 +200,12 @@ def answered(port, wanted):
     return said, round((time.monotonic() - begun) * 1000)
 
 
-def talk(process, row, ran):
+def talk(process, row, room, ran):
     """Makes the row's connections, sends the program its events, and waits for its end."""
     if row.connections:
-        wait_for_port(process, ran)
-    for connection in row.connections if ran.port() else []:
-        said, lasted = answered(int(ran.port()), connection)
+        wait_for_place(process, ran)
+    for connection in row.connections if LISTENING.search(ran.output) else []:
+        said, lasted = answered(room, ran, connection)
         ran.replies.append(said)
         ran.lasted.append(lasted)
     sent = row.sent() if process.stdin else None
@@ -230,7 +246,7 @@ def run(program, words, row):
         with started(program, words, row, room, ends) as process:
             if halts:
                 interrupted(process, row, halts.values())
-            talk(process, row, ran)
+            talk(process, row, room, ran)
         taken = {sign: os.pread(end, 1 << 20, 0) for sign, end in ends.items()
                  if isinstance(row.devices[sign][0], int)}
         taken.update((sign, halt.taken()) for sign, halt in halts.items() if sign != "0<")

@@ -5,6 +5,7 @@ import unittest
 
 from lib.asking import basic
 from lib.cases import Case
+from lib.facts import ACCESS, handle
 from lib.fronts import FIRST, HAPROXY, Front, copy_maps
 from lib.server import Tokend
 from lib.waiting import until
@@ -21,18 +22,19 @@ class AskedFront(Front):
         return it.ask_as(method, path, body, **fields)
 
     def by(self):
-        """Which backend and site replied to each request, by HAProxy's log."""
-        return re.findall(r"^\S+ (?:GET|POST) \S+ \d+ (\S+) ", self.said(), re.M)
+        """Whose requests each was, and which site replied, by HAProxy's log."""
+        return re.findall(r"^\S+ (?:GET|POST) \S+ \d+ (?:kept-)?(\S+) ", self.said(), re.M)
 
 
 @unittest.skipUnless(HAPROXY, "passed over: no HAProxy (apt-get install haproxy)")
 class Fronts(Case):
     def setUp(self):
         super().setUp()
-        self.sites = {name: self.site(FIRST[name], is_up=False) for name in ("one", "two")}
+        self.sites = {name: self.site(FIRST[name], is_up=False, sockets=name == "two")
+                      for name in ("one", "two")}
         self.assertTrue(until(lambda: all(it.is_up() for it in self.sites.values())))
         copy_maps(self.folder)
-        self.front = AskedFront(self.folder, {name: it.port for name, it in self.sites.items()})
+        self.front = AskedFront(self.folder, {name: it.place for name, it in self.sites.items()})
         self.addCleanup(self.front.stop)
         self.front.await_port()
         # three and four aren't there, and HAProxy has noticed
@@ -170,3 +172,54 @@ class Fronts(Case):
         self.assertEqual(statuses[-8:], [200] * 8)
         self.assertLessEqual(len([it for it in statuses if it != 200]), 1, statuses)
         self.assertEqual(self.front.by()[-1], "one/one")
+
+
+@unittest.skipUnless(HAPROXY, "passed over: no HAProxy (apt-get install haproxy)")
+class Kept(Case):
+    """Connections between HAProxy and a stand-in for a site, which is asked about its tokens."""
+
+    TOKEN = handle(ACCESS, (FIRST["three"], 1))
+    TIMES = 30
+
+    def setUp(self):
+        super().setUp()
+        copy_maps(self.folder)
+        self.lost = set()  # paths whose requests get no reply
+        self.site = self.peer(lambda path, _: None if path in self.lost else b"{}")
+        self.front = AskedFront(self.folder, {"three": self.site.server.server_port})
+        self.addCleanup(self.front.stop)
+        self.front.await_port()
+        self.assertTrue(until(lambda: "/sync/vector" in self.site.asked))
+
+    def status(self, path):
+        form = {"token": self.TOKEN, "refresh_token": self.TOKEN, "grant_type": "refresh_token"}
+        if path == "/token":
+            del form["token"]
+        return self.front.ask("POST", path, form)[0]
+
+    def connections(self, path):
+        """How many connections some requests take, beside those of HAProxy's checks."""
+        def made():
+            return self.site.connections - self.site.asked.count("/sync/vector")
+        before = made()
+        for _ in range(self.TIMES):
+            self.assertEqual(self.status(path), 200)
+        return made() - before
+
+    def test_introspections_alone_share_connections(self):
+        self.assertLessEqual(self.connections("/introspect"), 3)
+        for path in "/token", "/revoke":
+            self.assertGreaterEqual(self.connections(path), self.TIMES - 1)
+            self.assertEqual(self.site.asked.count(path), self.TIMES)
+
+    def test_a_request_to_token_is_never_sent_twice(self):
+        self.lost.add("/token")
+        self.assertEqual(self.status("/token"), 502)
+        self.assertEqual(self.site.asked.count("/token"), 1)
+
+    def test_an_introspection_is_tried_again(self):
+        """As if the site had ended while a kept connection was used."""
+        self.assertEqual(self.status("/introspect"), 200)
+        self.lost.add("/introspect")
+        self.assertIn(self.status("/introspect"), (502, 503))
+        self.assertGreater(self.site.asked.count("/introspect"), 2)

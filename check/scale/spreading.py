@@ -54,7 +54,7 @@ class Spreads(Case):
         return one, two, spread
 
     def test_each_site_gets_what_the_others_make(self):
-        sites = [self.site(first) for first in (1, 101, 201)]
+        sites = [self.site(first, sockets=2 * (first == 101)) for first in (1, 101, 201)]
         spread = self.spread(*sites)
         for _ in range(3):
             for it in sites:

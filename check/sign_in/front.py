@@ -1,5 +1,6 @@
 """front: a region with a client, the pages, and nginx before both."""
 import contextlib
+import getpass
 import http.client
 import os
 import re
@@ -38,7 +39,9 @@ class FrontCase(Case):
     def setUp(self):
         super().setUp()
         os.chmod(self.folder, 0o711)  # nginx works as a user of its own
-        self.region, self.port = self.tokend(1), free_port()
+        self.make_folder()
+        self.region, self.port = self.tokend(1, options=(
+            "--socket", self.path("front/socket"), "--inner", self.path("inner"))), free_port()
         self.pages = free_port()
         self.begin_pages()
         self.begin_nginx()
@@ -48,6 +51,13 @@ class FrontCase(Case):
 
     def path(self, name):
         return os.path.join(self.folder, name)
+
+    def make_folder(self):
+        """Makes the folder of the socket, for nginx's workers."""
+        self.worker = "www-data" if os.geteuid() == 0 else getpass.getuser()
+        subprocess.run([TOP + "/examples/systemd/front-folder", self.path("front"), self.folder,
+                        self.worker if os.geteuid() == 0 else str(os.getegid())], check=True,
+                       env=os.environ | {"TOKEND_SOCKET": self.path("front/socket")})
 
     def begin(self, *words):
         child = subprocess.Popen(words, stdin=subprocess.DEVNULL, stdout=subprocess.DEVNULL,
@@ -62,7 +72,7 @@ class FrontCase(Case):
                                stdout=users, check=True)
         with open(self.path("names"), "w", encoding="utf-8") as names:
             names.write("c1-2:The calendar\nc1-3:<b>Mail</b>\n")
-        self.begin(FOLDER + "/sign-in", str(self.pages), str(self.region.port),
+        self.begin(FOLDER + "/sign-in", str(self.pages), self.region.url,
                    self.path("users"), self.path("names"))
 
     def begin_nginx(self):
@@ -70,7 +80,7 @@ class FrontCase(Case):
         with open(FOLDER + "/nginx.conf", encoding="utf-8") as file:
             text = file.read()
         for name, value in (("DIR", self.folder), ("FRONT", self.port), ("PAGES", self.pages),
-                            ("TOKEND", self.region.port)):
+                            ("TOKEND", "unix:" + self.region.socket), ("USER", self.worker)):
             text = text.replace("@%s@" % name, str(value))
         with open(self.path("nginx.conf"), "w", encoding="utf-8") as file:
             file.write(text)

@@ -104,10 +104,14 @@ class Clients:
         subject = "u%d" % self.dice.randrange(SUBJECTS)
         status, said, _ = self.post(region, "/admin/consent", client_id=client.id,
                                     subject=subject, scope=self.dice.choice(("read", "read write")))
-        if not self.wanted((201, 404), "a consent", status, said):
+        self.wanted((201, 200, 404), "a consent", status, said)
+        if status not in (200, 201):
             return None
-        self.consents.append(Consent(json.loads(said)["consent_id"], client, subject))
-        return self.consents[-1]
+        name = json.loads(said)["consent_id"]
+        held = next((it for it in self.consents if it.id == name), None)
+        if not held:  # a status of 200 has the id of one that is held
+            self.consents.append(held := Consent(name, client, subject))
+        return held
 
     def log_in(self, region):
         if self.consents and self.world.chance(0.85):

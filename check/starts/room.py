@@ -9,7 +9,7 @@ import time
 
 from lib import TOP, Broken
 from lib.facts import DOT, read_dot, retirement
-from lib.server import Process, Tokend
+from lib.server import LISTENING, Process, Tokend
 from lib.waiting import PATIENCE, free_port
 
 START = os.environ.get("STARTER") or os.path.join(TOP, "starter", "tokend-start")
@@ -45,7 +45,7 @@ class Child(Process, Tokend):
     """A process of this case, with what it prints in files."""
 
     begin_with = b""
-    first_lines = re.compile(rb"(?s:.*\n)?listening 127\.0\.0\.1:(\d+)\n(?s:.*)")
+    first_lines = re.compile(rb"(?s:.*?\n)??" + LISTENING + rb"(?s:.*)")
 
     def __init__(self, room, words, environ=(), folder=None):
         super().__init__(words, room.folder, errors="child-%d" % len(room.children),

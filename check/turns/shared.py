@@ -28,16 +28,17 @@ FREE = 1 << 62  # a number that no sync has
 
 
 class Running(Server):
-    """A server with the seed of the tests."""
+    """A server with the seed of the tests, at a port, or with --socket at a socket."""
 
     def __init__(self, *options, **more):
-        super().__init__(GIVEN.program, *options, **more)
+        place = ("--socket", "{}/socket") if GIVEN.socket else ()
+        super().__init__(GIVEN.program, *place, *options, **more)
 
     def seed(self):
         return SEED
 
     def connect(self, sent=b"", is_narrow=False):
-        return connect(self.port, sent, is_narrow, SECONDS)
+        return connect(self.place, sent, is_narrow, SECONDS)
 
 
 class Syncs:

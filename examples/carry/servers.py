@@ -15,13 +15,16 @@ import re
 import shlex
 import socket
 import ssl
+import sys
 import threading
 import time
-import urllib.parse
 from concurrent.futures import ThreadPoolExecutor
 from dataclasses import dataclass
+from pathlib import Path
 from typing import Callable, Iterator, Optional, TypeVar
 
+sys.path.insert(1, str(Path(__file__).resolve().parent.parent.parent / "starter"))
+from bases import Base, connection_to, read_base
 from bundles import (FROM_THE_START, MARK, MOST_BYTES, MOST_ITEMS, Bundle, Malformed, Vector,
                      read_bundle, read_dot, read_vector, write_pull)
 
@@ -70,7 +73,7 @@ class Access:
     connect_time: float = 10
     reply_time: float = 30
     pauses: tuple[float, ...] = PAUSES
-    proxy: Optional[urllib.parse.SplitResult] = None
+    proxy: Optional[Base] = None
     tls: Optional[ssl.SSLContext] = None
 
 
@@ -99,22 +102,27 @@ def read_access(command: str, urls: list[str], pauses: tuple[float, ...] = PAUSE
     return Access(it.connect_timeout, it.max_time, pauses, it.proxy, tls)
 
 
-def _read_proxy(text: str) -> urllib.parse.SplitResult:
+def _read_proxy(text: str) -> Base:
     """The URL of a proxy, or its host and port alone."""
     url = text if "://" in text else "http://" + text
     if not url.startswith("http://") or not is_base_url(url):
         raise argparse.ArgumentTypeError("not a proxy: " + text)
-    return urllib.parse.urlsplit(url)
+    return read_base(url)
 
 
 def is_base_url(text: str) -> bool:
-    """Whether a text is a base URL without query, fragment or name of a user."""
+    """Whether a text is a base URL, as bases.py has them."""
+    with contextlib.suppress(ValueError):
+        return bool(read_base(text))
+    return False
+
+
+def base_url(text: str) -> str:
+    """The base URL of an argument, without a slash at its end. `own` is spelt out."""
     try:
-        url = urllib.parse.urlsplit(text)
-        return bool(url.scheme in ("http", "https") and url.hostname and (url.port or 1)
-                    and not re.search(r"[\s?#@]", text))
-    except ValueError:
-        return False
+        return read_base(text).text
+    except ValueError as why:
+        raise argparse.ArgumentTypeError(str(why)) from why
 
 
 @dataclass(frozen=True)
@@ -178,7 +186,9 @@ class Server:
     def __init__(self, url: str, access: Access) -> None:
         self.url, self._access = url, access
         self.lead: Optional[float] = None
-        self._at = urllib.parse.urlsplit(url)
+        self._at = read_base(url)
+        # no proxy leads to a socket of this machine
+        self._proxy = None if self._at.is_socket else access.proxy
         self._link: Optional[http.client.HTTPConnection] = None
 
     def __enter__(self) -> Server:
@@ -257,15 +267,12 @@ class Server:
         return self._exchange(self._link, path, body)
 
     def _connect(self) -> http.client.HTTPConnection:
-        via = self._access.proxy or self._at
-        is_tls = self._at.scheme == "https"
-        given = {"timeout": self._access.connect_time}
-        if is_tls:
-            given["context"] = self._access.tls
-        maker = http.client.HTTPSConnection if is_tls else http.client.HTTPConnection
-        link = maker(via.hostname, via.port, **given)
-        if is_tls and self._access.proxy:
-            link.set_tunnel(self._at.hostname, self._at.port)
+        via, proxy = self._at, self._proxy
+        if proxy:
+            via = via._replace(host=proxy.host, port=proxy.port)
+        link = connection_to(via, self._access.connect_time, self._access.tls)
+        if proxy and self._at.scheme == "https":
+            link.set_tunnel(self._at.host, self._at.port)
         try:
             link.connect()
         except TimeoutError as why:
@@ -275,11 +282,11 @@ class Server:
 
     def _exchange(self, link: http.client.HTTPConnection, path: str,
                   body: Optional[bytes]) -> Reply:
-        target = self._at.path.rstrip("/") + path
+        target = self._at.target(path)
         fields = {} if body is None else dict(BYTES)
-        if self._access.proxy and self._at.scheme == "http":
-            target = "http://%s%s" % (self._at.netloc, target)
-            fields["Host"] = self._at.netloc
+        if self._proxy and self._at.scheme == "http":
+            target = self._at.text + path
+            fields["Host"] = self._at.authority
         with Limit(link.sock, self._access.reply_time) as limit:
             try:
                 moment = time.time()

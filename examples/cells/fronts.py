@@ -16,6 +16,7 @@ HERE = Path(__file__).resolve().parent
 SCALE_OUT = HERE.parent / "scale-out/haproxy.cfg"
 PATIENCE = 10  # seconds for HAProxy to listen
 CHECKED = "check observe layer7 error-limit 1 on-error mark-down"
+KEPT = "    http-reuse always\n"  # connections are kept, and used by all clients
 
 
 def replaced(text: str, old: str, new: str) -> str:
@@ -38,23 +39,33 @@ def common() -> str:
 
 
 def server(site: Site, rest: str) -> str:
-    return "    server %s 127.0.0.1:%d %s\n" % (site.name, site.port, rest)
+    return "    server %s %s %s\n" % (site.name, site.address, rest)
 
 
-def tracked(site: Site) -> str:
-    return server(site, "track %s/%s" % (site.name, site.name))
+def tracked(site: Site, prefix: str = "") -> str:
+    return server(site, "track %s%s/%s" % (prefix, site.name, site.name))
+
+
+def of_site(table: Table, site: Site, prefix: str, more: str) -> str:
+    """A site's backend, in which the other sites of its cell stand in."""
+    others = "".join(server(it, "track %s%s/%s backup" % (prefix, it.name, it.name))
+                     for it in table.beside(site))
+    return "\nbackend %s%s\n%s%s%s" % (prefix, site.name, more, server(site, CHECKED), others)
+
+
+def of_any(table: Table, prefix: str, more: str) -> str:
+    """The backend of requests that name no site, such as those with an unknown handle."""
+    return "\nbackend %sany\n%s    balance roundrobin\n%s" % (prefix, more, "".join(
+        tracked(it, prefix) for it in table.sites if not it.is_directory))
 
 
 def backends(table: Table) -> Iterator[str]:
-    """A backend for each site, in which the other sites of its cell stand in, and two more."""
-    for site in table.sites:
-        yield "\nbackend %s\n" % site.name + server(site, CHECKED)
-        for other in table.beside(site):
-            yield server(other, "track %s/%s backup" % (other.name, other.name))
+    """Two backends for each site, one of them for introspections, and three more."""
+    for prefix, more in ("", ""), ("kept-", KEPT):
+        for site in table.sites:
+            yield of_site(table, site, prefix, more)
+        yield of_any(table, prefix, more)
     yield "\nbackend directory\n" + "".join(map(tracked, table.directory))
-    yield "\n# requests that name no site, such as those with an unknown handle\n"
-    yield "backend any\n    balance roundrobin\n"
-    yield from (tracked(it) for it in table.sites if not it.is_directory)
 
 
 def configuration(table: Table, folder: Path, given: dict[str, str]) -> str:

@@ -11,6 +11,7 @@ import time
 import urllib.parse
 from typing import Iterable, Iterator, NamedTuple
 
+from bases import connection_to, read_base
 from bundles import Vector
 from servers import Lost, Server, pages
 from tables import NUMBERS, Site, Table, Wrong, slot_of
@@ -35,7 +36,7 @@ class Away(Wrong):
 
 def ask(site: Site, path: str, form: dict[str, str] | None = None) -> tuple[int, str]:
     """Status and body of a site's reply."""
-    link = http.client.HTTPConnection("127.0.0.1", site.port, timeout=TIME)
+    link = connection_to(read_base(site.url), TIME)
     with contextlib.closing(link):
         try:
             body = None if form is None else urllib.parse.urlencode(form)

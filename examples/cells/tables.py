@@ -9,6 +9,8 @@ from dataclasses import dataclass, replace
 from pathlib import Path
 from typing import Iterator
 
+from bases import UNIX, socket_path
+
 SLOTS = 64
 DIRECTORY = "directory"
 NUMBERS = range(1, 65_536)  # of regions
@@ -26,20 +28,32 @@ class Site:
 
     name: str
     cell: str
-    port: int
+    place: str  # a port of 127.0.0.1, or `unix:` and a path
     numbers: range
     slots: tuple[int, ...]
+    folder: Path = Path()  # that of the table, where relative paths begin
+
+    @property
+    def socket(self) -> str:
+        """The path of its socket, or nothing if it has a port."""
+        is_socket = self.place.startswith(UNIX)
+        return str(self.folder / self.place[len(UNIX):]) if is_socket else ""
 
     @property
     def url(self) -> str:
-        return "http://127.0.0.1:%d" % self.port
+        return UNIX + self.socket if self.socket else "http://127.0.0.1:" + self.place
+
+    @property
+    def address(self) -> str:
+        """Where HAProxy connects."""
+        return "unix@" + self.socket if self.socket else "127.0.0.1:" + self.place
 
     @property
     def is_directory(self) -> bool:
         return self.cell == DIRECTORY
 
     def __str__(self) -> str:
-        return "%-8s %-10s %-6d %-12s %s" % (self.name, self.cell, self.port, "%d-%d" % (
+        return "%-8s %-10s %-16s %-12s %s" % (self.name, self.cell, self.place, "%d-%d" % (
             self.numbers[0], self.numbers[-1]), write_slots(self.slots))
 
 
@@ -75,25 +89,36 @@ def write_slots(slots: tuple[int, ...]) -> str:
     return ",".join("%d-%d" % (it[0], it[-1]) if it[1:] else str(it[0]) for it in parts) or "-"
 
 
-def read_site(line: str) -> Site:
+def read_place(text: str, folder: Path) -> str:
+    """A port, or `unix:` and a path that can be a socket's."""
+    if not text.startswith(UNIX):
+        return str(read_range(text, range(1, 65_536))[0])
+    try:
+        socket_path(str(folder / text[len(UNIX):]) if text != UNIX else "")
+    except ValueError as why:
+        raise Wrong("%s: %s" % (text, why)) from why
+    return text
+
+
+def read_site(line: str, folder: Path = Path()) -> Site:
     words = line.split()
     if len(words) != 5:
-        raise Wrong("not site, cell, port, numbers and slots: %s" % line.strip())
-    name, cell, port, numbers, slots = words
+        raise Wrong("not site, cell, place, numbers and slots: %s" % line.strip())
+    name, cell, place, numbers, slots = words
     for it in name, cell:
-        if not re.fullmatch(NAME, it) or it in RESERVED:
+        if not re.fullmatch(NAME, it) or it in RESERVED or it.startswith("kept-"):
             raise Wrong("%s is no name for a site or a cell" % it)
-    return Site(name, cell, read_range(port, range(1, 65_536))[0], read_range(numbers, NUMBERS),
-                read_slots(slots))
+    return Site(name, cell, read_place(place, folder), read_range(numbers, NUMBERS),
+                read_slots(slots), folder)
 
 
 class Table:
-    """All sites. Each number, port, name and slot has one site."""
+    """All sites. Each number, place, name and slot has one site."""
 
     def __init__(self, sites: list[Site]) -> None:
         self.sites = sites
         for what, all_of in (("name", [it.name for it in sites]),
-                             ("port", [it.port for it in sites]),
+                             ("place", [it.url for it in sites]),
                              ("slot", [slot for it in sites for slot in it.slots])):
             twice = [it for it in all_of if all_of.count(it) > 1]
             if twice:
@@ -155,7 +180,7 @@ def read_table(path: Path) -> Table:
         lines = path.read_text(encoding="utf-8").splitlines()
     except OSError as why:
         raise Wrong("%s: %s" % (path, why.strerror)) from why
-    return Table([read_site(line) for line in (it.partition("#")[0] for it in lines)
+    return Table([read_site(line, path.parent) for line in (it.partition("#")[0] for it in lines)
                   if line.strip()])
 
 

@@ -1,4 +1,5 @@
-// page PORT URL CLIENT_ID: a page that needs an access token with the scope `read`.
+// page PORT URL CLIENT_ID: a page that needs an access token with the scope `read`. URL is a base
+// URL of tokend, such as https://auth.example or unix:/run/tokend-front/one/socket.
 //
 // Checker is the part to take over: it introspects at tokend, and lets a request pass only if the
 // token is active, is an access token, has not expired and has the scope. It fails closed: without
@@ -6,8 +7,10 @@
 package main
 
 import (
+	"context"
 	"encoding/json"
 	"fmt"
+	"net"
 	"net/http"
 	"net/url"
 	"os"
@@ -28,6 +31,20 @@ type Claims struct {
 type Checker struct {
 	URL, ClientID, Secret string
 	Client                http.Client
+}
+
+// NewChecker returns a checker that asks at a base URL.
+func NewChecker(base, clientID, secret string) *Checker {
+	transport := &http.Transport{Proxy: nil}
+	if strings.HasPrefix(base, "unix:") {
+		path := strings.TrimPrefix(base, "unix:")
+		transport.DialContext = func(ctx context.Context, _, _ string) (net.Conn, error) {
+			return new(net.Dialer).DialContext(ctx, "unix", path)
+		}
+		base = "http://localhost"
+	}
+	client := http.Client{Timeout: 5 * time.Second, Transport: transport}
+	return &Checker{strings.TrimRight(base, "/") + "/introspect", clientID, secret, client}
 }
 
 // Introspect returns what tokend reports of a token.
@@ -79,8 +96,7 @@ func (c *Checker) Protect(scope string, next func(http.ResponseWriter, Claims)) 
 }
 
 func main() {
-	client := http.Client{Timeout: 5 * time.Second, Transport: &http.Transport{Proxy: nil}}
-	checker := &Checker{os.Args[2], os.Args[3], os.Getenv("SECRET"), client}
+	checker := NewChecker(os.Args[2], os.Args[3], os.Getenv("SECRET"))
 	http.Handle("/page/", checker.Protect("read", func(w http.ResponseWriter, claims Claims) {
 		fmt.Fprintf(w, "Hello %s\n", claims.Subject)
 	}))

@@ -5,11 +5,18 @@ the status and the `WWW-Authenticate` of the reply. It fails closed: if tokend g
 another status than 200, nobody passes. Nothing is cached, so a revocation counts at once.
 """
 import base64
+import contextlib
+import http.client
 import json
+import sys
 import time
-import urllib.error
 import urllib.parse
-import urllib.request
+from pathlib import Path
+
+sys.path.insert(1, str(Path(__file__).resolve().parent.parent.parent / "starter"))
+from bases import connection_to, read_base
+
+FORM = "application/x-www-form-urlencoded"
 
 
 class Refused(Exception):
@@ -19,23 +26,29 @@ class Refused(Exception):
 
 
 class Checker:
-    """Introspects at `url` as the resource client of this id and secret."""
+    """Introspects as the resource client of this id and secret.
+
+    `url` is a base URL: that of the front end, or `unix:` and the path of a socket.
+    """
 
     def __init__(self, url, client_id, secret, timeout=5):
         pair = ":".join(urllib.parse.quote_plus(part) for part in (client_id, secret))
-        self.url, self.timeout = url, timeout
-        self.basic = "Basic " + base64.b64encode(pair.encode()).decode()
-        # no proxy: the token must not leave the inner network
-        self.opener = urllib.request.build_opener(urllib.request.ProxyHandler({}))
+        self.base, self.timeout = read_base(url), timeout
+        self.fields = {"Authorization": "Basic " + base64.b64encode(pair.encode()).decode(),
+                       "Content-Type": FORM}
 
     def introspect(self, token):
+        # no proxy is used: the token must not leave the inner network
         body = urllib.parse.urlencode({"token": token}).encode()
-        asked = urllib.request.Request(self.url, body, {"Authorization": self.basic})
         try:
-            with self.opener.open(asked, timeout=self.timeout) as reply:
-                return json.load(reply)
-        except (OSError, ValueError):  # also any status but 200
-            raise Refused(503) from None
+            with contextlib.closing(connection_to(self.base, self.timeout)) as link:
+                link.request("POST", self.base.target("/introspect"), body, self.fields)
+                reply = link.getresponse()
+                if reply.status == 200:
+                    return json.load(reply)
+        except (OSError, ValueError, http.client.HTTPException):
+            pass
+        raise Refused(503)
 
     def check(self, authorization, scope):
         """`authorization` is the request's field, or None; `scope` the scope-token it needs."""

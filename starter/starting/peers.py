@@ -8,8 +8,8 @@ import email.utils
 import http.client
 import signal
 import time
-import urllib.parse
 
+from bases import connection_to, read_base
 from starting.bundles import DOT, MOST_ITEMS, NoBundle, page_dots, vector_regions
 
 SILENCE, LONGEST = 6, 15  # seconds without a byte, and of one request
@@ -35,13 +35,6 @@ def at_most(seconds):
     finally:
         signal.setitimer(signal.ITIMER_REAL, 0)
         signal.signal(signal.SIGALRM, before)
-
-
-def connection_to(url):
-    kinds = {"http": http.client.HTTPConnection, "https": http.client.HTTPSConnection}
-    if url.scheme not in kinds or not url.hostname:
-        raise ValueError("it is no URL that begins with http:// or https://")
-    return kinds[url.scheme](url.hostname, url.port, timeout=SILENCE)
 
 
 def lead_over(date, moment):
@@ -76,11 +69,11 @@ class Peer:
         self.url, self.end, self.lead = url, end, None
 
     def ask(self, method, path, body=None):
-        url = urllib.parse.urlsplit(self.url)
+        base = read_base(self.url)
         with (at_most(min(LONGEST, self.end - time.monotonic())),
-              contextlib.closing(connection_to(url)) as connection):
+              contextlib.closing(connection_to(base, SILENCE)) as connection):
             moment = time.time()
-            connection.request(method, url.path.rstrip("/") + path, body,
+            connection.request(method, base.target(path), body,
                                {"Content-Type": "application/octet-stream"})
             reply = connection.getresponse()
             said = body_of(reply)

@@ -1,16 +1,18 @@
-"""The program that is started: what it says of a file, of options and of a port."""
+"""The program that is started: what it says of a file and of options, and where it listens."""
 import contextlib
 import os
 import re
 import signal
 import socket
+import stat
 import subprocess
 import time
 
 from starting.peers import FAULTS, Peer
-from starting.stop import FAILED, SETTINGS, Stop, no_log
+from starting.stop import FAILED, HELD, SETTINGS, Stop, no_log
 
 NOTHING = "/dev/null"
+ANY_PORT = "--port", "0"
 PAUSE = 0.2  # seconds between two questions whether it listens
 # what is passed unless TOKEND_OPTIONS has the option
 CHOICES = (("ahead", "refused"), ("revoke-unseen", "authenticated"), ("consent", "held"),
@@ -35,11 +37,11 @@ def said_of(name, options):
     return found[1] if found else ""
 
 
-def words(settings, number, port, load, log, secret, prune):
+def words(settings, number, places, load, log, secret, prune):
     pruned = [] if prune is None else ["--prune", str(prune)]
     chosen = [word for name, value in CHOICES if not said_of(name, settings.options)
               for word in ("--" + name, value)]
-    return [settings.tokend, "serve", "--region", str(number), "--port", str(port),
+    return [settings.tokend, "serve", "--region", str(number), *places,
             "--seed", "/dev/fd/%d" % secret, "--load", load, "--log", log, "--log-taken",
             *pruned, *chosen, *settings.options]
 
@@ -47,7 +49,8 @@ def words(settings, number, port, load, log, secret, prune):
 def tried(settings, number, load, prune=None):
     """What the program does with a file and the options, if it serves no connection."""
     with seed() as secret:
-        line = words(settings, number, 0, load, NOTHING, secret, prune) + ["--requests", "0"]
+        line = words(settings, number, ANY_PORT, load, NOTHING, secret, prune)
+        line += ["--requests", "0"]
         try:
             return subprocess.run(line, stdin=subprocess.DEVNULL, capture_output=True,
                                   text=True, errors="replace", pass_fds=[secret], check=False)
@@ -57,6 +60,8 @@ def tried(settings, number, load, prune=None):
 
 def check_options(settings):
     """Stops if the program refuses the options, or would do something else than serve."""
+    if any(re.match("--inner(=|$)", it) for it in settings.options):
+        raise Stop(SETTINGS, "the options are refused\n--inner: name that socket by TOKEND_INNER")
     done = tried(settings, settings.numbers[0], NOTHING, settings.prune())
     if done.returncode == 2:
         raise Stop(SETTINGS, "the options are refused\n" + done.stderr.strip())
@@ -75,6 +80,46 @@ def check_port(port):
             it.bind(("127.0.0.1", port))  # fails if another listens; nobody can connect meanwhile
         except OSError as why:
             raise Stop(FAILED, "port %d: %s" % (port, why)) from None
+
+
+def check_folder(folder):
+    """Stops if somebody else could put a socket into a folder."""
+    try:
+        it = os.stat(folder)
+    except OSError as why:
+        raise Stop(SETTINGS, "no folder for a socket: %s: %s" % (folder, why.strerror)) from None
+    if it.st_uid != os.geteuid():
+        raise Stop(SETTINGS, "%s belongs to another user, %d" % (folder, it.st_uid))
+    if it.st_mode & (stat.S_IWGRP | stat.S_IWOTH):
+        raise Stop(SETTINGS, "others may write to %s" % folder)
+
+
+def check_socket(path):
+    """Stops if a socket can't be listened at."""
+    check_folder(os.path.dirname(path))
+    if not os.path.lexists(path):
+        return
+    if not stat.S_ISSOCK(os.lstat(path).st_mode):
+        raise Stop(SETTINGS, "%s is no socket" % path)
+    with socket.socket(socket.AF_UNIX) as it:
+        it.settimeout(PAUSE)
+        try:
+            it.connect(path)
+        except ConnectionRefusedError:
+            return  # a server that has ended left it, and the next one removes it
+        except BlockingIOError:
+            pass  # so many wait to be accepted that there is no room
+        except OSError as why:
+            raise Stop(FAILED, "%s: %s" % (path, why.strerror)) from None
+    raise Stop(HELD, "somebody answers at %s" % path)
+
+
+def check_places(places):
+    """Stops if the server couldn't listen."""
+    if not places.socket:
+        check_port(places.port)
+    for path in places.sockets():
+        check_socket(path)
 
 
 def refuse(path, done):
@@ -114,7 +159,8 @@ def become(settings, number, load, log):
         signal.signal(kind, signal.SIG_DFL)
     with seed() as secret:
         os.set_inheritable(secret, True)
-        line = words(settings, number, settings.port, load, log, secret, settings.prune())
+        line = words(settings, number, settings.places.options(), load, log, secret,
+                     settings.prune())
         os.execv(line[0], line)
 
 
@@ -128,9 +174,8 @@ def is_running(process):
     return True
 
 
-def wait(port, process):
-    """Waits until a server replies on the port or the process ends: returns whether one replied."""
-    url = "http://127.0.0.1:%d" % port
+def wait(url, process):
+    """Waits until a server replies or the process ends: returns whether one replied."""
     while True:
         try:
             Peer(url, time.monotonic() + 60).regions()

@@ -5,6 +5,7 @@ import shutil
 import time
 import typing
 
+from bases import UNIX, own, socket_path
 from starting.stop import SETTINGS, Stop
 
 GREATEST = 65_535  # of region numbers and of ports
@@ -12,10 +13,25 @@ SECONDS = 60  # that all peers together may take
 LEAST_MARGIN = 86_400  # seconds: more than clocks of regions ever differ
 
 
+class Places(typing.NamedTuple):
+    """Where a run listens: at a socket, or at a port if that is empty; and at an inner socket."""
+    socket: str
+    port: int
+    inner: str
+
+    def sockets(self):
+        return [it for it in (self.socket, self.inner) if it]
+
+    def options(self):
+        """The options of the server for these."""
+        first = ["--socket", self.socket] if self.socket else ["--port", str(self.port)]
+        return first + (["--inner", self.inner] if self.inner else [])
+
+
 class Settings(typing.NamedTuple):
     """All of it, with names of files that are absolute."""
     folder: str
-    port: int
+    places: Places
     numbers: range
     tokend: str
     options: list
@@ -42,11 +58,15 @@ def given(environ, arguments):
     if not arguments:
         return environ
     if len(arguments) != 3:
-        raise Stop(SETTINGS, "usage: tokend-start [FOLDER PORT FIRST-LAST]")
-    folder, port, numbers = arguments
+        raise Stop(SETTINGS, "usage: tokend-start [FOLDER PORT|unix:PATH FIRST-LAST]")
+    folder, place, numbers = arguments
+    is_socket = place.startswith(UNIX)
+    if place == UNIX:
+        raise Stop(SETTINGS, "unix: has no path behind it")
     first, _, last = numbers.partition("-")
-    return {**environ, "STATE_DIRECTORY": folder, "TOKEND_PORT": port, "TOKEND_FIRST": first,
-            "TOKEND_LAST": last}
+    return {**environ, "STATE_DIRECTORY": folder, "TOKEND_FIRST": first, "TOKEND_LAST": last,
+            "TOKEND_PORT": "" if is_socket else place,
+            "TOKEND_SOCKET": place[len(UNIX):] if is_socket else ""}
 
 
 def command(text):
@@ -57,8 +77,30 @@ def command(text):
     return os.path.abspath(found)
 
 
-def port_of(environ):
-    return number(environ.get("TOKEND_PORT", ""), 1, GREATEST, "TOKEND_PORT")
+def path_in(environ, name):
+    """The absolute path of a socket that a variable names; nothing if it is empty."""
+    path = environ.get(name)
+    try:
+        return path and socket_path(os.path.abspath(path))
+    except ValueError as why:
+        raise Stop(SETTINGS, "%s: %s" % (name, why)) from None
+
+
+def places_of(environ):
+    """The sockets, or the port and perhaps an inner socket."""
+    it = Places(path_in(environ, "TOKEND_SOCKET"), 0, path_in(environ, "TOKEND_INNER"))
+    if it.socket and it.socket == it.inner:
+        raise Stop(SETTINGS, "TOKEND_SOCKET and TOKEND_INNER are one path")
+    text = environ.get("TOKEND_PORT", "")
+    if it.socket and text:
+        raise Stop(SETTINGS, "TOKEND_SOCKET and TOKEND_PORT are both set")
+    return it if it.socket else it._replace(port=number(text, 1, GREATEST, "TOKEND_PORT"))
+
+
+def url_of(environ):
+    """The base URL at which the site answers the starter."""
+    places_of(environ)
+    return own(environ)
 
 
 def main_process(environ):
@@ -88,7 +130,7 @@ def read(environ, arguments):
     last = number(environ.get("TOKEND_LAST", ""), first, GREATEST, "TOKEND_LAST")
     seconds = environ.get("TOKEND_PEER_SECONDS", str(SECONDS))
     return Settings(
-        os.path.abspath(folder), port_of(environ), range(first, last + 1),
+        os.path.abspath(folder), places_of(environ), range(first, last + 1),
         command(environ.get("TOKEND") or "tokend"), environ.get("TOKEND_OPTIONS", "").split(),
         peers_of(environ),
         number(seconds, 0, 86_400, "TOKEND_PEER_SECONDS"), margin_of(environ),
