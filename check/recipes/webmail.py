@@ -12,7 +12,7 @@ from http.cookiejar import CookieJar
 
 from app import example
 from lib.waiting import free_port, listens, until
-from mailbox import CAN, LACKING, MailCase
+from dovecot import CAN, LACKING, MailCase
 
 ROUNDCUBE, ETC = "/var/lib/roundcube/public_html", "/etc/roundcube"
 IS_HERE = shutil.which("php") and os.path.exists(ROUNDCUBE + "/index.php")
@@ -69,8 +69,8 @@ class Webmail(MailCase):
 
     def get(self, path):
         """Status, `Location` and text of a reply to the browser, which follows no redirect."""
-        opener = urllib.request.build_opener(
-            urllib.request.ProxyHandler({}), NoRedirect, urllib.request.HTTPCookieProcessor(self.jar))
+        opener = urllib.request.build_opener(urllib.request.ProxyHandler({}), NoRedirect,
+                                             urllib.request.HTTPCookieProcessor(self.jar))
         asked = urllib.request.Request(self.url + path, headers={
             "X-Roundcube-Request": getattr(self, "request_token", "")})
         try:

@@ -40,6 +40,22 @@ class InABrowser(FrontCase):
         it.open(front + self.wanted(scope="read"))
         self.assertEqual(it.text(), "welcome")
 
+    def test_an_application_that_asks_again_after_a_denial(self):
+        """It leads the browser from the denial to the next request at once: that ends at a page."""
+        it, front = self.browser, "https://127.0.0.1:%d" % self.port
+        app = self.peer(lambda path, body: (
+            302, {"Location": front + self.wanted(scope="read")}, b""))
+        self.client = self.add_client(app.url + "/cb")
+        it.open(front + self.wanted(scope="read"))
+        it.write("input[name=name]", "ann")
+        it.write("input[name=password]", WORDS["ann"])
+        it.click("button")
+        for _ in range(2):
+            self.assertTrue(it.says("asks for: read"))
+            it.click("button[value=no]")
+        self.assertTrue(it.says("asks for: read"))
+        self.assertEqual(len([it for it in app.asked if it.startswith("/cb?error=")]), 2)
+
     def test_a_form_of_another_site(self):
         """A page elsewhere that posts a consent: the cookie doesn't go with it."""
         it, front = self.browser, "https://127.0.0.1:%d" % self.port

@@ -1,9 +1,10 @@
-"""mailbox: dovecot with the files of examples/mail, whom it lets in, and mutt and curl there."""
+"""dovecot: whom it lets in with the files of examples/mail, and mail programs there."""
 import contextlib
 import fcntl
 import imaplib
 import os
 import pty
+import re
 import select
 import shutil
 import signal
@@ -79,6 +80,7 @@ sslcacertfile = %(folder)s/cert.pem
 auth_mechanisms = XOAUTH2
 oauth2_access_token_eval = token()
 """
+ASKING = "dovecot-oauth2.conf.ext"
 REFUSED, AWAY = "[AUTHENTICATIONFAILED]", "[UNAVAILABLE]"
 MECHANISMS = {"XOAUTH2": "user=%s\1auth=Bearer %s\1\1",
               "OAUTHBEARER": "n,a=%s,\1auth=Bearer %s\1\1"}
@@ -112,13 +114,20 @@ class MailCase(TokenCase):
         return os.path.join(self.folder, name)
 
     def fill(self, name, text):
+        for old, new in (("DIR", self.folder), ("ID", self.reader), ("SECRET", SECRET),
+                         ("TOKEND", self.region.port)):
+            text = text.replace("@%s@" % old, str(new))
         with open(self.path(name), "w", encoding="utf-8") as file:
-            file.write(text.replace("@DIR@", self.folder).replace("@WHO@", str(self.who)))
+            file.write(text)
+
+    def asking(self):
+        """How dovecot asks about a token."""
+        return example("mail/" + ASKING)
 
     def begin_dovecot(self):
         make_certificate(self.folder)
-        for name in "dovecot.conf", "dovecot-oauth2.conf.ext":
-            self.fill(name, example("mail/" + name))
+        self.fill("dovecot.conf", example("mail/dovecot.conf"))
+        self.fill(ASKING, self.asking())
         self.fill("base.conf", BASE % {"folder": self.folder, "port": self.imap}
                   + "!include dovecot.conf\n")
         for name in "cur", "new", "tmp":
@@ -197,18 +206,26 @@ class Mailbox(MailCase):
         self.region.stop()
         self.assertEqual(self.enter("ann", self.tokens["access_token"]), (AWAY, ""))
 
-    def test_tokend_itself_lets_refresh_tokens_in(self):
-        """Why `who` is between: no setting of dovecot refuses them."""
-        name = "dovecot-oauth2.conf.ext"
-        self.fill(name, "introspection_mode = post\nintrospection_url = http://%s:%s@127.0.0.1:%d"
-                  "/introspect\n" % (self.reader, SECRET, self.region.port)
-                  + "".join(it + "\n" for it in example("mail/" + name).splitlines()
-                            if not it.startswith("introspection_"))
-                  + "force_introspection = yes\nactive_attribute = token_type\n"
-                    "active_value = Bearer\n")
+    def test_without_its_line_a_refresh_token_gets_in(self):
+        """Not by the kind of the token as its activity, either."""
+        self.fill(ASKING, re.sub("pass_attrs = .*", "", self.asking()).replace(
+            "active_attribute = active", "active_attribute = token_type").replace(
+                "active_value = true", "active_value = Bearer"))
         subprocess.run([DOVECOT, "-c", self.path("base.conf"), "reload"], check=True)
-        self.assertEqual(self.enter("ann", self.tokens["access_token"]), ("OK", ""))
         self.assertEqual(self.enter("ann", self.tokens["refresh_token"]), ("OK", ""))
+
+
+class ByWho(Mailbox):
+    """The lines of the README that ask `who`."""
+
+    def asking(self):
+        lines = example("mail/README.md").partition(
+            "```\nintrospection_mode")[2].partition("```")[0]
+        self.assertIn("http://127.0.0.1:7005/", lines)
+        text = re.sub("(?m)^(introspection_.*|pass_attrs = .*)\n", "", super().asking())
+        return text + "introspection_mode" + lines.replace(":7005/", ":%d/" % self.who)
+
+    test_without_its_line_a_refresh_token_gets_in = None
 
 
 @unittest.skipUnless(CAN, LACKING)
@@ -219,7 +236,8 @@ class Programs(MailCase):
             done = subprocess.run(
                 ["curl", "-q", "-s", "--noproxy", "*", "-m", "30", "--cacert",
                  self.path("cert.pem"), "--user", "ann:", "--oauth2-bearer", token,
-                 "imaps://127.0.0.1:%d/" % self.imap], stdout=subprocess.PIPE, text=True, check=False)
+                 "imaps://127.0.0.1:%d/" % self.imap],
+                stdout=subprocess.PIPE, text=True, check=False)
             return done.returncode, done.stdout.strip()
         self.assertEqual(ask(self.call()[1]), (0, '* LIST (\\HasNoChildren) "." INBOX'))
         self.assertEqual(ask(self.tokens["refresh_token"]), (67, ""))
