@@ -4,8 +4,9 @@ import unittest
 import urllib.parse
 
 from app import CHALLENGE, VERIFIER, WORD, AppCase, example
-from front import IS_HERE, LACKING, WORDS
+from front import IS_HERE, LACKING, NGINX, WORDS
 from lib.browser import browser, need_browser
+from lib.waiting import free_port, listens, until
 
 ORIGIN = "https://app.example"
 OTHERS = ("https://evil.example", "https://app.example.evil", "http://app.example", "null",
@@ -110,6 +111,19 @@ class Origins(CorsCase):
             for origin in OTHERS:
                 said = self.asked_first(path, origin)
                 self.assertEqual((said.status, self.fields(said)), (405, {}), origin)
+
+    def test_the_other_front_end(self):
+        """That of examples/front-end takes the same lines."""
+        text, self.port = self.added(example("front-end/nginx.conf")), free_port()
+        for name, value in (("DIR", self.folder), ("FRONT", self.port), ("PAGE", free_port()),
+                            ("TOKEND", self.region.port)):
+            text = text.replace("@%s@" % name, str(value))
+        self.fill("other.conf", text.replace("nginx.pid", "other.pid"))
+        self.begin(NGINX, "-e", self.path("nginx.log"), "-c", self.path("other.conf"))
+        self.assertTrue(until(lambda: listens(self.port)))
+        self.test_no_other_origin_may()
+        self.test_what_a_browser_asks_first()
+        self.test_the_allowed_origin_may_read_replies()
 
 
 @unittest.skipUnless(IS_HERE, LACKING)

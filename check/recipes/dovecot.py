@@ -61,7 +61,7 @@ def token():
 """
 OFFLINE = """[general]
 accounts = ann
-pythonfile = %(folder)s/token.py
+pythonfile = %(folder)s/offline.py
 metadata = %(folder)s/metadata
 ui = quiet
 [Account ann]
@@ -269,7 +269,7 @@ class Programs(MailCase):
     def test_offlineimap(self):
         """It keeps its first refresh token, so it gets none, but the access token."""
         self.change(expiry=0)
-        self.fill("token.py", OFFLINE_TOKEN % (SCRIPT, self.file))
+        self.fill("offline.py", OFFLINE_TOKEN % (SCRIPT, self.file))
         self.fill("rc", OFFLINE % {"folder": self.folder, "port": self.imap})
         for _ in range(2):
             subprocess.run(["offlineimap", "-o", "-c", self.path("rc")], check=True,
