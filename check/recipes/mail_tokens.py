@@ -5,7 +5,6 @@ import os
 import signal
 import subprocess
 import threading
-import unittest
 import urllib.parse
 import urllib.request
 
