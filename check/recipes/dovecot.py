@@ -99,10 +99,11 @@ class MailCase(TokenCase):
         self.tokens = self.kept()
 
     def run_aside(self, *words, **options):
+        """Runs a program, which is ended with its children: PHP leaves its own behind."""
         child = subprocess.Popen(words, stdin=subprocess.DEVNULL, stdout=subprocess.DEVNULL,
-                                 stderr=subprocess.DEVNULL, **options)
+                                 stderr=subprocess.DEVNULL, start_new_session=True, **options)
         self.addCleanup(child.wait)
-        self.addCleanup(child.terminate)
+        self.addCleanup(os.killpg, child.pid, signal.SIGTERM)
 
     def begin_who(self):
         self.run_aside(TOP + "/examples/who/who", str(self.who), self.region.url + "/introspect",

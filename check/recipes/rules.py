@@ -15,7 +15,7 @@ PLACE = "https://app.example/cb"
 class Rules(Case):
     def setUp(self):
         super().setUp()
-        self.region = self.tokend(1, options=("--refresh", "3"))
+        self.region = self.tokend(1, options=("--refresh", "6"))
         self.client = self.add(kind="public")
 
     def add(self, **fields):
@@ -66,11 +66,11 @@ class Rules(Case):
     def test_a_refresh_token_that_has_expired_ends_nothing(self):
         reader = basic(self.add(kind="resource", secret="r3ader"), "r3ader")
         first = self.redeem(self.code())
-        time.sleep(2)
+        time.sleep(4)
         second = self.region.form("/token", {
             "grant_type": "refresh_token", "client_id": self.client,
             "refresh_token": first["refresh_token"]})
-        time.sleep(1.5)
+        time.sleep(3)
         revoke = {"client_id": self.client, "token": first["refresh_token"]}
         self.region.form("/revoke", revoke)
         for token in first["access_token"], second["access_token"], second["refresh_token"]:

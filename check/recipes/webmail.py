@@ -96,13 +96,15 @@ class Webmail(MailCase):
         return self.get("/?_task=mail&_action=list&_mbox=INBOX&_remote=1")
 
     def refreshed(self):
-        """Six requests at once after the access token's end: how many refreshes were sent, and
-        whether the login goes on."""
+        """Six requests at once after the access token's end: whether each refresh token was sent
+        once, and whether the login goes on."""
         time.sleep(3.5)
         before = self.sent()
         with ThreadPoolExecutor(6) as pool:
             list(pool.map(lambda _: self.list(), range(6)))
-        return self.sent() - before, "A first message" in self.list()[2]
+        self.assertGreater(self.sent(), before)
+        sent = [it for it in self.front.bodies if b"grant_type=refresh_token" in it]
+        return len(sent) == len(set(sent)), "A first message" in self.list()[2]
 
 
 class WithSessionsOfPhp(Webmail):
@@ -115,7 +117,7 @@ class WithSessionsOfPhp(Webmail):
     def test_requests_at_once_refresh_once(self):
         self.enter()
         for _ in range(4):
-            self.assertEqual(self.refreshed(), (1, True))
+            self.assertEqual(self.refreshed(), (True, True))
 
     def test_a_page_that_was_denied(self):
         """Roundcube shows its page to log in, which waits for a click."""
@@ -137,6 +139,6 @@ class WithSessionsOfTheDatabase(Webmail):
         for _ in range(8):
             self.jar.clear()
             self.enter()
-            if not self.refreshed()[1]:
+            if self.refreshed() == (False, False):
                 return
         self.fail("eight logins went on")
