@@ -200,8 +200,13 @@ class Mailbox(MailCase):
         self.assertEqual(link.noop()[0], "OK")
         subprocess.run(["doveadm", "-c", self.path("base.conf"), "kick", "ann"], check=True,
                        stdout=subprocess.DEVNULL)
-        with self.assertRaises((imaplib.IMAP4.abort, OSError)):
-            link.noop()
+        self.assertTrue(until(lambda: self.is_closed(link)))
+
+    def is_closed(self, link):
+        try:
+            return link.noop()[0] != "OK"
+        except (imaplib.IMAP4.abort, OSError):
+            return True
 
     def test_while_tokend_is_away(self):
         self.region.stop()
