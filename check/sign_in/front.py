@@ -78,7 +78,7 @@ class FrontCase(Case):
     def begin_nginx(self):
         make_certificate(self.folder)
         with open(FOLDER + "/nginx.conf", encoding="utf-8") as file:
-            text = file.read()
+            text = self.added(file.read())
         for name, value in (("DIR", self.folder), ("FRONT", self.port), ("PAGES", self.pages),
                             ("TOKEND", "unix:" + self.region.socket), ("USER", self.worker)):
             text = text.replace("@%s@" % name, str(value))
@@ -86,6 +86,10 @@ class FrontCase(Case):
             file.write(text)
         self.begin(NGINX, "-e", self.path("nginx.log"), "-c", self.path("nginx.conf"))
         self.tls = ssl.create_default_context(cafile=self.path("cert.pem"))
+
+    def added(self, text):
+        """The configuration of nginx, to which a test may add."""
+        return text
 
     def admin(self, path, **fields):
         """The value that a request to the region's administration returns."""

@@ -51,6 +51,19 @@ class Pages(FrontCase):
         self.assertRegex(said.place, "^https://app[.]example/cb[?]error=access_denied&state=")
         self.assertEqual(self.consents(), before)
 
+    def test_who_denied_is_asked_again_by_the_next_request(self):
+        """An application that goes on to ask after a denial gets a page, and no redirect."""
+        for client in self.client, self.add_public("https://app.example/cb"):
+            self.client = client
+            cookie, _ = self.sign_in()
+            path = self.wanted(code_challenge="a" * 43)
+            page = self.ask("GET", path, cookie)
+            self.ask("POST", "/consent", cookie, {
+                "csrf": page.hidden("csrf"), "next": page.hidden("next"), "allow": "no"})
+            said = self.ask("GET", path, cookie)
+            self.assertEqual((said.status, said.place), (200, ""))
+            self.assertIn("<h1>Allow ", said.body)
+
     def test_other_errors_go_to_the_application(self):
         cookie, _ = self.sign_in()
         said = self.ask("GET", self.wanted(scope="admin"), cookie)

@@ -1,8 +1,9 @@
 """Whether a request may pass: a resource server's question to tokend (RFC 7662, RFC 6750).
 
-`Checker.check` returns what introspection reports of a good access token, or raises `Refused` with
-the status and the `WWW-Authenticate` of the reply. It fails closed: if tokend gives no reply, or
-another status than 200, nobody passes. Nothing is cached, so a revocation counts at once.
+`Checker.check` returns the claims of a good access token, which are what introspection reports of
+it, or raises `Refused` with the status and the `WWW-Authenticate` of the reply. It fails closed: if
+tokend gives no reply, or another status than 200, nobody passes. Nothing is cached, so a revocation
+counts at once.
 """
 import base64
 import contextlib
@@ -50,8 +51,8 @@ class Checker:
             pass
         raise Refused(503)
 
-    def check(self, authorization, scope):
-        """`authorization` is the request's field, or None; `scope` the scope-token it needs."""
+    def claims(self, authorization):
+        """The claims of the access token in a request's `Authorization`, which may be None."""
         scheme, _, token = (authorization or "").partition(" ")
         if scheme.lower() != "bearer" or not token.strip():
             raise Refused(401, "Bearer")
@@ -61,6 +62,11 @@ class Checker:
             raise Refused(401, 'Bearer error="invalid_token"')
         if claims["exp"] <= time.time():
             raise Refused(401, 'Bearer error="invalid_token"')
+        return claims
+
+    def check(self, authorization, scope):
+        """The claims, if the access token has this scope-token too."""
+        claims = self.claims(authorization)
         if scope not in claims["scope"].split(" "):
             raise Refused(403, 'Bearer error="insufficient_scope", scope="%s"' % scope)
         return claims

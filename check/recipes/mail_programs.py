@@ -1,0 +1,142 @@
+"""mail_programs: programs that send by the tokens of examples/mail, and Debian's mutt_oauth2.py."""
+import base64
+import json
+import os
+import re
+import shutil
+import socket
+import ssl
+import subprocess
+import threading
+import unittest
+
+from app import example
+from lib.tls import OPENSSL, make_certificate
+from mail_tokens import SCRIPT, TokenCase
+
+NODEMAILER = "/usr/share/nodejs/nodemailer"
+NODE = """
+const [command, file, port] = process.argv.slice(1);
+const accessToken = String(require("child_process").execFileSync(command, [file])).trim();
+require("nodemailer").createTransport({
+    host: "127.0.0.1", port, secure: true, auth: {type: "OAuth2", user: "ann", accessToken}
+}).sendMail({from: "ann@example.org", to: "bob@example.org", subject: "x", text: "y"});
+"""
+OAUTH2 = "/usr/share/doc/mutt/examples/mutt_oauth2.py"
+
+
+def serve_smtp(listener, found):
+    """One session of a server that takes OAUTHBEARER: keeps what the client sends."""
+    replies = {"EHLO": "250-here\r\n250 AUTH OAUTHBEARER XOAUTH2", "AUTH": "235 2.7.0 in",
+               "DATA": "354 go on", "QUIT": "221 bye"}
+    link, _ = listener.accept()
+    with link, link.makefile("rwb") as stream:
+        stream.write(b"220 here\r\n")
+        stream.flush()
+        for line in stream:
+            word = line.decode().split()[0].upper() if line.strip() else ""
+            found.append(line.decode().strip())
+            if word == "DATA":
+                stream.write(b"354 go on\r\n")
+                stream.flush()
+                while stream.readline().strip() != b".":
+                    pass
+                word = ""
+            stream.write((replies.get(word, "250 ok") + "\r\n").encode())
+            stream.flush()
+            if word == "QUIT":
+                return
+
+
+class Programs(TokenCase):
+    def setUp(self):
+        super().setUp()
+        self.assertEqual(self.log_in(), (0, ""))
+        self.change(expiry=0)
+
+    def sending(self, send):
+        """A program sends a message to a server, by its port: it must log in by a good token."""
+        make_certificate(self.folder)
+        context = ssl.create_default_context(ssl.Purpose.CLIENT_AUTH)
+        context.load_cert_chain(self.folder + "/cert.pem", self.folder + "/key.pem")
+        found = []
+        with socket.create_server(("127.0.0.1", 0)) as plain, \
+                context.wrap_socket(plain, server_side=True) as listener:
+            threading.Thread(target=serve_smtp, args=(listener, found), daemon=True).start()
+            done = send(listener.getsockname()[1])
+        self.assertEqual((done.returncode, done.stderr), (0, ""))
+        said = base64.b64decode(next(it for it in found if it.startswith("AUTH ")).split()[2])
+        self.assertIn("\1auth=Bearer %s\1" % self.kept()["access_token"], said.decode())
+        self.assertTrue(self.is_active(self.kept()["access_token"]))
+        self.assertEqual(self.sent(), 1)
+
+    @unittest.skipUnless(shutil.which("msmtp") and OPENSSL, "passed over: no msmtp or no openssl")
+    def test_msmtp(self):
+        def send(port):
+            path = self.folder + "/msmtprc"
+            with open(os.open(path, os.O_WRONLY | os.O_CREAT, 0o600), "w") as file:
+                file.write(example("mail/msmtprc").replace("@TOKEN@", SCRIPT).replace(
+                    "@FILE@", self.file).replace("host mail.example", "host 127.0.0.1").replace(
+                        "port 465", "port %d" % port)
+                           + "tls_trust_file %s/cert.pem\n" % self.folder)
+            return subprocess.run(["msmtp", "-C", path, "bob@example.org"], text=True,
+                                  input="Subject: x\n\ny\n", capture_output=True, check=False)
+        self.sending(send)
+
+    @unittest.skipUnless(os.path.exists(NODEMAILER) and OPENSSL,
+                         "passed over: no node-nodemailer or no openssl")
+    def test_nodemailer(self):
+        """It keeps its first refresh token, so it gets none, but the access token."""
+        def send(port):
+            return subprocess.run(
+                ["node", "-e", NODE, SCRIPT, self.file, str(port)], text=True, capture_output=True,
+                check=False, env=os.environ | {"NODE_PATH": os.path.dirname(NODEMAILER),
+                                               "NODE_EXTRA_CA_CERTS": self.folder + "/cert.pem"})
+        self.sending(send)
+
+
+@unittest.skipUnless(os.path.exists(OAUTH2), "passed over: no " + OAUTH2)
+class MuttOauth2(TokenCase):
+    """Debian's script, which has no lock of its own."""
+
+    def setUp(self):
+        super().setUp()
+        with open(OAUTH2, encoding="utf-8") as file:
+            text = file.read()
+        for old, new in (("['gpg', '--encrypt', '--recipient', 'YOUR_GPG_IDENTITY']", "['cat']"),
+                         ("['gpg', '--decrypt']", "['cat']"),
+                         ("https://accounts.google.com/o/oauth2/token", self.front.url + "/token"),
+                         ("'urn:ietf:wg:oauth:2.0:oob'", "'%s'" % self.back),
+                         ("'scope': 'https://mail.google.com/'", "'scope': 'mail'"),
+                         ("'client_id': ''", "'client_id': '%s'" % self.client)):
+            self.assertIn(old, text)
+            text = text.replace(old, new, 1)
+        self.tokens = self.folder + "/ann.tokens"
+        self.words = ["python3", self.folder + "/mutt_oauth2.py", self.tokens]
+        with open(self.words[1], "w", encoding="utf-8") as file:
+            file.write(text)
+
+    def test_a_code_by_hand(self):
+        child = subprocess.Popen([*self.words, "--authorize"], text=True, stdin=subprocess.PIPE,
+                                 stdout=subprocess.PIPE)
+        child.stdin.write("google\nauthcode\nann\n")
+        child.stdin.flush()
+        while "?" not in (line := child.stdout.readline()) or "client_id" not in line:
+            self.assertTrue(line)
+        _, place, _ = self.region.ask_as("GET", "/authorize?" + line.strip().partition("?")[2], **{
+            "X-Subject": "ann"})
+        self.assertTrue(place.startswith(self.back), place)
+        said = child.communicate(re.search("code=([^&]+)", place)[1] + "\n", timeout=60)[0]
+        self.assertTrue(self.is_active(said.split()[-1]), said)
+
+    def test_calls_at_once_below_flock(self):
+        self.assertEqual(self.log_in(), (0, ""))
+        with open(os.open(self.tokens, os.O_WRONLY | os.O_CREAT, 0o600), "w") as file:
+            json.dump({"registration": "google", "authflow": "authcode", "email": "ann",
+                       "access_token": "", "access_token_expiration": "",
+                       "refresh_token": self.kept()["refresh_token"]}, file)
+        children = [subprocess.Popen(["flock", self.tokens, *self.words], text=True,
+                                     stdout=subprocess.PIPE) for _ in range(8)]
+        said = {child.communicate(timeout=60)[0].strip() for child in children}
+        self.assertEqual((len(said), self.sent()), (1, 1))
+        self.assertTrue(self.is_active(said.pop()))
