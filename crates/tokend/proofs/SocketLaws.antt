@@ -1,7 +1,6 @@
 -- What a connection through sockets does to an edge, as the carrying of a request. Key results:
 --   served_bytes         what came over a connection, and then ended, was served
 --   front_connection     what came over a connection was served as one
---   log_alone            a connection ends by a fault of the log only if serving its bytes did
 --   connection_answers   a connection that was answered has made the answer to some request
 use Rattle.std.specs.Prelude.{⊤}
 use Rattle.std.proofs.Common.{◌≡◌, ◌≢◌, Bool, true, false, List, ℕ, [], Option, None, Some, Result, Ok, Err, sym, subst, ◌∙◌, refl, append-nil}
@@ -20,7 +19,6 @@ use Rattle.tk_edge.specs.declared.hear.Arrival.{Arrival}
 use Rattle.tk_edge.specs.declared.hear.Arrival.TheVariants.{Silence}
 use Rattle.tk_edge.specs.declared.reach.Reach.TheVariants.{Admin}
 use Rattle.tk_edge.specs.declared.tell.Fault.{Fault}
-use Rattle.tk_edge.specs.declared.tell.Fault.TheVariants.{Log}
 use Rattle.tk_message.specs.declared.status_code.StatusCode.{StatusCode}
 use Rattle.tk_world.specs.AskedFields.{AskedFields}
 use Rattle.tk_world.specs.Carrying.{Makes}
@@ -76,15 +74,6 @@ module _ (now : ℕ) (words bytes : List ℕ) (old new : EdgeFields) (still : Ty
 
   pub front_connection : IsConnection now words bytes old new (end_of result)
   front_connection = of result h
-
--- a connection ends by a fault of the log only if serving its bytes did
-pub log_alone : (r : Result (Option (Served × Taken)) Fault) → end_of r ≡ Err Log → r ≡ Err Log
-log_alone (Ok (Some end)) e = absurd (cc)
-log_alone (Ok None) e = absurd (cc)
-log_alone (Err fault) e = absurd_or fault e
-  where
-    absurd_or : (fault : Fault) → Err fault ≡ Err Log → Err fault ≡ Err Log
-    absurd_or fault e = cc
 
 module _ (asked : AskedFields) (old new : EdgeFields) (unsealed : old.sealed ≡ false) where
   -- the answer to some request that isn't empty, of which this holds, was made

@@ -207,7 +207,11 @@ impl Connections {
     // Returns whether one more client waits and may be accepted, if `left` connections are still to
     // be served.
     fn has_room(&self, left: u64) -> bool {
-        self.undecided < left && self.doors.iter().any(|door| door.is_ready() && !door.is_full())
+        self.undecided < left
+            && self
+                .doors
+                .iter()
+                .any(|door| door.is_ready() && !door.is_full())
     }
 
     /// Lists the connections that have something to do.
@@ -317,7 +321,10 @@ impl Connections {
             }
             Step::Waits => {
                 let registry = self.poll.registry();
-                if connection.watch(registry, Token(place + DOORS), link).is_err() {
+                if connection
+                    .watch(registry, Token(place + DOORS), link)
+                    .is_err()
+                {
                     self.lose(place);
                 }
             }

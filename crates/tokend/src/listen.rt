@@ -107,12 +107,7 @@ fn bind_inner<R: Files + Net>(rt: &R, path: &Option<String>) -> Result<Option<Li
 }
 
 // Prints the lines before the first connection.
-fn announce<O: Write>(
-    output: &mut O,
-    opening: Opening,
-    at: &Addresses,
-    port: u16,
-) -> io::Result<()>
+fn announce<O: Write>(output: &mut O, opening: Opening, at: &Addresses, port: u16) -> io::Result<()>
     ensures { Prints result (O.contents output.old) (O.contents output.new)
         (announced opening at.now port) }
 {

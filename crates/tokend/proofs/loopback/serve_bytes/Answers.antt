@@ -1,6 +1,6 @@
-use Rattle.std.proofs.Common.{Some, ◌∙◌, rules, subst, sym}
+use Rattle.std.proofs.Common.{Some, subst, sym}
 use Rattle.tokend.specs.Connection.{IsConnection}
-use Rattle.tokend.proofs.SocketLaws.{front_connection, log_alone}
+use Rattle.tokend.proofs.SocketLaws.{front_connection}
 use Rattle.tokend.proofs.loopback.serve_bytes.Goals as goal
 
 pub returns-clause-connection : goal.returns-clause-connection
