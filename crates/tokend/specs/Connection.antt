@@ -1,5 +1,5 @@
--- What a connection by a socket of `loopback` does to an edge (own): the bytes that came over it are
--- served as the front of a stream that then ends.
+-- What a connection by a socket of `loopback` does to an edge (own): the bytes that came over it
+-- are served as the front of a stream that then ends.
 --   end_of          how a connection ended whose client has ended its side
 --   IsConnection    a connection, at a moment and with six random words, by its result
 use Rattle.std.specs.Prelude.{◌≡◌, ⊤, ℕ, true, false, List, Option, None, Some, Result, Ok, Err}

@@ -206,7 +206,8 @@ pub record Ends (old : Server) (bytes : List ℕ) (over : Bool) (outcome : Outco
 -- isn't told yet
 pub record Waits (old : Server) (bytes : List ℕ) (over : Bool) (replied logged : List ℕ)
     (new : Server) : Type 0 where
-  pub why : IsPartial (reach_by old.has_inner old.is_inner) bytes over ⊎ ((old.left ≡ 0) ⊎ (old.fault ≢ None))
+  pub why : IsPartial (reach_by old.has_inner old.is_inner) bytes over
+      ⊎ ((old.left ≡ 0) ⊎ (old.fault ≢ None))
   pub same : new ≡ old
   pub unreplied : replied ≡ []
   pub unlogged : logged ≡ []

@@ -21,8 +21,8 @@ const SOCKET_MODE: u32 = 0o660;
 /// The bits of a folder's mode by which others than its user may write it.
 const OTHERS_WRITE: u32 = 0o022;
 
-/// How many clients may wait to be accepted at a Unix socket. The system takes its own limit if that
-/// is less.
+/// How many clients may wait to be accepted at a Unix socket. The system takes its own limit if
+/// that is less.
 const MAX_WAITING: i32 = 4_096;
 
 /// Makes the socket of an address. Returns it with its port, or with 0 if it has none.

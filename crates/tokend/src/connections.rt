@@ -32,8 +32,8 @@ pub(crate) const TICK_MILLIS: u64 = 100;
 /// How many bytes one read takes at most.
 const PIECE: usize = 16_384;
 
-/// How many sockets are listened on at most. Their tokens are the first ones. A connection's token is
-/// greater by that than its place.
+/// How many sockets are listened on at most. Their tokens are the first ones. A connection's token
+/// is greater by that than its place.
 const DOORS: usize = 2;
 
 /// Why there is no table for connections.
@@ -286,8 +286,8 @@ impl Connections {
         }
     }
 
-    /// Sends the replies of a turn that ended at `now`. The requests that it left are decided in the
-    /// next one if `is_stopped`, which is whether the turn stopped early.
+    /// Sends the replies of a turn that ended at `now`. The requests that it left are decided in
+    /// the next one if `is_stopped`, which is whether the turn stopped early.
     pub(crate) fn send(&mut self, now: u64, is_stopped: bool) {
         for at in 0..self.listed.len() {
             let Some(place) = self.listed.get(at).copied() else {

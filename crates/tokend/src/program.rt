@@ -58,8 +58,8 @@ use tk_world::{Event, Outcome, Settings, World, print_outcomes};
 ///
 /// The first argument is the program's name. The status is 0 when done, 1 if memory or a device
 /// failed, 2 for bad arguments or a bad script, seed or log, and 3 if another server answers at the
-/// socket. A fault's line is written to `faults`, whose own failures are ignored. The output is written in small pieces and flushed at
-/// the end.
+/// socket. A fault's line is written to `faults`, whose own failures are ignored. The output is
+/// written in small pieces and flushed at the end.
 pub(crate) fn run_program<R, B, L, D, S, I, O, F>(
     rt: &R,
     folder: &D,
@@ -94,21 +94,24 @@ where
         × IsFaultFor (map S.text words.now) (I.remaining input.old) fault
         × Leaves (D.kept folder.now) (map S.text words.now) (I.remaining input.old) fault
         (O.contents output.old) (O.contents output.new)
-        × Tells fault (writer_of F.holds F.failed faults.old) (writer_of F.holds F.failed faults.new) }
+        × Tells fault (writer_of F.holds F.failed faults.old)
+        (writer_of F.holds F.failed faults.new) }
 
     // Status 2: the output has no new byte, or the lines before bad bytes of `facts`.
     ensures refused { result ≡ 2 → (fault : FaultValue) × (status_of fault ≡ 2)
         × IsFaultFor (map S.text words.now) (I.remaining input.old) fault
         × Leaves (D.kept folder.now) (map S.text words.now) (I.remaining input.old) fault
         (O.contents output.old) (O.contents output.new)
-        × Tells fault (writer_of F.holds F.failed faults.old) (writer_of F.holds F.failed faults.new) }
+        × Tells fault (writer_of F.holds F.failed faults.old)
+        (writer_of F.holds F.failed faults.new) }
 
     // Status 3: the output has no new byte.
     ensures in_use { result ≡ 3 → (fault : FaultValue) × (status_of fault ≡ 3)
         × IsFaultFor (map S.text words.now) (I.remaining input.old) fault
         × Leaves (D.kept folder.now) (map S.text words.now) (I.remaining input.old) fault
         (O.contents output.old) (O.contents output.new)
-        × Tells fault (writer_of F.holds F.failed faults.old) (writer_of F.holds F.failed faults.new) }
+        × Tells fault (writer_of F.holds F.failed faults.old)
+        (writer_of F.holds F.failed faults.new) }
 {
     finish(run(rt, folder, words, input, output, faults), faults)
 }
@@ -117,7 +120,8 @@ where
 pub(crate) fn finish<F: Sink>(ran: Result<(), Fault>, faults: &mut F) -> u8
     ensures { MatchResult ran (λ _. (result ≡ 0) × (faults.new ≡ faults.old))
         (λ fault. (result ≡ status_of fault)
-        × Tells fault (writer_of F.holds F.failed faults.old) (writer_of F.holds F.failed faults.new)) }
+        × Tells fault (writer_of F.holds F.failed faults.old)
+        (writer_of F.holds F.failed faults.new)) }
 {
     match ran {
         Ok(()) => 0,

@@ -32,7 +32,8 @@ pub(crate) struct Server {
 
 ghost use Rattle.std.specs.Prelude.{◌≡◌, ◌+◌, ◌<◌, ◌≤◌, ◌++◌, ℕ, List, Option, None, Ok, length};
 ghost use Rattle.tk_turn.specs.Outcomes.{goes_on};
-ghost use Rattle.tokend.specs.Decisions.{ended_if, outcome_by, reach_by, Decides, FrontDecides, IsReplied};
+ghost use Rattle.tokend.specs.Decisions.{ended_if, outcome_by, reach_by};
+ghost use Rattle.tokend.specs.Decisions.{Decides, FrontDecides, IsReplied};
 ghost use Rattle.tokend.specs.Decisions.{IsUnread, Seals};
 ghost use Rattle.tokend.specs.Serving.{connection_fault};
 ghost use Rattle.tokend.specs.Telling.{Writer, Writes, writer_of};

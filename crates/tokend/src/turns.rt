@@ -19,8 +19,8 @@ use tk_turn::{Link, take_turn};
 
 /// Serves as many connections as the server has left.
 ///
-/// A fault is a line on `faults`, whose own failures are ignored. If accepting, waiting or the clock
-/// fails, that counts as a connection with a read fault.
+/// A fault is a line on `faults`, whose own failures are ignored. If accepting, waiting or the
+/// clock fails, that counts as a connection with a read fault.
 pub(crate) fn serve_on<R: AllocGlobal + Clock, L: Sink, F: Sink>(
     rt: &R,
     connections: &mut Connections,
@@ -213,8 +213,8 @@ fn decide<L: Sink, F: Sink>(
     decide_at(links, inner_places, records, true, server, log, faults) || has_stopped
 }
 
-// Decides the requests at these places, which are those of the inner socket if `is_inner`, and writes
-// their records. Returns whether a fault stopped that.
+// Decides the requests at these places, which are those of the inner socket if `is_inner`, and
+// writes their records. Returns whether a fault stopped that.
 fn decide_at<L: Sink, F: Sink>(
     links: &mut Vec<Link>,
     places: &[usize],
