@@ -27,7 +27,7 @@ class AppCase(FrontCase):
         self.reader = self.admin("/admin/client", kind="resource", secret=WORD,
                                  scope="read", redirects="https://who.example/unused")
         self.begin("env", "SECRET=" + WORD, "PYTHONDONTWRITEBYTECODE=1",
-                   TOP + "/examples/who/who", str(self.who), self.region.url + "/introspect",
+                   TOP + "/examples/who/who", str(self.who), self.region.url,
                    self.reader)
         self.assertTrue(until(lambda: listens(self.who)))
         self.consent(self.client)

@@ -1,5 +1,6 @@
 """cors: which scripts may read what the front end of examples/browser replies."""
 import json
+import re
 import unittest
 import urllib.parse
 
@@ -12,6 +13,7 @@ ORIGIN = "https://app.example"
 OTHERS = ("https://evil.example", "https://app.example.evil", "http://app.example", "null",
           "https://app.example:444", "https://app.example/", "https://xapp.example")
 PREFIX = "Access-Control-"
+HTTPS = r"        listen [^\n]* ssl;\n"  # of the server that browsers reach
 
 
 class CorsCase(AppCase):
@@ -28,10 +30,10 @@ class CorsCase(AppCase):
         self.fill("origins.conf", example("browser/origins.conf").replace(ORIGIN, self.origin))
         self.fill("cors.conf", example("browser/cors.conf"))
         text = super().added(text)
-        for line, name in (("http {\n", "origins.conf"), ("    server {\n", "cors.conf"),
-                           ("        location @wrong {\n", "cors.conf")):
-            self.assertEqual(text.count(line), 1)
-            text = text.replace(line, line + "include %s;\n" % self.path(name))
+        for line, name in (("http {\n", "origins.conf"), (HTTPS, "cors.conf"),
+                           (r"        location @wrong {\n", "cors.conf")):
+            text, count = re.subn(line, r"\g<0>include %s;\n" % self.path(name), text)
+            self.assertEqual(count, 1)
         return text
 
     def fill(self, name, text):
@@ -116,7 +118,8 @@ class Origins(CorsCase):
         """That of examples/front-end takes the same lines."""
         text, self.port = self.added(example("front-end/nginx.conf")), free_port()
         for name, value in (("DIR", self.folder), ("FRONT", self.port), ("PAGE", free_port()),
-                            ("TOKEND", self.region.port)):
+                            ("INTROSPECT", free_port()), ("USER", self.worker),
+                            ("TOKEND", self.region.url.removeprefix("http://"))):
             text = text.replace("@%s@" % name, str(value))
         self.fill("other.conf", text.replace("nginx.pid", "other.pid"))
         self.begin(NGINX, "-e", self.path("nginx.log"), "-c", self.path("other.conf"))

@@ -106,7 +106,7 @@ class MailCase(TokenCase):
         self.addCleanup(os.killpg, child.pid, signal.SIGTERM)
 
     def begin_who(self):
-        self.run_aside(TOP + "/examples/who/who", str(self.who), self.region.url + "/introspect",
+        self.run_aside(TOP + "/examples/who/who", str(self.who), self.region.url,
                        self.reader, env=os.environ | {"SECRET": SECRET,
                                                       "PYTHONDONTWRITEBYTECODE": "1"})
         self.assertTrue(until(lambda: listens(self.who)))
