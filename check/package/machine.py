@@ -3,6 +3,7 @@
 Its tree is a Debian that debootstrap makes once, in build/debian or where DEBIAN_TREE says. What a
 test changes is in memory alone. Its network is its own, so its ports are nobody else's.
 """
+import contextlib
 import functools
 import os
 import shutil
@@ -98,7 +99,8 @@ class Machine:
     def end(self):
         """Ends the container, and all that is in it."""
         if self.first and self.child.poll() is None:
-            os.kill(self.first, signal.SIGRTMIN + 4)  # systemd powers off
+            with contextlib.suppress(ProcessLookupError):  # it may be ending by itself
+                os.kill(self.first, signal.SIGRTMIN + 4)  # systemd powers off
         try:
             self.child.wait(20)
         except subprocess.TimeoutExpired:
