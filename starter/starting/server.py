@@ -108,7 +108,7 @@ def check_socket(path):
         except ConnectionRefusedError:
             return  # a server that has ended left it, and the next one removes it
         except BlockingIOError:
-            pass  # so many wait to be accepted that there is no room
+            pass  # too many wait to be accepted
         except OSError as why:
             raise Stop(FAILED, "%s: %s" % (path, why.strerror)) from None
     raise Stop(HELD, "somebody answers at %s" % path)

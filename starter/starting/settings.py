@@ -1,4 +1,4 @@
-"""What a start is told: by its arguments and by variables of the environment."""
+"""The settings of a start: its arguments, and variables of the environment."""
 import os
 import re
 import shutil

@@ -53,7 +53,7 @@ def bytes_of(path):
 
 
 def copy_front(path, size, out):
-    """Appends so many bytes at the front of a file to another."""
+    """Appends the first `size` bytes of a file to another."""
     with open(path, "rb") as file:
         at = 0
         while at < size:
