@@ -186,14 +186,19 @@ class Installed(unittest.TestCase):
         self.begin()  # over the sockets that the killed server left
         self.assertEqual(one.ask("/admin/client?client_id=" + client)[0], 200)
 
-    def test_a_site_moves_from_a_port_to_sockets(self):
-        """Its file is all that changes; before that an upgrade changes nothing for it."""
+    def killed_site(self):
+        """Installs a site at a port, and kills it: its port, and a client that it has."""
         self.install()
         port = self.configure()
         child = self.begin()
         client = Tokend(port).add_client()
         child.kill()
         child.wait()
+        return port, client
+
+    def test_a_site_moves_from_a_port_to_sockets(self):
+        """Its file is all that changes; before that an upgrade changes nothing for it."""
+        _, client = self.killed_site()
         it = self.configure_sockets()
         self.begin()
         self.assertEqual(it.ask("/admin/client?client_id=" + client)[0], 200)
@@ -254,12 +259,7 @@ class Installed(unittest.TestCase):
                              {"passwd", "group", "shadow", "gshadow", ".pwd.lock"}, left)
 
     def test_after_a_purge_a_site_goes_on_under_its_next_number(self):
-        self.install()
-        port = self.configure()
-        child = self.begin()
-        client = Tokend(port).add_client()
-        child.kill()
-        child.wait()
+        port, client = self.killed_site()
         self.dpkg("--purge", "tokend")
         self.install("0.1.1")
         self.configure(port=port)

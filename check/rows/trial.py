@@ -29,12 +29,12 @@ class Ran:
         self.files = {}  # what each file of the row's had then, if it was there
 
     def port(self):
-        """The port that a service told, as text."""
+        """The port that a service printed, as text."""
         told = LISTENING.search(self.output)
         return told and told[1]
 
     def socket(self):
-        """The socket that a service told, as text."""
+        """The socket that a service printed, as text."""
         told = LISTENING.search(self.output)
         return told and told[2]
 
@@ -143,7 +143,7 @@ def started(program, words, row, room, ends):
 
 
 def wait_for_place(process, ran):
-    """Reads on until port or socket are told. There may come none."""
+    """Reads on until port or socket are printed. There may come none."""
     while not LISTENING.search(ran.output):
         ready, _, _ = select.select([process.stdout], [], [], SECONDS)
         piece = os.read(process.stdout.fileno(), 65536) if ready else b""

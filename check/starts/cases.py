@@ -82,11 +82,7 @@ def setting_is_refused(room):
 
 def folder_of_another_user_is_refused(room):
     """Root, too, writes nothing where a link of that user could lead elsewhere."""
-    folder = "/usr"
-    if os.geteuid() == 0:
-        folder = room.path("site")
-        os.mkdir(folder)
-        os.chown(folder, 65534, 65534)
+    folder = room.folder_of_another("site")
     names = os.listdir(folder)
     run = room.start(site=folder)
     wanted(run.ended(5) == 6 and "another user" in run.errors(), "not refused", run.errors())

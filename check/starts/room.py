@@ -92,6 +92,15 @@ class Room:
     def path(self, *names):
         return os.path.join(self.folder, *names)
 
+    def folder_of_another(self, name):
+        """A folder that another user has: a new one of this name, if root makes it."""
+        if os.geteuid() != 0:
+            return "/usr"
+        folder = self.path(name)
+        os.mkdir(folder)
+        os.chown(folder, 65534, 65534)
+        return folder
+
     def start(self, numbers="1-9", site="site", peers=(), folder=None, **environ):
         """The next run of a site; it may not listen yet."""
         if peers:

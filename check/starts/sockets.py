@@ -70,11 +70,7 @@ def folder_that_others_may_write_is_refused(room):
 
 
 def socket_in_a_folder_of_another_user_is_refused(room):
-    folder = "/usr"
-    if os.geteuid() == 0:
-        folder = room.path("run")
-        os.mkdir(folder)
-        os.chown(folder, 65534, 65534)
+    folder = room.folder_of_another("run")
     run = start(room, place="unix:%s/socket" % folder)
     wanted(run.ended(5) == 6 and "another user" in run.errors(), "not refused", run.errors())
 
