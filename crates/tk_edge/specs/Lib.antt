@@ -17,11 +17,13 @@
 --   Arrivals     Answers, the reply to what arrived
 --   Pushes       TakesAndLogs, a pushed bundle with its log
 --   EdgeFields   EdgeFields, what contracts see of an edge
+--   Again        repeat_at, the reply to a refresh that is repeated
 --   Served       IsServed, one connection is one step
 --   Fronts       IsFront, what the front of a connection's bytes means while more may follow
 --   FrontServed  IsFrontServed, what serving that front does
 --   OpenReply    IsOpenReply, the reply over a connection that stays
 --   Laws         HasOneMeaning, the meaning of a stream is unique
+pub mod Again
 pub mod Ahead
 pub mod Answers
 pub mod Arrivals

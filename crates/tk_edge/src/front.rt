@@ -13,7 +13,7 @@ pub struct Taken {
 
 /// What the front of bytes is.
 #[derive(Drop)]
-pub(crate) enum Front {
+pub enum Front {
     /// No request is whole: more bytes are needed.
     More,
     /// What arrived, and what it took of the bytes.
@@ -48,9 +48,12 @@ use httparse::Status;
 use httparse::spans::{EMPTY_HEADER_SPAN, HeaderSpan, RequestSpans, parse_request};
 use std::alloc::Global;
 
-// Reads the request at the front of the bytes that have come, without a copy of its head. `is_over`
-// is whether no more bytes follow.
-pub(crate) fn hear_front(
+/// Reads the request at the front of the bytes that have come over a connection.
+///
+/// `reach` is which paths are served over the connection. `is_over` is whether the client has ended
+/// its side, so that no more bytes follow. What came means the same whatever follows its bytes.
+/// Returns `HearError::Memory` if memory runs out.
+pub fn hear_front(
     alloc: Global,
     reach: Reach,
     bytes: &[u8],

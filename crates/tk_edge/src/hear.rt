@@ -19,7 +19,7 @@ pub enum Arrival {
 
 /// Why nothing was heard.
 #[derive(Clone, Copy)]
-pub(crate) enum HearError {
+pub enum HearError {
     /// The source failed.
     Read,
     /// Memory ran out.

@@ -16,6 +16,7 @@
 //! - `front`: what the front of the bytes that have come means: an arrival, or more is needed.
 //! - `ahead` reads a pushed bundle, and may refuse one whose horizon is later than the moment.
 //! - `answer` makes the reply to an arrival, and `render` its bytes.
+//! - `again` gives the reply to a refresh that is repeated.
 //! - `tell` writes the record of a fact and only then the reply, or returns a [`Fault`].
 //! - `push` takes a pushed bundle in and logs it before the reply, if bundles are logged.
 //! - `serving`: serves an arrival, and the front of bytes.
@@ -27,6 +28,7 @@
 //! does, and `Fronts` and `FrontServed` what the front of its bytes means and does.
 #![tactic(auto)]
 
+mod again;
 mod ahead;
 mod answer;
 mod body;
@@ -60,9 +62,9 @@ pub use counted::Counted;
 pub use device::{Failed, Sink, Source};
 pub use edge::{Edge, Served};
 pub use exchange::{Exchange, Sent};
-pub use front::Taken;
+pub use front::{Front, Taken, hear_front};
 pub use head::HEAD_LIMIT;
-pub use hear::Arrival;
+pub use hear::{Arrival, HearError};
 pub use laws::{hears_all, one_meaning, refused_is_lost, takes_as_region};
 pub use open_reply::keep_open;
 pub use path::Path;

@@ -2,7 +2,9 @@
 -- their family (own).
 --   GrantsAlike    two stores decide a token request alike if they answer each handle alike
 --   GrantsWithin   the fact that is made uses what was minted, and its tokens end with their family
-use Rattle.std.specs.Prelude.{◌≡◌, ℕ, List, IfSome}
+--   RepeatsReply   a refresh that is repeated gets the reply that was given to it
+use Rattle.std.specs.Prelude.{◌≡◌, ℕ, List, IfSome, Some}
+use Rattle.std.specs.FinMap as map
 use Rattle.tk_handle.specs.declared.handle.Handle.{Handle}
 use Rattle.tk_store.specs.StoreFields.{StoreFields, held_facts}
 use Rattle.tk_ledger.specs.Alike.{AnsweredAlike}
@@ -10,9 +12,15 @@ use Rattle.tk_ledger.specs.Status.{status_here}
 use Rattle.tk_message.specs.Caller.{caller_of}
 use Rattle.tk_message.specs.RequestFields.{RequestFields}
 use Rattle.tk_message.specs.declared.place.Place.{Place}
-use Rattle.tk_grant.specs.Granted.{grant_of}
-use Rattle.tk_grant.specs.Judged.{known_names}
+use Rattle.tk_fact.specs.declared.body.Body.{Body}
+use Rattle.tk_message.specs.Place.{next_in}
+use Rattle.tk_message.specs.ReplyFields.{ReplyFields}
+use Rattle.tk_grant.specs.Granted.{grant_of, granted_by}
+use Rattle.tk_grant.specs.Judged.{judged_of, known_names}
+use Rattle.tk_grant.specs.Repeat.{later_reply, repeat_of}
 use Rattle.tk_grant.specs.Within.{IsWithin}
+use Rattle.tk_grant.specs.declared.judged.Grant.{Grant}
+use Rattle.tk_grant.specs.declared.judged.Judged.TheVariants.{Rotates}
 
 -- two stores that answer each handle alike, and take the sender for the same client, decide a token
 -- request alike
@@ -29,3 +37,14 @@ abbrev pub GrantsWithin : Type 0
 GrantsWithin = (P : StoreFields) (place : Place) (now : ℕ) (words : List ℕ)
     (request : RequestFields)
     → IfSome (grant_of P place now words request).made (IsWithin (held_facts P))
+
+-- A refresh that was granted at a moment, whose fact is held, gets the same reply when it is
+-- repeated later, if it gets one: the reply of the grant, of which `expires_in` alone differs.
+abbrev pub RepeatsReply : Type 0
+RepeatsReply = (P Q : StoreFields) (place : Place) (now later : ℕ) (words : List ℕ)
+    (request : RequestFields) (generation : ℕ) (grant : Grant) (body : Body) (reply : ReplyFields)
+    → judged_of P now request ≡ Rotates generation grant
+    → (grant_of P place now words request).made ≡ Some body
+    → map.get (held_facts Q) (next_in place) ≡ Some body
+    → repeat_of Q later (next_in place) words ≡ Some reply
+    → reply ≡ later_reply place now later words grant

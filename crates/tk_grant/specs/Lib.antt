@@ -5,6 +5,7 @@
 --   Rotated       rotated_of, the judgement of a refresh token
 --   Judged        judged_of, the cases of a token request in their order
 --   Granted       grant_of, the decision of a token request
+--   Repeat        is_again, a refresh that is repeated; repeat_of, the reply to it
 --   Within        IsWithin, a fact whose tokens end with their family at the latest
 --   Laws          GrantsAlike, two stores that answer each handle alike; GrantsWithin, the facts made
 --   SoundGate     IsSoundGate, what holds of every gate
@@ -15,6 +16,7 @@ pub mod Judged
 pub mod Laws
 pub mod Redeemed
 pub mod Refusal
+pub mod Repeat
 pub mod Rotated
 pub mod SoundGate
 pub mod SoundJudged

@@ -174,7 +174,7 @@ fn mint(
 }
 
 // Makes the access token's handle, of the first three random words.
-fn access_handle(next: Dot, words: &[u64; 6]) -> Handle
+pub(crate) fn access_handle(next: Dot, words: &[u64; 6]) -> Handle
     ensures { result ≡ spec.access_handle next words.now }
 {
     let id = TokenId {
@@ -185,7 +185,7 @@ fn access_handle(next: Dot, words: &[u64; 6]) -> Handle
 }
 
 // Makes the refresh token's handle, of the last three random words.
-fn refresh_handle(next: Dot, words: &[u64; 6]) -> Handle
+pub(crate) fn refresh_handle(next: Dot, words: &[u64; 6]) -> Handle
     ensures { result ≡ spec.refresh_handle next words.now }
 {
     let id = TokenId {

@@ -1,6 +1,6 @@
 //! The laws of token requests.
 
-ghost use Rattle.tk_grant.specs.Laws.{GrantsAlike, GrantsWithin};
+ghost use Rattle.tk_grant.specs.Laws.{GrantsAlike, GrantsWithin, RepeatsReply};
 
 /// States a law: two stores that answer each handle alike decide a token request alike.
 ///
@@ -14,4 +14,12 @@ pub fn grants_alike()
 /// and its tokens end with their family at the latest.
 pub fn grants_within()
     ensures { GrantsWithin }
+{}
+
+/// States a law: a refresh that is repeated gets the reply that was given to it, but for
+/// `expires_in`.
+///
+/// The fact that was made then must be held at its dot.
+pub fn repeats_reply()
+    ensures { RepeatsReply }
 {}

@@ -22,7 +22,9 @@ mod judged;
 mod laws;
 mod redeem;
 mod refusal;
+mod repeat;
 mod rotate;
 
 pub use granted::decide_token;
-pub use laws::{grants_alike, grants_within};
+pub use laws::{grants_alike, grants_within, repeats_reply};
+pub use repeat::{is_again, is_refresh_request, repeat_of};

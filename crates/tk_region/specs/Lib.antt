@@ -3,10 +3,12 @@
 --   RegionFields     RegionFields, what contracts see of a region; place_in, IsCapped,
 --                    with_made, Gains
 --   Decision         decision_of, the decision of a request; capped, the serial cap
+--   Repeating        repeat_in, the reply to a refresh that is repeated
 --   Step             prepared_of, what a region prepares for a request; Commits, adding the fact
 --   Taking           TakesIn, the outcomes of taking in a bundle
 pub mod Decision
 pub mod RegionFields
+pub mod Repeating
 pub mod SettingsFields
 pub mod Step
 pub mod Taking

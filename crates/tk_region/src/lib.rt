@@ -4,6 +4,7 @@
 //!
 //! - `decide` returns the reply to a request, the fact that the request makes, and the record of
 //!   that fact. The region does not change.
+//! - `repeat` gives the reply to a refresh again, and makes no fact.
 //! - `commit` adds the fact, and returns the reply only then. `handle` does both.
 //! - `take_in` takes a bundle's facts and marks into the ledger, or refuses all of them before it
 //!   changes anything.
@@ -12,7 +13,7 @@
 //! - `page` makes a bundle for another region, by the `vector` of that region.
 //!
 //! In reading order: `Settings`, `Region`, `Prepared`, `Handled`, `TakeError`. The definitions are
-//! in `specs/`: `Decision` for the decision of a request, `Step` for the outcomes of `commit`,
+//! in `specs/`: `Decision` for the decision of a request, `Repeating` for that of a repeat, `Step` for the outcomes of `commit`,
 //! `Taking` for those of `take_in`. The crate reads no clock and draws no random words: both come
 //! with each request.
 #![tactic(auto)]

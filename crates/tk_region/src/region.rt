@@ -46,6 +46,7 @@ ghost use Rattle.tk_bundle.specs.News.{news_of, record_of};
 ghost use Rattle.tk_bundle.specs.Page as pages;
 ghost use Rattle.tk_message.specs.Place.{next_in};
 ghost use Rattle.tk_region.specs.RegionFields.{place_in};
+ghost use Rattle.tk_region.specs.Repeating.{repeat_in};
 ghost use Rattle.tk_region.specs.Step.{prepared_of, IsNextFact, Commits};
 ghost use Rattle.tk_region.specs.Taking.{TakesIn};
 
@@ -55,8 +56,9 @@ use crate::take::{TakeError, take_bundle, unread};
 use std::alloc::{AllocError, Global};
 use tk_bundle::{Bundle, Page, make, news};
 use tk_fact::Fact;
+use tk_grant::repeat_of;
 use tk_handle::{Dot, Moment};
-use tk_message::{Place, Request};
+use tk_message::{Place, Reply, Request};
 use tk_store::{AddError, Added};
 use tk_vector::VersionVector;
 
@@ -124,8 +126,8 @@ impl Region {
         make(alloc, self.ledger.store(), vector, after)
     }
 
-    // Returns the dot of the region's next fact.
-    fn next_dot(&self) -> Dot
+    /// Returns the dot of the region's next fact.
+    pub fn next_dot(&self) -> Dot
         ensures { result ≡ next_in (place_in self.now) }
     {
         next_in_ledger(&self.ledger, self.number)
@@ -174,6 +176,26 @@ impl Region {
         }
         let decision = decide_endpoint(alloc, &self.ledger, &place, now, words, request)?;
         prepare(alloc, self.settings.cap(), &place, decision)
+    }
+
+    /// Returns the reply to a refresh again: with the two tokens that the fact at this dot minted of
+    /// these random words, if both are live at the moment (own). See [`repeat_of`].
+    ///
+    /// The region does not change. Before the horizon there is no such reply. Returns an error if
+    /// memory runs out.
+    pub fn repeat(
+        &self,
+        alloc: Global,
+        now: Moment,
+        dot: Dot,
+        words: &[u64; 6],
+    ) -> Result<Option<Reply>, AllocError>
+        ensures { IfOk result (λ reply. reply ≡ repeat_in self.now now dot words.now) }
+    {
+        if self.horizon().seconds() > now.seconds() {
+            return Ok(None);
+        }
+        repeat_of(alloc, &self.ledger, now, dot, words)
     }
 
     /// Adds the prepared fact, and returns the reply only then. If memory runs out, the region is

@@ -33,7 +33,15 @@ use Rattle.tk_edge.specs.declared.front.Taken.{Taken}
 use Rattle.tk_edge.specs.declared.reach.Reach.TheVariants.{All}
 use Rattle.tk_edge.specs.declared.tell.Fault.{Fault}
 use Rattle.tk_edge.specs.declared.tell.Fault.TheVariants.{Read, Write, Log, Memory}
-use Rattle.tokend.specs.Decisions.{Asking, Decides, Ending, Ends, FrontDecides, IsDecided, IsDecision, IsOutcome, IsReplied, IsTaken, IsUnread, MayStay, asked_of, asking_of, ended_if, gains, outcome_by, reach_by}
+use Rattle.tokend.specs.Decisions.{Asking, Decides, Ending, Ends, FrontDecides, IsDecided, IsDecision, IsDecisionBy, IsOutcome, IsReplied, IsTaken, IsUnread, MayGrant, MayStay, asked_of, asking_of, ended_if, gains, outcome_by, reach_by}
+use Rattle.tokend.specs.Decisions.{kept_by, moved_on}
+use Rattle.tokend.specs.Repeating.{FallsShort, GivesAgain, IsAgain, IsCome, IsKept}
+use Rattle.tokend.specs.Repeats.{Repetition, granted_at}
+use Rattle.tokend.specs.declared.repeats.Refreshed.{Refreshed}
+use Rattle.tokend.specs.declared.repeating.Refresh.{Refresh}
+use Rattle.tk_handle.specs.declared.dot.Dot.{Dot}
+use Rattle.tk_message.specs.Place.{next_in}
+use Rattle.tk_region.specs.RegionFields.{place_in}
 use Rattle.tokend.specs.Draw.{six, past_six}
 use Rattle.tokend.specs.Growing.{Grows}
 use Rattle.tokend.specs.declared.server.Server.{Server}
@@ -295,12 +303,12 @@ unread_by asking edge Memory h = record {
 unread_by asking edge Write h = absurd h
 unread_by asking edge Log h = absurd h
 
-pub unread : (words : List ℕ) (log_taken : Bool) (edge : EdgeFields) (fault : Fault) → IsUnread fault → IsDecision words log_taken edge (record { end = Err fault; stays = false; reach = All }) [] edge
+pub unread : (words : List ℕ) (log_taken : Bool) (edge : EdgeFields) (fault : Fault) → IsUnread fault → IsDecision words log_taken edge (record { end = Err fault; stays = false; reach = All; granted = None; again = None }) [] edge
 unread words log_taken edge fault h =
-    (0, [], false, [], unread_by (record { words = words; log_taken = log_taken; reach = All; now = 0; bytes = []; over = false }) edge fault h, tt)
+    (0, [], false, [], unread_by (record { words = words; log_taken = log_taken; reach = All; now = 0; bytes = []; over = false }) edge fault h, tt, tt)
 
 -- a kept connection ended behind its last reply: nothing more came
-pub parted : (words : List ℕ) (log_taken : Bool) (edge : EdgeFields) → IsDecision words log_taken edge (record { end = Ok Nothing; stays = false; reach = All }) [] edge
+pub parted : (words : List ℕ) (log_taken : Bool) (edge : EdgeFields) → IsDecision words log_taken edge (record { end = Ok Nothing; stays = false; reach = All; granted = None; again = None }) [] edge
 parted words log_taken edge = (
   0,
   [],
@@ -311,6 +319,7 @@ parted words log_taken edge = (
     shut = λ _. (refl, refl, inr tt);
     refuses_ahead = refl;
   },
+  tt,
   tt,
 )
   where
@@ -326,15 +335,20 @@ short asking edge = unread_by asking edge Memory tt
 
 -- ---- what a decision leaves of a region
 
-pub decision_grows : (words : List ℕ) (log_taken : Bool) (old : EdgeFields) (ending : Ending) (logged : List ℕ) (new : EdgeFields) → IsDecision words log_taken old ending logged new
+decision_grows_by : (again : Option Repetition) (words : List ℕ) (log_taken : Bool) (old : EdgeFields) (ending : Ending) (logged : List ℕ) (new : EdgeFields) → IsDecisionBy again words log_taken old ending logged new
     → Grows old.region new.region
-decision_grows words log_taken old ending logged new h =
+decision_grows_by (Some it) words log_taken old ending logged new h = grows_same old.region new.region (ap (λ (n : EdgeFields). n.region) h.0)
+decision_grows_by None words log_taken old ending logged new h =
     elim old.sealed as (λ b. old.sealed ≡ b → Grows old.region new.region) [
       | true ↦ λ e. subst (λ (n : EdgeFields). Grows old.region n.region) (sym (h.4.shut e).0) (grows_same old.region old.region refl)
       | false ↦ λ e.
           let asking : Asking = record { words = words; log_taken = log_taken; reach = ending.reach; now = h.0; bytes = h.1; over = h.2 } in
           served_grows (asked_by (asked_of asking old) h.1 []) old.region new.region (gains logged) (logged ≡ []) (gains h.3) new.sealed ending.end (h.4.served e [] (λ _. refl))
     ] refl
+
+pub decision_grows : (words : List ℕ) (log_taken : Bool) (old : EdgeFields) (ending : Ending) (logged : List ℕ) (new : EdgeFields) → IsDecision words log_taken old ending logged new
+    → Grows old.region new.region
+decision_grows words log_taken old ending logged new h = decision_grows_by ending.again words log_taken old ending logged new h
 
 -- ---- what a server makes of that
 
@@ -388,9 +402,9 @@ outcome_some asking old keeps (Done status) taken outcome h is on =
 pub ends_decides : (old : Server) (bytes : List ℕ) (over keeps : Bool) (served : Served) (taken : Taken) (outcome : Outcome) (replied logged : List ℕ) (new : Server) → outcome ≡ outcome_by keeps served taken
     → Ends old bytes over outcome replied logged new → Decides old bytes over outcome replied logged new
 ends_decides old bytes over keeps Nothing taken outcome replied logged new is h =
-    subst (λ o. Decides old bytes over o replied logged new) (sym is) (subst (λ o. Ends old bytes over o replied logged new) is h)
+    subst (λ o. Decides old bytes over o replied logged new) (sym is) (inl (subst (λ o. Ends old bytes over o replied logged new) is h))
 ends_decides old bytes over keeps (Done status) taken outcome replied logged new is h =
-    subst (λ o. Decides old bytes over o replied logged new) (sym is) (subst (λ o. Ends old bytes over o replied logged new) is h)
+    subst (λ o. Decides old bytes over o replied logged new) (sym is) (inl (subst (λ o. Ends old bytes over o replied logged new) is h))
 
 -- a connection stays only behind a request that lets it
 pub may_stay : (keeps : Bool) (end : Result Served Fault) (asking : Asking) (old : EdgeFields) (outcome : Outcome) → IsOutcome keeps end asking old outcome → MayStay asking old (goes_on outcome)
@@ -409,24 +423,39 @@ none_stays keeps (Err fault) asking old outcome is off = ap goes_on is
 none_stays keeps (Ok Nothing) asking old outcome h off = ap goes_on h.2
 none_stays keeps (Ok (Done status)) asking old outcome h off = ap goes_on h.2 ∙ ap (λ b. b && h.0.stays) off
 
+-- the refresh that is kept of a request came and was granted
+pub may_grant : (asking : Asking) (old : EdgeFields) (refresh : Option Refresh) (served : Served) (now : ℕ) (dot : Dot) (words : List ℕ) (granted : Option Refreshed) → IfSome refresh (IsCome asking.reach asking.bytes asking.over)
+    → IsKept refresh served now dot words granted → now ≡ asking.now → dot ≡ next_in (place_in old.region) → words ≡ asking.words → MayGrant asking old (Ok served) granted
+may_grant asking old refresh served now dot words None came h at is six_words = tt
+may_grant asking old None served now dot words (Some it) came h at is six_words = absurd h
+may_grant asking old (Some refresh) served now dot words (Some it) came h at is six_words = (
+  refresh,
+  came.0,
+  came.1,
+  h.0 ∙ ap (λ n. granted_at refresh n dot words) at ∙ ap (λ d. granted_at refresh asking.now d words) is ∙ ap (granted_at refresh asking.now (next_in (place_in old.region))) six_words,
+  ap (λ (s : Served). Ok s) h.1,
+)
+
 -- the server that moved on, by its steps
-pub has_moved : (old mid new : Server) (next : ChaCha) (left : ℕ) (fault : Option Fault) → mid ≡ record old { edge = mid.edge } → new ≡ record mid { words = next; left = left; fault = fault }
-    → next ≡ past_six old.words → new ≡ record old { edge = new.edge; words = past_six old.words; left = left; fault = fault }
-has_moved old mid new next left fault one two words =
-    let alloc = ap (λ (s : Server). s.alloc) two ∙ ap (λ (s : Server). s.alloc) one in
+pub has_moved : (old mid kept new : Server) (next : ChaCha) (left : ℕ) (fault : Option Fault) (granted : Option Refreshed) → mid ≡ record old { edge = mid.edge }
+    → kept ≡ record mid { repeats = kept_by granted mid.repeats } → new ≡ record kept { words = next; left = left; fault = fault }
+    → next ≡ past_six old.words → new ≡ record old { edge = new.edge; words = past_six old.words; left = left; fault = fault; repeats = kept_by granted old.repeats }
+has_moved old mid kept new next left fault granted one keep two words =
+    let alloc = ap (λ (s : Server). s.alloc) two ∙ ap (λ (s : Server). s.alloc) keep ∙ ap (λ (s : Server). s.alloc) one in
     let drawn = ap (λ (s : Server). s.words) two ∙ words in
-    let logs = ap (λ (s : Server). s.log_taken) two ∙ ap (λ (s : Server). s.log_taken) one in
-    let keeps = ap (λ (s : Server). s.keeps) two ∙ ap (λ (s : Server). s.keeps) one in
-    let has_inner = ap (λ (s : Server). s.has_inner) two ∙ ap (λ (s : Server). s.has_inner) one in
-    let is_inner = ap (λ (s : Server). s.is_inner) two ∙ ap (λ (s : Server). s.is_inner) one in
-    let now = ap (λ (s : Server). s.now) two ∙ ap (λ (s : Server). s.now) one in
+    let logs = ap (λ (s : Server). s.log_taken) two ∙ ap (λ (s : Server). s.log_taken) keep ∙ ap (λ (s : Server). s.log_taken) one in
+    let keeps = ap (λ (s : Server). s.keeps) two ∙ ap (λ (s : Server). s.keeps) keep ∙ ap (λ (s : Server). s.keeps) one in
+    let has_inner = ap (λ (s : Server). s.has_inner) two ∙ ap (λ (s : Server). s.has_inner) keep ∙ ap (λ (s : Server). s.has_inner) one in
+    let is_inner = ap (λ (s : Server). s.is_inner) two ∙ ap (λ (s : Server). s.is_inner) keep ∙ ap (λ (s : Server). s.is_inner) one in
+    let now = ap (λ (s : Server). s.now) two ∙ ap (λ (s : Server). s.now) keep ∙ ap (λ (s : Server). s.now) one in
     let many = ap (λ (s : Server). s.left) two in
     let told = ap (λ (s : Server). s.fault) two in
-    λ i. record { alloc = alloc i; edge = new.edge; words = drawn i; log_taken = logs i; keeps = keeps i; has_inner = has_inner i; is_inner = is_inner i; now = now i; left = many i; fault = told i }
+    let repeats = ap (λ (s : Server). s.repeats) two ∙ ap (λ (s : Server). s.repeats) keep ∙ ap (λ (s : Server). kept_by granted s.repeats) one in
+    λ i. record { alloc = alloc i; edge = new.edge; words = drawn i; log_taken = logs i; keeps = keeps i; has_inner = has_inner i; is_inner = is_inner i; now = now i; left = many i; fault = told i; repeats = repeats i }
 
-module _ (old mid new : Server) (bytes : List ℕ) (over : Bool) (next : ChaCha) (left : ℕ) (words : List ℕ) (reply logged : List ℕ)
+module _ (old mid kept new : Server) (bytes : List ℕ) (over : Bool) (next : ChaCha) (left : ℕ) (words : List ℕ) (reply logged : List ℕ) (granted : Option Refreshed)
     (untold : old.fault ≡ None) (six_words : words ≡ six old.words) (past_words : next ≡ past_six old.words)
-    (one : mid ≡ record old { edge = mid.edge }) where
+    (one : mid ≡ record old { edge = mid.edge }) (keep : kept ≡ record mid { repeats = kept_by granted mid.repeats }) where
   abbrev asking : Asking
   asking = record { words = words; log_taken = old.log_taken; reach = reach_by old.has_inner old.is_inner; now = old.now; bytes = bytes; over = over }
 
@@ -437,34 +466,84 @@ module _ (old mid new : Server) (bytes : List ℕ) (over : Bool) (next : ChaCha)
 
   -- the request was served
   pub served_ends : (served : Served) (taken : Taken) (outcome : Outcome) (sent : List ℕ) → FrontDecides asking old.edge (Ok (Some (served, taken))) reply logged mid.edge
-      → new ≡ record mid { words = next; left = left; fault = None } → outcome ≡ outcome_by old.keeps served taken → IsReplied (goes_on outcome) reply sent
+      → MayGrant (asking_of old bytes over) old.edge (Ok served) granted
+      → new ≡ record kept { words = next; left = left; fault = None } → outcome ≡ outcome_by old.keeps served taken → IsReplied (goes_on outcome) reply sent
       → old.left ≡ left + ended_if (goes_on outcome) → Decides old bytes over outcome sent logged new
-  served_ends served taken outcome sent h two is replied counted = ends_decides old bytes over old.keeps served taken outcome sent logged new is (record {
+  served_ends served taken outcome sent h may two is replied counted = ends_decides old bytes over old.keeps served taken outcome sent logged new is (record {
     end = Ok served;
     reply = reply;
     told = untold;
-    decided = as_asked (Ok served) (ap (λ (s : Server). s.edge) two) h.1;
+    decided = as_asked (Ok served) (ap (λ (s : Server). s.edge) two ∙ ap (λ (s : Server). s.edge) keep) h.1;
     is_outcome = (taken, h.0, is);
     is_sent = replied;
+    granted = granted;
+    is_granted = may;
     left = left;
     counted = counted;
-    moved = has_moved old mid new next left None one two past_words;
+    moved = has_moved old mid kept new next left None granted one keep two past_words;
   })
 
   -- the request ended by a fault
-  pub fault_ends : (fault : Fault) → FrontDecides asking old.edge (Err fault) reply logged mid.edge → new ≡ record mid { words = next; left = left; fault = Some fault }
+  pub fault_ends : (fault : Fault) → granted ≡ None → FrontDecides asking old.edge (Err fault) reply logged mid.edge → new ≡ record kept { words = next; left = left; fault = Some fault }
       → old.left ≡ left + 1 → Decides old bytes over Ended [] logged new
-  fault_ends fault h two counted = record {
+  fault_ends fault none h two counted = inl (record {
     end = Err fault;
     reply = reply;
     told = untold;
-    decided = as_asked (Err fault) (ap (λ (s : Server). s.edge) two) h;
+    decided = as_asked (Err fault) (ap (λ (s : Server). s.edge) two ∙ ap (λ (s : Server). s.edge) keep) h;
     is_outcome = refl;
     is_sent = refl;
+    granted = granted;
+    is_granted = subst (MayGrant (asking_of old bytes over) old.edge (Err fault)) (sym none) tt;
     left = left;
     counted = counted;
-    moved = has_moved old mid new next left (Some fault) one two past_words;
-  }
+    moved = has_moved old mid kept new next left (Some fault) granted one keep two past_words;
+  })
+
+-- no memory: the connection ends, and nothing is changed
+pub short_decides : (old : Server) (bytes : List ℕ) (over : Bool) (outcome : Outcome) (new : Server) → old.fault ≡ None → FallsShort old outcome new → Decides old bytes over outcome [] [] new
+short_decides old bytes over outcome new untold h = subst (λ o. Decides old bytes over o [] [] new) (sym h.0) (inl (record {
+  end = Err Memory;
+  reply = [];
+  told = untold;
+  decided = subst (IsDecided (asking_of old bytes over) old.edge (Err Memory) [] []) (sym (ap (λ (s : Server). s.edge) h.1.2)) (short (asking_of old bytes over) old.edge);
+  is_outcome = refl;
+  is_sent = refl;
+  granted = None;
+  is_granted = tt;
+  left = h.1.0;
+  counted = h.1.1;
+  moved = moved_same old new (Err Memory) h.1.0 h.1.2;
+}))
+  where
+    moved_same : (old new : Server) (end : Result Served Fault) (left : ℕ) → new ≡ moved_on old end old.edge None left → new ≡ moved_on old end new.edge None left
+    moved_same old new end left is = is ∙ ap (λ e. moved_on old end e None left) (sym (ap (λ (s : Server). s.edge) is))
+
+-- the reply to a refresh was given again
+pub again_decides : (old : Server) (bytes : List ℕ) (over : Bool) (outcome : Outcome) (reply before after : List ℕ) (taken : Taken) (new : Server) → old.fault ≡ None
+    → IsAgain old (reach_by old.has_inner old.is_inner) bytes over reply taken → GivesAgain old taken reply outcome before after new
+    → (replied : List ℕ) × Decides old bytes over outcome replied [] new × (after ≡ before ++ replied)
+again_decides old bytes over outcome reply before after taken new untold again (inr h) =
+    ([], short_decides old bytes over outcome new untold h.1, h.0 ∙ sym (append-nil before))
+again_decides old bytes over outcome reply before after taken new untold again (inl h) = (
+  h.sent,
+  subst (λ o. Decides old bytes over o h.sent [] new) (sym h.is_outcome) (inr (record {
+    told = untold;
+    on = again.on;
+    it = again.it;
+    taken = taken;
+    reply = reply;
+    repeated = again.repeated;
+    found = again.found;
+    is_outcome = refl;
+    is_sent = subst (λ o. IsReplied (goes_on o) reply h.sent) h.is_outcome h.is_sent;
+    unlogged = refl;
+    left = h.left;
+    counted = subst (λ o. old.left ≡ h.left + ended_if (goes_on o)) h.is_outcome h.counted;
+    moved = h.moved;
+  })),
+  h.behind,
+)
 
 -- a reply as it is sent over a connection that stays, behind others
 pub replied_over : (front reply all new without : List ℕ) (mark : ℕ) (stays : Bool) → stays ≡ true → all ≡ front ++ reply → mark ≡ length front

@@ -59,7 +59,8 @@ use Rattle.tk_edge.specs.declared.hear.Arrival.{Arrival}
 use Rattle.tk_edge.specs.declared.hear.Arrival.TheVariants.{Silence, Refused, Request, Exchange}
 use Rattle.tk_edge.specs.declared.tell.Fault.{Fault}
 use Rattle.tk_edge.specs.declared.tell.Fault.TheVariants.{Read, Write, Log, Memory}
-use Rattle.tokend.specs.Decisions.{Asking, Ending, IsDecision, asked_of, gains}
+use Rattle.tokend.specs.Decisions.{Asking, Ending, IsDecision, IsDecisionBy, asked_of, gains}
+use Rattle.tokend.specs.Repeats.{Repetition}
 use Rattle.tokend.specs.Draw.{past_six, six}
 use Rattle.tokend.specs.KeptLog.{AreCalm, AreLogged, HasLogged, IsCalm, IsFresh, IsNotRefused, IsTorn, LogKeepsAll, LogLoads}
 use Rattle.tokend.specs.Loading.{AreBundles, BeginsWith, IsNoBundle, IsRefused, Loads, TakesEach, TakesFront, log_bytes}
@@ -363,10 +364,18 @@ module _ (before after : Option (List ℕ)) (old new : RegionFields) (asked : As
   served (Err Memory) h = ran_out asked.log_taken logs h
 
 -- an edge that is sealed stays sealed
+decision_stays_by : (again : Option Repetition) (words : List ℕ) (old : EdgeFields) (end : Ending) (logged : List ℕ) (new : EdgeFields) → IsDecisionBy again words true old end logged new
+    → old.sealed ≡ true → new.sealed ≡ true
+decision_stays_by None words old end logged new h e = ap (λ (x : EdgeFields). x.sealed) (h.4.shut e).0 ∙ e
+decision_stays_by (Some it) words old end logged new h e = ap (λ (x : EdgeFields). x.sealed) h.0 ∙ e
+
+decision_stays : (words : List ℕ) (old : EdgeFields) (end : Ending) (logged : List ℕ) (new : EdgeFields) → IsDecision words true old end logged new → old.sealed ≡ true → new.sealed ≡ true
+decision_stays words old end logged new h e = decision_stays_by end.again words old end logged new h e
+
 decisions_stay : (words : ChaCha) (old : EdgeFields) (ends : Endings) (records : List ℕ) (new : EdgeFields) → AreDecisions words true old ends records new → old.sealed ≡ true → new.sealed ≡ true
 decisions_stay words old [] records new h e = ap (λ (x : EdgeFields). x.sealed) h.0 ∙ e
 decisions_stay words old (end ∷ ends) records new h e =
-    decisions_stay (past_six words) h.0 ends h.2 new h.5 (ap (λ (x : EdgeFields). x.sealed) (h.3.4.shut e).0 ∙ e)
+    decisions_stay (past_six words) h.0 ends h.2 new h.5 (decision_stays (six words) old end h.1 h.0 h.3 e)
 
 turn_stays : (words : ChaCha) (old : Running) (ends : Endings) (new : Running) → IsTurn words true old ends new → old.edge.sealed ≡ true → new.edge.sealed ≡ true
 turn_stays words old ends new h e = of h.log
@@ -380,13 +389,19 @@ turns_stay words old [] new same e = ap (λ (r : Running). r.edge.sealed) same �
 turns_stay words old (ends ∷ turns) new h e =
     turns_stay (past_each words ends) h.1 turns new h.4 (ap (λ (x : EdgeFields). x.sealed) (edge_stays h.0 h.1 h.3) ∙ turn_stays words old ends h.0 h.2 e)
 
-decision_adds : (words : List ℕ) (old : EdgeFields) (end : Ending) (logged : List ℕ) (new : EdgeFields) → IsDecision words true old end logged new
+decision_adds_by : (again : Option Repetition) (words : List ℕ) (old : EdgeFields) (end : Ending) (logged : List ℕ) (new : EdgeFields) → IsDecisionBy again words true old end logged new
     → old.sealed ≡ false → new.sealed ≡ false → Grows end.end (Some []) (Some logged) old.region.facts new.region.facts
-decision_adds words old end logged new h open_old open_new =
+decision_adds_by (Some it) words old end logged new h open_old open_new =
+    still end.end (Some []) (Some logged) old.region new.region (keeps_nothing (Some []) (Some logged) h.1) (ap (λ (x : EdgeFields). x.region) h.0)
+decision_adds_by None words old end logged new h open_old open_new =
     let asking : Asking = record { words = words; log_taken = true; reach = end.reach; now = h.0; bytes = h.1; over = h.2 } in
     let asked : Asked = asked_by (asked_of asking old) h.1 [] in
     served (Some []) (Some logged) old.region new.region asked refl (logged ≡ []) (gains h.3) end.end
     (subst (λ b. IsServed asked (record { before = old.region; after = new.region }) (gains logged) (logged ≡ []) (gains h.3) b end.end) open_new (h.4.served open_old [] (λ _. refl)))
+
+decision_adds : (words : List ℕ) (old : EdgeFields) (end : Ending) (logged : List ℕ) (new : EdgeFields) → IsDecision words true old end logged new
+    → old.sealed ≡ false → new.sealed ≡ false → Grows end.end (Some []) (Some logged) old.region.facts new.region.facts
+decision_adds words old end logged new h open_old open_new = decision_adds_by end.again words old end logged new h open_old open_new
 
 -- ---- connections, one after the other
 

@@ -11,6 +11,7 @@ pub mod KeptSlots
 pub mod LogBundles
 pub mod Loads
 pub mod OneSet
+pub mod RepeatLaws
 pub mod Runs
 pub mod ServiceLogs
 pub mod Services

@@ -7,6 +7,7 @@
 --   has_run         a service has run, from its start on
 --   service_run     a service has run, from its arguments on
 --   opening_left    what a fault leaves of the output
+use Rattle.std.specs.Option.{unwrap_or}
 use Rattle.std.proofs.Common.{◌≡◌, ℕ, Bool, Option, Some, None, List, Result, Ok, Err}
 use Rattle.std.proofs.KnownBytes.{Keeps-refl}
 use Rattle.std.specs.Prelude.{IfErr, OnOk, String, is_some}
@@ -87,15 +88,15 @@ bind_left opening at (BadLine number) output h = absurd h
 
 module _ {L : Type 0} (kept : List ℕ → Option (List ℕ)) (holds : L → Option (List ℕ)) (opens : List ℕ → L → Type 0) where
   -- connections that were served without a log
-  pub without_log : {A T : Type 0} (name : Option (String A)) (words : ChaCha) (requests : Option ℕ) (keeps has_inner log_taken : Bool) (s : Course) (r : Result T Fault) → name ≡ None
-      → OnOk r (ServesWith words requests keeps has_inner log_taken s (record { before = None; after = None })) → OnOk r (ServesLogged holds opens name words requests keeps has_inner log_taken s)
-  without_log None words requests keeps has_inner log_taken s (Ok x) none h = h
-  without_log (Some name) words requests keeps has_inner log_taken s (Ok x) none h = absurd (cc)
-  without_log name words requests keeps has_inner log_taken s (Err fault) none h = tt
+  pub without_log : {A T : Type 0} (name : Option (String A)) (words : ChaCha) (requests : Option ℕ) (keeps : Bool) (repeat : ℕ) (has_inner log_taken : Bool) (s : Course) (r : Result T Fault) → name ≡ None
+      → OnOk r (ServesWith words requests keeps repeat has_inner log_taken s (record { before = None; after = None })) → OnOk r (ServesLogged holds opens name words requests keeps repeat has_inner log_taken s)
+  without_log None words requests keeps repeat has_inner log_taken s (Ok x) none h = h
+  without_log (Some name) words requests keeps repeat has_inner log_taken s (Ok x) none h = absurd (cc)
+  without_log name words requests keeps repeat has_inner log_taken s (Err fault) none h = tt
 
   pub has_opened : {T : Type 0} (service : Service) (dropped : ℕ) (start : EdgeFields) (words : ChaCha) (pruned : Option ℕ) (region : RegionFields) (end : EdgeFields) (output : Change) (faults : Writing) (r : Result T Fault)
       → PrunesOld service.prune start.region (Ok pruned) region → OnOk r (Announces (record { dropped = dropped; pruned = pruned }) service.at output.before output.after)
-      → OnOk r (ServesLogged holds opens service.log words service.requests (keeps_in service.keep) (is_some service.at.inner) service.log_taken (record { start = with_region start region; end = end; faults = faults }))
+      → OnOk r (ServesLogged holds opens service.log words service.requests (keeps_in service.keep) (unwrap_or service.repeat 0) (is_some service.at.inner) service.log_taken (record { start = with_region start region; end = end; faults = faults }))
       → OnOk r (HasOpened holds opens service dropped start words output faults)
   has_opened service dropped start words pruned region end output faults (Ok x) prunes announced served =
       record { pruned = pruned; region = region; prunes = prunes; announced = announced; end = end; served = served }

@@ -2,6 +2,7 @@
 --   goes_nowhere    nothing happened
 --   goes_at         another moment
 --   goes_over       another socket
+--   goes_forgotten  what is kept for repeats became less
 --   goes_both       one after the other
 --   goes_unread     a connection ended unread
 --   goes_parted     a kept connection ended behind its last reply
@@ -33,10 +34,17 @@ use Rattle.tokend.specs.Draw.{six, past_six}
 use Rattle.tokend.specs.Growing.{Grows}
 use Rattle.tokend.specs.Serving.{connection_fault}
 use Rattle.tokend.specs.Telling.{Writer, Writes}
+use Rattle.tk_edge.specs.declared.edge.Served.TheVariants.{Done}
+use Rattle.tk_message.specs.declared.status_code.StatusCode.TheVariants as code
+use Rattle.tokend.specs.Decisions.{Ending, Repeats}
+use Rattle.tokend.specs.Repeats.{RepeatsFields, Repetition, is_repeat}
+use Rattle.tokend.specs.declared.repeats.Refreshed.{Refreshed}
+use Rattle.tokend.specs.Turns.{AreAmong, AreRepeated}
 use Rattle.tokend.specs.Turns.{AreDecisions, AreTold, AreTurns, Endings, Goes, IsKept, IsLost, IsTurn, MayLackReply, MayReach, ReachEach, Running, Site, ToldOf, all_ends, connections_in, past_each, running}
 use Rattle.tokend.specs.declared.server.Server.{Server}
 use Rattle.tokend.proofs.Deciding.{decision_grows, may_stay, none_stays, parted, unread}
 use Rattle.tokend.proofs.Growing.{grows_same, grows_twice}
+use Rattle.tokend.proofs.RepeatLaws.{closes_taken, found_parts, none_repeated, one_granted, recent_by, repeated_both, stays_taken}
 
 -- ---- lists of endings
 
@@ -97,19 +105,25 @@ turns_both words log_taken old (x ∷ xs) mid ys new h k = (
 
 -- ---- what a server does, one after the other
 
+-- what is kept became less
+pub goes_forgotten : (site : Site) (repeats : RepeatsFields) → repeats.seconds ≡ site.server.repeats.seconds → AreAmong repeats.kept site.server.repeats.kept
+    → Goes site (record { server = record site.server { repeats = repeats }; log = site.log; faults = site.faults })
+goes_forgotten site repeats same among =
+    record { turns = []; served = refl; words = refl; counted = omega arith; closes = λ _. refl; keeps = refl; repeats = record { seconds = same; each = tt; kept = among }; reaches = tt; has_inner = refl; log_taken = refl; fault = refl }
+
 pub goes_nowhere : (site : Site) → Goes site site
 goes_nowhere site =
-    record { turns = []; served = refl; words = refl; counted = omega arith; closes = λ _. refl; keeps = refl; reaches = tt; has_inner = refl; log_taken = refl; fault = refl }
+    record { turns = []; served = refl; words = refl; counted = omega arith; closes = λ _. refl; keeps = refl; repeats = none_repeated site.server.repeats; reaches = tt; has_inner = refl; log_taken = refl; fault = refl }
 
 -- the moment at which requests are decided changes nothing else
 pub goes_at : (site : Site) (now : ℕ) → Goes site (record { server = record site.server { now = now }; log = site.log; faults = site.faults })
 goes_at site now =
-    record { turns = []; served = refl; words = refl; counted = omega arith; closes = λ _. refl; keeps = refl; reaches = tt; has_inner = refl; log_taken = refl; fault = refl }
+    record { turns = []; served = refl; words = refl; counted = omega arith; closes = λ _. refl; keeps = refl; repeats = none_repeated site.server.repeats; reaches = tt; has_inner = refl; log_taken = refl; fault = refl }
 
 -- the socket whose requests are decided changes nothing else
 pub goes_over : (site : Site) (is_inner : Bool) → Goes site (record { server = record site.server { is_inner = is_inner }; log = site.log; faults = site.faults })
 goes_over site is_inner =
-    record { turns = []; served = refl; words = refl; counted = omega arith; closes = λ _. refl; keeps = refl; reaches = tt; has_inner = refl; log_taken = refl; fault = refl }
+    record { turns = []; served = refl; words = refl; counted = omega arith; closes = λ _. refl; keeps = refl; repeats = none_repeated site.server.repeats; reaches = tt; has_inner = refl; log_taken = refl; fault = refl }
 
 pub goes_both : (old mid new : Site) → Goes old mid → Goes mid new → Goes old new
 goes_both old mid new h k =
@@ -125,6 +139,8 @@ goes_both old mid new h k =
       closes = λ off. subst (λ l. connections_in l ≡ length l) (sym all)
           (closes_both (all_ends h.turns) (all_ends k.turns) (h.closes off) (k.closes (h.keeps ∙ off)));
       keeps = k.keeps ∙ h.keeps;
+      repeats = subst (λ l. AreRepeated old.server.repeats l new.server.repeats) (sym all)
+          (repeated_both old.server.repeats mid.server.repeats new.server.repeats (all_ends h.turns) (all_ends k.turns) h.repeats k.repeats);
       reaches = subst (ReachEach old.server.has_inner) (sym all)
           (reach_both old.server.has_inner (all_ends h.turns) (all_ends k.turns) h.reaches (subst (λ b. ReachEach b (all_ends k.turns)) h.has_inner k.reaches));
       has_inner = k.has_inner ∙ h.has_inner;
@@ -137,7 +153,7 @@ pub goes_unread : (fault : Fault) (old : Server) (words : ChaCha) (left : ℕ) (
     → Writes before after (connection_fault fault)
     → Goes (record { server = old; log = log; faults = before }) (record { server = record old { words = words; left = left }; log = log; faults = after })
 goes_unread fault old words left log before after is drawn counted told = record {
-  turns = (record { end = Err fault; stays = false; reach = All } ∷ []) ∷ [];
+  turns = (record { end = Err fault; stays = false; reach = All; granted = None; again = None } ∷ []) ∷ [];
   served =
       let then : Running = record { edge = old.edge; log = log; faults = after } in (
         then,
@@ -157,6 +173,7 @@ goes_unread fault old words left log before after is drawn counted told = record
   counted = omega (arith, counted);
   closes = λ _. refl;
   keeps = refl;
+  repeats = record { seconds = refl; each = (tt, tt); kept = λ _ is. is };
   reaches = (tt, tt);
   has_inner = refl;
   log_taken = refl;
@@ -168,7 +185,7 @@ goes_unread fault old words left log before after is drawn counted told = record
 pub goes_parted : (old : Server) (words : ChaCha) (left : ℕ) (log : Option (List ℕ)) (faults : Writer) → words ≡ past_six old.words → old.left ≡ left + 1
     → Goes (record { server = old; log = log; faults = faults }) (record { server = record old { words = words; left = left }; log = log; faults = faults })
 goes_parted old words left log faults drawn counted = record {
-  turns = (record { end = Ok Nothing; stays = false; reach = All } ∷ []) ∷ [];
+  turns = (record { end = Ok Nothing; stays = false; reach = All; granted = None; again = None } ∷ []) ∷ [];
   served =
       let then : Running = record { edge = old.edge; log = log; faults = faults } in (
         then,
@@ -188,6 +205,7 @@ goes_parted old words left log faults drawn counted = record {
   counted = omega (arith, counted);
   closes = λ _. refl;
   keeps = refl;
+  repeats = record { seconds = refl; each = (tt, tt); kept = λ _ is. is };
   reaches = (tt, tt);
   has_inner = refl;
   log_taken = refl;
@@ -217,6 +235,7 @@ goes_unsent server log before after told = record {
   counted = omega arith;
   closes = λ _. refl;
   keeps = refl;
+  repeats = none_repeated server.repeats;
   reaches = tt;
   has_inner = refl;
   log_taken = refl;
@@ -234,6 +253,7 @@ record Went (old : Server) (logged : List ℕ) (new : Server) : Type 0 where
   counted : old.left ≡ connections_in ends + new.left
   closes : old.keeps ≡ false → connections_in ends ≡ length ends
   keeps : new.keeps ≡ old.keeps
+  repeats : AreRepeated old.repeats ends new.repeats
   reaches : ReachEach old.has_inner ends
   has_inner : new.has_inner ≡ old.has_inner
   log_taken : new.log_taken ≡ old.log_taken
@@ -248,6 +268,7 @@ went_nowhere old logged new same none = record {
   counted = omega (arith, ap (λ s. s.left) same);
   closes = λ _. refl;
   keeps = ap (λ s. s.keeps) same;
+  repeats = subst (AreRepeated old.repeats []) (sym (ap (λ (s : Server). s.repeats) same)) (none_repeated old.repeats);
   reaches = tt;
   has_inner = ap (λ s. s.has_inner) same;
   log_taken = ap (λ s. s.log_taken) same;
@@ -280,6 +301,7 @@ went_both old mid new logged more h k =
       counted = omega (arith, h.counted, k.counted, many);
       closes = λ off. closes_both h.ends k.ends (h.closes off) (k.closes (h.keeps ∙ off));
       keeps = k.keeps ∙ h.keeps;
+      repeats = repeated_both old.repeats mid.repeats new.repeats h.ends k.ends h.repeats k.repeats;
       reaches = reach_both old.has_inner h.ends k.ends h.reaches (subst (λ b. ReachEach b k.ends) h.has_inner k.reaches);
       has_inner = k.has_inner ∙ h.has_inner;
       log_taken = k.log_taken ∙ h.log_taken;
@@ -290,22 +312,22 @@ went_both old mid new logged more h k =
           (subst (λ l. l ++ k.ends ≡ []) (sym one.0) two.0, two.1 ∙ one.1);
     }
 
-one_told : (end : Result Served Fault) (stays : Bool) (reach : Reach) (before after : Writer) → ToldOf (fault_of end) before after
-    → AreTold (record { end = end; stays = stays; reach = reach } ∷ []) before after
-one_told (Ok served) stays reach before after h = (before, refl, h)
-one_told (Err fault) stays reach before after h = (after, h, refl)
+one_told : (end : Result Served Fault) (stays : Bool) (reach : Reach) (granted : Option Refreshed) (again : Option Repetition) (before after : Writer) → ToldOf (fault_of end) before after
+    → AreTold (record { end = end; stays = stays; reach = reach; granted = granted; again = again } ∷ []) before after
+one_told (Ok served) stays reach granted again before after h = (before, refl, h)
+one_told (Err fault) stays reach granted again before after h = (after, h, refl)
 
 one_ended : (stays : Bool) → stays ≡ false → ended_if stays + 0 ≡ 1
 one_ended stays off = ap (λ b. ended_if b + 0) off
 
 went_end : (old : Server) (bytes : List ℕ) (over : Bool) (outcome : Outcome) (replied logged : List ℕ) (new : Server) → Ends old bytes over outcome replied logged new → Went old logged new
 went_end old bytes over outcome replied logged new h = record {
-  ends = record { end = h.end; stays = goes_on outcome; reach = reach_by old.has_inner old.is_inner } ∷ [];
+  ends = record { end = h.end; stays = goes_on outcome; reach = reach_by old.has_inner old.is_inner; granted = h.granted; again = None } ∷ [];
   decided = (
     new.edge,
     logged,
     [],
-    (old.now, bytes, over, h.reply, h.decided, may_stay old.keeps h.end (asking_of old bytes over) old.edge outcome h.is_outcome),
+    (old.now, bytes, over, h.reply, h.decided, may_stay old.keeps h.end (asking_of old bytes over) old.edge outcome h.is_outcome, h.is_granted),
     sym (append-nil logged),
     (refl, refl),
   );
@@ -313,17 +335,52 @@ went_end old bytes over outcome replied logged new h = record {
   counted = omega (arith, h.counted, ap (λ s. s.left) h.moved);
   closes = λ off. one_ended (goes_on outcome) (none_stays old.keeps h.end (asking_of old bytes over) old.edge outcome h.is_outcome off);
   keeps = ap (λ s. s.keeps) h.moved;
+  repeats = subst (AreRepeated old.repeats _) (sym (ap (λ (s : Server). s.repeats) h.moved)) (one_granted h.end (goes_on outcome) (reach_by old.has_inner old.is_inner) h.granted old.repeats);
   reaches = (may_reach old.has_inner old.is_inner, tt);
   has_inner = ap (λ s. s.has_inner) h.moved;
   log_taken = ap (λ s. s.log_taken) h.moved;
-  lines = λ told before after t. one_told h.end (goes_on outcome) (reach_by old.has_inner old.is_inner) before after (subst (λ o. ToldOf o before after) (ap (λ s. s.fault) h.moved) t);
+  lines = λ told before after t. one_told h.end (goes_on outcome) (reach_by old.has_inner old.is_inner) h.granted None before after (subst (λ o. ToldOf o before after) (ap (λ s. s.fault) h.moved) t);
   stuck = λ s. absurd (s h.told);
 }
 
+-- a refresh was repeated
+went_again : (old : Server) (bytes : List ℕ) (over : Bool) (outcome : Outcome) (replied logged : List ℕ) (new : Server) → Repeats old bytes over outcome replied logged new → Went old logged new
+went_again old bytes over outcome replied logged new h =
+    let it : Repetition = record { refreshed = h.it; now = old.now } in
+    let end : Ending = record { end = Ok (Done code.Ok); stays = goes_on outcome; reach = reach_by old.has_inner old.is_inner; granted = None; again = Some it } in
+    let found = found_parts (is_repeat old.repeats.seconds old.now h.repeated.refresh.parent h.repeated.refresh.request) old.repeats.kept h.it h.found in
+    record {
+      ends = end ∷ [];
+      decided = (
+        new.edge,
+        logged,
+        [],
+        (ap (λ (s : Server). s.edge) h.moved, h.unlogged, refl, refl, (bytes, over, h.taken, h.reply, h.repeated, stays_taken old.keeps h.taken outcome h.is_outcome)),
+        sym (append-nil logged),
+        (refl, refl),
+      );
+      words = ap (λ s. s.words) h.moved;
+      counted = omega (arith, h.counted, ap (λ s. s.left) h.moved);
+      closes = λ off. one_ended (goes_on outcome) (closes_taken old.keeps h.taken outcome h.is_outcome off);
+      keeps = ap (λ s. s.keeps) h.moved;
+      repeats = subst (AreRepeated old.repeats (end ∷ [])) (sym (ap (λ (s : Server). s.repeats) h.moved)) (record {
+        seconds = refl;
+        each = ((h.on, found.0, recent_by old.repeats.seconds old.now h.repeated.refresh.parent h.repeated.refresh.request h.it found.1), tt);
+        kept = λ _ is. is;
+      });
+      reaches = (may_reach old.has_inner old.is_inner, tt);
+      has_inner = ap (λ s. s.has_inner) h.moved;
+      log_taken = ap (λ s. s.log_taken) h.moved;
+      lines = λ told before after t. (before, refl, subst (λ o. ToldOf o before after) (ap (λ s. s.fault) h.moved) t);
+      stuck = λ s. absurd (s h.told);
+    }
+
 went_one : (old : Server) (bytes : List ℕ) (over : Bool) (outcome : Outcome) (replied logged : List ℕ) (new : Server) → Decides old bytes over outcome replied logged new → Went old logged new
 went_one old bytes over More replied logged new h = went_nowhere old logged new h.same h.unlogged
-went_one old bytes over (Decided taken stays) replied logged new h = went_end old bytes over (Decided taken stays) replied logged new h
-went_one old bytes over Ended replied logged new h = went_end old bytes over Ended replied logged new h
+went_one old bytes over (Decided taken stays) replied logged new (inl h) = went_end old bytes over (Decided taken stays) replied logged new h
+went_one old bytes over (Decided taken stays) replied logged new (inr h) = went_again old bytes over (Decided taken stays) replied logged new h
+went_one old bytes over Ended replied logged new (inl h) = went_end old bytes over Ended replied logged new h
+went_one old bytes over Ended replied logged new (inr h) = went_again old bytes over Ended replied logged new h
 
 -- the requests of one connection
 went_each : (old : Server) (input : List ℕ) (over : Bool) (all : List Request) (last : Outcome) (replied logged : List ℕ) (new : Server) (rest : List ℕ)
@@ -364,10 +421,10 @@ module _ (places : List ℕ) (old new : State Server) (log : LogChange) (before 
 
   -- a turn by what it decided, and what became of its records
   gone : (mid : Server) (logged : List ℕ) → Went old.service logged mid → old.service.fault ≡ None → ToldOf mid.fault before told
-      → new.service.words ≡ mid.words → new.service.left ≡ mid.left → new.service.keeps ≡ mid.keeps → new.service.has_inner ≡ mid.has_inner → new.service.log_taken ≡ mid.log_taken
+      → new.service.words ≡ mid.words → new.service.left ≡ mid.left → new.service.keeps ≡ mid.keeps → new.service.repeats ≡ mid.repeats → new.service.has_inner ≡ mid.has_inner → new.service.log_taken ≡ mid.log_taken
       → IsKept (record { edge = old.service.edge; log = log.before; faults = before }) mid.edge logged told then
       ⊎ IsLost (record { edge = old.service.edge; log = log.before; faults = before }) mid.edge logged told then → Gone
-  gone mid logged went untold lines words left keeps has_inner log_taken became =
+  gone mid logged went untold lines words left keeps repeats has_inner log_taken became =
       let all : went.ends ++ [] ≡ went.ends = append-nil went.ends in
       let many : connections_in (went.ends ++ []) ≡ connections_in went.ends = ap connections_in all in
       record {
@@ -390,6 +447,7 @@ module _ (places : List ℕ) (old new : State Server) (log : LogChange) (before 
         counted = omega (arith, went.counted, left, many);
         closes = λ off. subst (λ l. connections_in l ≡ length l) (sym all) (went.closes off);
         keeps = keeps ∙ went.keeps;
+        repeats = subst (λ l. AreRepeated old.service.repeats l new.service.repeats) (sym all) (subst (AreRepeated old.service.repeats went.ends) (sym repeats) went.repeats);
         reaches = subst (ReachEach old.service.has_inner) (sym all) went.reaches;
         has_inner = has_inner ∙ went.has_inner;
         log_taken = log_taken ∙ went.log_taken;
@@ -402,7 +460,7 @@ module _ (places : List ℕ) (old new : State Server) (log : LogChange) (before 
   goes_kept mid logged decided kept untold lines same =
       gone mid.service logged (went_at places old.service old.links mid.service mid.links logged decided) untold
       (subst (λ (x : Server). ToldOf x.fault before told) kept.service lines)
-      (ap (λ (x : Server). x.words) kept.service) (ap (λ (x : Server). x.left) kept.service) (ap (λ (x : Server). x.keeps) kept.service) (ap (λ (x : Server). x.has_inner) kept.service) (ap (λ (x : Server). x.log_taken) kept.service)
+      (ap (λ (x : Server). x.words) kept.service) (ap (λ (x : Server). x.left) kept.service) (ap (λ (x : Server). x.keeps) kept.service) (ap (λ (x : Server). x.repeats) kept.service) (ap (λ (x : Server). x.has_inner) kept.service) (ap (λ (x : Server). x.log_taken) kept.service)
       (inl (record { log = kept.appended; edge = ap (λ (x : Server). x.edge) kept.service; faults = same }))
 
   -- the log failed
@@ -411,7 +469,7 @@ module _ (places : List ℕ) (old new : State Server) (log : LogChange) (before 
   goes_lost mid logged decided lost untold lines line =
       gone mid.service logged (went_at places old.service old.links mid.service mid.links logged decided) untold
       (subst (λ o. ToldOf o before told) (ap (λ (x : Server). x.fault) lost.service) lines)
-      (ap (λ (x : Server). x.words) lost.service) (ap (λ (x : Server). x.left) lost.service) (ap (λ (x : Server). x.keeps) lost.service) (ap (λ (x : Server). x.has_inner) lost.service) (ap (λ (x : Server). x.log_taken) lost.service)
+      (ap (λ (x : Server). x.words) lost.service) (ap (λ (x : Server). x.left) lost.service) (ap (λ (x : Server). x.keeps) lost.service) (ap (λ (x : Server). x.repeats) lost.service) (ap (λ (x : Server). x.has_inner) lost.service) (ap (λ (x : Server). x.log_taken) lost.service)
       (inr (record { some = lost.some; log = lost.appended; edge = ap (λ (x : Server). x.edge) lost.service; faults = line }))
 
 -- ---- what turns leave of a region

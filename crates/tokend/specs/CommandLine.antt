@@ -97,6 +97,10 @@ greatest_requests = 4294967295
 abbrev pub greatest_keep : ℕ
 greatest_keep = 3600
 
+-- the greatest number of seconds for which a refresh that is repeated gets its reply again
+abbrev pub greatest_repeat : ℕ
+greatest_repeat = 60
+
 -- the option `--id N`, with a number from 1 to the greatest and a default
 abbrev pub number_rule : Text → Text → ℕ → Rule
 number_rule id default greatest =
@@ -187,6 +191,7 @@ service_rules =
     ∷ number_rule (codes "connections") (codes "1024") greatest_connections
     ∷ range_rule (codes "requests") 0 greatest_requests false
     ∷ range_rule (codes "keep") 0 greatest_keep false
+    ∷ range_rule (codes "repeat") 0 greatest_repeat false
     ∷ []
 
 -- the subcommand `serve`
@@ -302,6 +307,9 @@ pub record HasService (rows : List Row) (s : Service) : Type 0 where
       → ¬ (HasNumber rows (codes "requests") 0 greatest_requests n))
   pub keep : IfSome s.keep (HasNumber rows (codes "keep") 0 greatest_keep)
   pub unkept : IfNone s.keep ((n : ℕ) → ¬ (HasNumber rows (codes "keep") 0 greatest_keep n))
+  pub repeat : IfSome s.repeat (HasNumber rows (codes "repeat") 0 greatest_repeat)
+  pub unrepeated : IfNone s.repeat ((n : ℕ)
+      → ¬ (HasNumber rows (codes "repeat") 0 greatest_repeat n))
   pub seed : HasText rows (codes "seed") (Some s.seed)
   pub log : HasText rows (codes "log") s.log
   pub load : HasText rows (codes "load") s.load

@@ -4,11 +4,12 @@
 --   IsDecision     what is decided of some bytes that have come, and the record of it
 --   FrontDecides   what serving the front of bytes decides
 --   reach_by       which paths the requests of a socket reach
+--   Repeats        a server gives the reply to a refresh again
 --   Decides        what a server decides of the bytes of a connection
 --   Seals          a server whose log has failed is sealed
 -- Throughout, `words` are the six random words of a request, `log_taken` is whether bundles taken
 -- in are logged, and `end` is how the request ended.
-use Rattle.std.specs.Prelude.{◌≡◌, ◌≢◌, ◌⊎◌, ⊤, ℕ, ◌+◌, ◌&&◌, Bool, true, false, List, [], length}
+use Rattle.std.specs.Prelude.{◌≡◌, ◌≢◌, ◌⊎◌, ⊤, ℕ, ◌+◌, ◌&&◌, Bool, true, false, List, [], length, find}
 use Rattle.std.specs.Prelude.{Option, Some, None, Result, Ok, Err, not, if◌then◌else◌}
 use Rattle.tk_edge.specs.EdgeFields.{EdgeFields}
 use Rattle.tk_edge.specs.Fronts.{HasCome, IsPartial}
@@ -24,10 +25,17 @@ use Rattle.tk_edge.specs.declared.edge.Served.TheVariants.{Nothing, Done}
 use Rattle.tk_edge.specs.declared.front.Taken.{Taken}
 use Rattle.tk_edge.specs.declared.tell.Fault.{Fault}
 use Rattle.tk_edge.specs.declared.tell.Fault.TheVariants.{Read, Memory}
+use Rattle.tk_message.specs.Place.{next_in}
+use Rattle.tk_message.specs.declared.status_code.StatusCode.TheVariants as code
+use Rattle.tk_region.specs.RegionFields.{place_in}
 use Rattle.tk_turn.specs.Outcomes.{goes_on}
 use Rattle.tk_turn.specs.declared.service.Outcome.{Outcome}
 use Rattle.tk_turn.specs.declared.service.Outcome.TheVariants.{More, Decided, Ended}
 use Rattle.tokend.specs.Draw.{six, past_six}
+use Rattle.tokend.specs.Repeats.{IsRefresh, IsRepeated, Repetition, RepeatsFields, granted_at}
+use Rattle.tokend.specs.Repeats.{is_repeat, kept_with}
+use Rattle.tokend.specs.declared.repeats.Refreshed.{Refreshed}
+use Rattle.tokend.specs.declared.repeating.Refresh.{Refresh}
 use Rattle.tokend.specs.declared.server.Server.{Server}
 
 -- the change of a list in memory that gets these bytes
@@ -80,21 +88,33 @@ IsTaken asking old taken =
     → (came : Arrival) × HasCome asking.reach asking.bytes asking.over came taken)
     × (old.sealed ≡ true → taken ≡ record { size = length asking.bytes; stays = false })
 
--- How a request ended, whether its connection stays open behind the reply, and which paths it
--- reached.
+-- How a request ended, whether its connection stays open behind the reply, which paths it reached,
+-- the refresh that was granted by it, if one is kept, and the one that it repeated, if it did.
 pub record Ending : Type 0 where
   pub end : Result Served Fault
   pub stays : Bool
   pub reach : Reach
+  pub granted : Option Refreshed
+  pub again : Option Repetition
 
 -- a connection stays only behind a request that lets it (RFC 9112, 9.3)
 abbrev pub MayStay : Asking → EdgeFields → Bool → Type 0
 MayStay asking old false = ⊤
 MayStay asking old true = (taken : Taken) × IsTaken asking old taken × (taken.stays ≡ true)
 
--- what is decided of some bytes that have come, at some moment, with its record
-abbrev pub IsDecision : List ℕ → Bool → EdgeFields → Ending → List ℕ → EdgeFields → Type 0
-IsDecision words log_taken old ending logged new =
+-- the refresh that is kept of a request is one that came, and was granted (RFC 6749, 5.1)
+abbrev pub MayGrant : Asking → EdgeFields → Result Served Fault → Option Refreshed → Type 0
+MayGrant asking old end None = ⊤
+MayGrant asking old end (Some it) =
+    (refresh : Refresh) × (taken : Taken)
+    × IsRefresh asking.reach asking.bytes asking.over refresh taken
+    × (it ≡ granted_at refresh asking.now (next_in (place_in old.region)) asking.words)
+    × (end ≡ Ok (Done code.Ok))
+
+-- what is decided of some bytes that have come, at some moment, with its record; the refresh that is
+-- kept of it
+abbrev pub IsDecisionOf : List ℕ → Bool → EdgeFields → Ending → List ℕ → EdgeFields → Type 0
+IsDecisionOf words log_taken old ending logged new =
     (now : ℕ) × (bytes : List ℕ) × (over : Bool) × (reply : List ℕ)
     × IsDecided (record {
       words = words;
@@ -112,6 +132,34 @@ IsDecision words log_taken old ending logged new =
       bytes = bytes;
       over = over;
     }) old ending.stays
+    × MayGrant (record {
+      words = words;
+      log_taken = log_taken;
+      reach = ending.reach;
+      now = now;
+      bytes = bytes;
+      over = over;
+    }) old ending.end ending.granted
+
+-- a refresh is repeated: it gets its reply again, nothing is logged, and the edge is unchanged
+abbrev pub IsRepetition : Repetition → EdgeFields → Ending → List ℕ → EdgeFields → Type 0
+IsRepetition it old ending logged new =
+    (new ≡ old) × (logged ≡ []) × (ending.end ≡ Ok (Done code.Ok)) × (ending.granted ≡ None)
+    × ((bytes : List ℕ) × (over : Bool) × (taken : Taken) × (reply : List ℕ)
+    × IsRepeated ending.reach bytes over old it taken reply × (ending.stays ≡ true → taken.stays ≡ true))
+
+-- what is decided of some bytes, by what they repeat
+abbrev pub IsDecisionBy : Option Repetition → List ℕ → Bool → EdgeFields → Ending → List ℕ
+    → EdgeFields → Type 0
+IsDecisionBy None words log_taken old ending logged new =
+    IsDecisionOf words log_taken old ending logged new
+IsDecisionBy (Some it) words log_taken old ending logged new =
+    IsRepetition it old ending logged new
+
+-- what is decided of some bytes that have come: anew, or as a refresh that is repeated
+abbrev pub IsDecision : List ℕ → Bool → EdgeFields → Ending → List ℕ → EdgeFields → Type 0
+IsDecision words log_taken old ending logged new =
+    IsDecisionBy ending.again words log_taken old ending logged new
 
 -- what serving the front of bytes decides: nothing, as no request is whole, or how the connection
 -- ended
@@ -163,14 +211,20 @@ abbrev pub fault_of : Result Served Fault → Option Fault
 fault_of (Ok served) = None
 fault_of (Err fault) = Some fault
 
--- a server after a request with this end: this many connections are left, and the next request
--- has the next words
-abbrev pub moved_on : Server → Result Served Fault → EdgeFields → ℕ → Server
-moved_on old end edge left = record old {
+-- the repeats with the refresh that was granted, if it is kept
+abbrev pub kept_by : Option Refreshed → RepeatsFields → RepeatsFields
+kept_by None repeats = repeats
+kept_by (Some it) repeats = kept_with it repeats
+
+-- a server after a request with this end, and this refresh that is kept of it: this many
+-- connections are left, and the next request has the next words
+abbrev pub moved_on : Server → Result Served Fault → EdgeFields → Option Refreshed → ℕ → Server
+moved_on old end edge granted left = record old {
   edge = edge;
   words = past_six old.words;
   left = left;
   fault = fault_of end;
+  repeats = kept_by granted old.repeats;
 }
 
 -- which paths the requests of a socket reach: those of clients alone over an outer socket beside an
@@ -198,9 +252,11 @@ pub record Ends (old : Server) (bytes : List ℕ) (over : Bool) (outcome : Outco
   pub decided : IsDecided (asking_of old bytes over) old.edge end reply logged new.edge
   pub is_outcome : IsOutcome old.keeps end (asking_of old bytes over) old.edge outcome
   pub is_sent : IsSent (goes_on outcome) end reply replied
+  pub granted : Option Refreshed
+  pub is_granted : MayGrant (asking_of old bytes over) old.edge end granted
   pub left : ℕ
   pub counted : old.left ≡ left + ended_if (goes_on outcome)
-  pub moved : new ≡ moved_on old end new.edge left
+  pub moved : new ≡ moved_on old end new.edge granted left
 
 -- a server decides nothing: no request is whole, no connection is left to be served, or a fault
 -- isn't told yet
@@ -212,10 +268,32 @@ pub record Waits (old : Server) (bytes : List ℕ) (over : Bool) (replied logged
   pub unreplied : replied ≡ []
   pub unlogged : logged ≡ []
 
+-- A server gives the reply to a refresh again, if refreshes may be repeated and it keeps the one that
+-- the request repeats. Its edge is unchanged, and nothing is logged.
+pub record Repeats (old : Server) (bytes : List ℕ) (over : Bool) (outcome : Outcome)
+    (replied logged : List ℕ) (new : Server) : Type 0 where
+  pub told : old.fault ≡ None
+  pub on : old.repeats.seconds ≢ 0
+  pub it : Refreshed
+  pub taken : Taken
+  pub reply : List ℕ
+  pub repeated : IsRepeated (reach_by old.has_inner old.is_inner) bytes over old.edge
+      (record { refreshed = it; now = old.now }) taken reply
+  pub found : find (is_repeat old.repeats.seconds old.now repeated.refresh.parent
+      repeated.refresh.request) old.repeats.kept ≡ Some it
+  pub is_outcome : outcome ≡ outcome_by old.keeps (Done code.Ok) taken
+  pub is_sent : IsReplied (goes_on outcome) reply replied
+  pub unlogged : logged ≡ []
+  pub left : ℕ
+  pub counted : old.left ≡ left + ended_if (goes_on outcome)
+  pub moved : new ≡ moved_on old (Ok (Done code.Ok)) old.edge None left
+
 -- what a server decides of the bytes of a connection
 abbrev pub Decides : Server → List ℕ → Bool → Outcome → List ℕ → List ℕ → Server → Type 0
 Decides old bytes over More replied logged new = Waits old bytes over replied logged new
-Decides old bytes over outcome replied logged new = Ends old bytes over outcome replied logged new
+Decides old bytes over outcome replied logged new =
+    Ends old bytes over outcome replied logged new
+    ⊎ Repeats old bytes over outcome replied logged new
 
 -- a server whose log has failed is sealed, and nothing else changes
 abbrev pub Seals : Server → Server → Type 0

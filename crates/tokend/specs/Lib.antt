@@ -12,6 +12,8 @@
 --   Serving       Announces, the lines before a service's first connection; IsServiceFault, what
 --                 may prevent it
 --   Decisions     Decides, what a server decides of the bytes that have come
+--   Repeats       is_repeat, a refresh that is repeated
+--   Repeating     IsAsked, what a request asks if refreshes may be repeated
 --   Turns         AreTurns, what turns do to an edge, its log and the lines about faults
 --   Connection    IsConnection, what a connection of `loopback` does to an edge and its log
 --   ServiceRun    IsServiceRun, what a service that ended well has done
@@ -24,25 +26,27 @@
 --   FactsRun      PrintsFacts, what printing the facts of sources does
 --   CheckRun      ChecksFacts, what checking whether sources can be loaded does
 --   ProgramRun    IsDone, IsFaultFor: what a run of the program does
-pub mod CommandLine
+pub mod CheckRun
 pub mod Choices
-pub mod Kinds
-pub mod Task
-pub mod Draw
-pub mod Telling
-pub mod Script
-pub mod Loading
-pub mod Starting
-pub mod Serving
-pub mod Decisions
-pub mod Turns
+pub mod CommandLine
 pub mod Connection
-pub mod ServiceRun
+pub mod Decisions
+pub mod Draw
+pub mod FactsRun
 pub mod Growing
 pub mod KeptLog
-pub mod Status
-pub mod ScriptRun
+pub mod Kinds
+pub mod Loading
 pub mod LoopbackRun
-pub mod FactsRun
-pub mod CheckRun
 pub mod ProgramRun
+pub mod Repeating
+pub mod Repeats
+pub mod Script
+pub mod ScriptRun
+pub mod ServiceRun
+pub mod Serving
+pub mod Starting
+pub mod Status
+pub mod Task
+pub mod Telling
+pub mod Turns

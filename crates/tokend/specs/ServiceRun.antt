@@ -4,6 +4,7 @@
 --   HasRun         the service has run, from its start on
 --   IsServiceRun   the service has run, from reading its seed on
 use Rattle.std.specs.Prelude.{ℕ, List, Option, Ok, is_some}
+use Rattle.std.specs.Option.{unwrap_or}
 use Rattle.rand_chacha.specs.ChaCha.{ChaCha}
 use Rattle.tk_edge.specs.EdgeFields.{EdgeFields}
 use Rattle.tk_edge.specs.Told.{Change}
@@ -36,7 +37,7 @@ pub record HasOpened {L : Type 0} (holds : L → Option (List ℕ)) (opens : Lis
       output.before output.after
   pub end : EdgeFields
   pub served : ServesLogged holds opens service.log words service.requests (keeps_in service.keep)
-      (is_some service.at.inner) service.log_taken
+      (unwrap_or service.repeat 0) (is_some service.at.inner) service.log_taken
       (record { start = with_region start region; end = end; faults = faults })
 
 -- the old log was loaded, and the service opened with the region that came of it

@@ -6,6 +6,7 @@
 --   AreTurns       turns, one after the other
 --   connections_in   how many connections ended
 --   ReachEach      each request reached no more than its socket lets it
+--   AreRepeats     what was repeated had been granted lately
 --   so_many        how many connections are served
 --   ServesAll      as many connections as requested were served
 --   ServesLogged   as many connections as requested were served, with the log of a name
@@ -50,9 +51,11 @@ use Rattle.tk_edge.specs.declared.tell.Fault.{Fault}
 use Rattle.tk_edge.specs.declared.tell.Fault.TheVariants.{Log, Write}
 use Rattle.tokend.specs.Decisions.{Ending, IsDecision, ended_if}
 use Rattle.tokend.specs.Draw.{six, past_six}
+use Rattle.tokend.specs.Repeats.{IsIn, MayRepeat, RepeatsFields, with_granted}
 use Rattle.tokend.specs.Serving.{connection_fault}
 use Rattle.tokend.specs.Starting.{IsEmptyLog}
 use Rattle.tokend.specs.Telling.{Writer, Writes, Writing}
+use Rattle.tokend.specs.declared.repeats.Refreshed.{Refreshed}
 use Rattle.tokend.specs.declared.server.Server.{Server}
 
 -- how the requests of a turn ended, in the order in which they were decided
@@ -79,6 +82,31 @@ abbrev pub ReachEach : Bool → Endings → Type 0
 ReachEach has_inner [] = ⊤
 ReachEach has_inner (ending ∷ endings) =
     MayReach has_inner ending.reach × ReachEach has_inner endings
+
+-- the refreshes that were granted, with those of these requests
+abbrev pub all_granted : List Refreshed → Endings → List Refreshed
+all_granted granted [] = granted
+all_granted granted (ending ∷ endings) =
+    all_granted (with_granted ending.granted granted) endings
+
+-- each of these requests that repeats a refresh repeats one that was granted before, at most so many
+-- seconds ago
+abbrev pub AreRepeats : ℕ → List Refreshed → Endings → Type 0
+AreRepeats seconds granted [] = ⊤
+AreRepeats seconds granted (ending ∷ endings) =
+    MayRepeat seconds granted ending.again
+    × AreRepeats seconds (with_granted ending.granted granted) endings
+
+-- these refreshes are among those
+abbrev pub AreAmong : List Refreshed → List Refreshed → Type 0
+AreAmong some all = (it : Refreshed) → IsIn it some → IsIn it all
+
+-- Requests repeated what may be repeated, and what is kept is of that or was granted by them.
+pub record AreRepeated (old : RepeatsFields) (endings : Endings) (new : RepeatsFields) : Type 0
+    where
+  pub seconds : new.seconds ≡ old.seconds
+  pub each : AreRepeats old.seconds old.kept endings
+  pub kept : AreAmong new.kept (all_granted old.kept endings)
 
 -- the generator after the words of these requests
 abbrev pub past_each : ChaCha → Endings → ChaCha
@@ -170,11 +198,11 @@ abbrev pub keeps_in : Option ℕ → Bool
 keeps_in seconds = nat_lt 0 (unwrap_or seconds 0)
 
 -- as many connections as requested were served, from one state to the other
-abbrev pub ServesAll : ChaCha → Option ℕ → Bool → Bool → Bool → Running → Running → Type 0
-ServesAll words requests keeps has_inner log_taken old new =
+abbrev pub ServesAll : ChaCha → Option ℕ → Bool → ℕ → Bool → Bool → Running → Running → Type 0
+ServesAll words requests keeps repeat has_inner log_taken old new =
     (turns : List Endings) × (connections_in (all_ends turns) ≡ so_many requests)
-    × ClosesEach keeps (all_ends turns) × ReachEach has_inner (all_ends turns)
-    × AreTurns words log_taken old turns new
+    × ClosesEach keeps (all_ends turns) × AreRepeats repeat [] (all_ends turns)
+    × ReachEach has_inner (all_ends turns) × AreTurns words log_taken old turns new
 
 -- An edge and the writer of the lines about faults, before and after its service.
 pub record Course : Type 0 where
@@ -183,9 +211,9 @@ pub record Course : Type 0 where
   pub faults : Writing
 
 -- as many connections as requested were served, with this log
-abbrev pub ServesWith : ChaCha → Option ℕ → Bool → Bool → Bool → Course → Change → Type 0
-ServesWith words requests keeps has_inner log_taken s log =
-    ServesAll words requests keeps has_inner log_taken
+abbrev pub ServesWith : ChaCha → Option ℕ → Bool → ℕ → Bool → Bool → Course → Change → Type 0
+ServesWith words requests keeps repeat has_inner log_taken s log =
+    ServesAll words requests keeps repeat has_inner log_taken
     (record { edge = s.start; log = log.before; faults = s.faults.before })
     (record { edge = s.end; log = log.after; faults = s.faults.after })
 
@@ -193,12 +221,13 @@ ServesWith words requests keeps has_inner log_taken s log =
 -- was empty, or without a log, if there is no name. `holds` has the bytes of a log, if they are
 -- known, and `opens` which log a name opens.
 abbrev pub ServesLogged : {A L : Type 0} → (L → Option (List ℕ)) → (List ℕ → L → Type 0)
-    → Option (String A) → ChaCha → Option ℕ → Bool → Bool → Bool → Course → Type 0
-ServesLogged holds opens None words requests keeps has_inner log_taken s =
-    ServesWith words requests keeps has_inner log_taken s (record { before = None; after = None })
-ServesLogged {L = L} holds opens (Some name) words requests keeps has_inner log_taken s =
+    → Option (String A) → ChaCha → Option ℕ → Bool → ℕ → Bool → Bool → Course → Type 0
+ServesLogged holds opens None words requests keeps repeat has_inner log_taken s =
+    ServesWith words requests keeps repeat has_inner log_taken s
+    (record { before = None; after = None })
+ServesLogged {L = L} holds opens (Some name) words requests keeps repeat has_inner log_taken s =
     (opened : L) × (closed : L) × opens (string_bytes name) opened × IsEmptyLog (holds opened)
-    × ServesWith words requests keeps has_inner log_taken s
+    × ServesWith words requests keeps repeat has_inner log_taken s
     (record { before = holds opened; after = holds closed })
 
 -- a server with the bytes of its log and the writer of the lines about faults
@@ -220,6 +249,7 @@ pub record Goes (old new : Site) : Type 0 where
   pub counted : old.server.left ≡ connections_in (all_ends turns) + new.server.left
   pub closes : ClosesEach old.server.keeps (all_ends turns)
   pub keeps : new.server.keeps ≡ old.server.keeps
+  pub repeats : AreRepeated old.server.repeats (all_ends turns) new.server.repeats
   pub reaches : ReachEach old.server.has_inner (all_ends turns)
   pub has_inner : new.server.has_inner ≡ old.server.has_inner
   pub log_taken : new.server.log_taken ≡ old.server.log_taken

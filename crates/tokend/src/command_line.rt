@@ -163,7 +163,7 @@ fn serve_command<'a>(alloc: Global) -> Result<Command<'a>, AllocError>
     let serve = Command::new(alloc, "serve").about(
         "Serves requests over HTTP, those of many connections at once",
     );
-    let choices: [Choice<'a>; 16] = [
+    let choices: [Choice<'a>; 17] = [
         ("region", Takes::Range(1, Service::GREATEST_REGION, true),
             "The number of the region that is served, 1 to 65535, like no other's and never used again [required]"),
         ("port", Takes::Range(0, Address::GREATEST_PORT, false),
@@ -196,6 +196,8 @@ fn serve_command<'a>(alloc: Global) -> Result<Command<'a>, AllocError>
             "How many connections are served, 0 to 4294967295 [default: without end]"),
         ("keep", Takes::Range(0, Service::GREATEST_KEEP, false),
             "How many seconds a connection stays open between its requests, 0 to 3600, 0 for one request each [default: 0]"),
+        ("repeat", Takes::Range(0, Service::GREATEST_REPEAT, false),
+            "For how many seconds a refresh that is repeated gets its reply again, 0 to 60 [default: 0]"),
     ];
     match with_choices(alloc, serve, &choices) {
         Ok(serve) => with_settings(alloc, serve),

@@ -64,6 +64,8 @@ mod options;
 mod program;
 pub mod promises;
 mod records;
+mod repeating;
+mod repeats;
 mod script;
 mod serve;
 mod server;

@@ -97,6 +97,9 @@ pub struct Service {
     /// For how many seconds a connection stays open between its requests. `None` or 0: each
     /// connection has one request.
     pub keep: Option<u64>,
+    /// For how many seconds a refresh that is repeated gets its reply again. `None` or 0: a repeat
+    /// is a reuse.
+    pub repeat: Option<u64>,
     /// The file of the generator's key.
     pub seed: String,
     /// The file to which records are written, if any.
@@ -236,6 +239,9 @@ impl Service {
 
     /// The greatest number of seconds for which a connection stays open between its requests.
     pub const GREATEST_KEEP: u64 = 3_600;
+
+    /// The greatest number of seconds for which a refresh that is repeated gets its reply again.
+    pub const GREATEST_REPEAT: u64 = 60;
 }
 
 // Reads the task of clap's matches. clap ensures that there are a subcommand and its numbers.
@@ -319,6 +325,7 @@ fn read_service(alloc: Global, matches: &ArgMatches<'_>) -> Result<Option<Servic
     let prune = number(matches, "prune", 0, Moment::GREATEST);
     let requests = number(matches, "requests", 0, Service::GREATEST_REQUESTS);
     let keep = number(matches, "keep", 0, Service::GREATEST_KEEP);
+    let repeat = number(matches, "repeat", 0, Service::GREATEST_REPEAT);
     Ok(Some(Service {
         numbers,
         region: region as u16,
@@ -326,6 +333,7 @@ fn read_service(alloc: Global, matches: &ArgMatches<'_>) -> Result<Option<Servic
         connections,
         requests,
         keep,
+        repeat,
         seed,
         log,
         log_taken,

@@ -2,6 +2,7 @@
 //! before each reply.
 
 ghost use Rattle.std.specs.Prelude.{◌≡◌, IfErr, IfSome, IsSome, OnOk, OnErr, is_some, true};
+ghost use Rattle.std.specs.Option.{unwrap_or};
 ghost use Rattle.tk_handle.specs.Ranges.{IsMoment, IsRegion};
 ghost use Rattle.tk_region.specs.SettingsFields.{IsSettings};
 ghost use Rattle.tokend.specs.CommandLine.{settings_of};
@@ -24,6 +25,7 @@ use crate::folder::Folder;
 use crate::listen::{Opening, listen};
 use crate::options::Service;
 use crate::records::Records;
+use crate::repeats::Repeats;
 use crate::server::Server;
 use crate::start::{begin, load_old, prune_old};
 use crate::turns::serve_on;
@@ -171,7 +173,7 @@ where
         (Announces opening service.now.at (O.contents output.old) (O.contents output.new)) }
     ensures served { OnOk result
         (ServesLogged L.holds (D.opens folder.now) service.now.log start.old.words
-        service.now.requests (keeps_in service.now.keep)
+        service.now.requests (keeps_in service.now.keep) (unwrap_or service.now.repeat 0)
         (is_some service.now.at.inner) service.now.log_taken
         (record {
           start = start.old.edge;
@@ -218,7 +220,7 @@ where
         (Announces opening service.now.at (O.contents output.old) (O.contents output.new)) }
     ensures served { OnOk result
         (ServesWith start.old.words service.now.requests (keeps_in service.now.keep)
-        (is_some service.now.at.inner) service.now.log_taken
+        (unwrap_or service.now.repeat 0) (is_some service.now.at.inner) service.now.log_taken
         (record {
           start = start.old.edge;
           end = start.new.edge;
@@ -239,6 +241,7 @@ where
             let keep = service.keep.unwrap_or(0);
             connections.keep(keep);
             start.keeps = keep > 0;
+            start.repeats = Repeats::new(rt.alloc(), service.repeat.unwrap_or(0));
             start.has_inner = service.at.inner.is_some();
             start.log_taken = service.log_taken;
             start.left = service.requests.unwrap_or(u64::MAX);

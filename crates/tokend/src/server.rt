@@ -1,5 +1,6 @@
 //! What decides the requests of a service: `Server`.
 
+use crate::repeats::Repeats;
 use rand_chacha::ChaCha20Rng;
 use std::alloc::Global;
 use tk_edge::{Edge, Fault as EdgeFault};
@@ -28,19 +29,24 @@ pub(crate) struct Server {
     pub left: u64,
     /// The fault of a connection that isn't told yet. Until it is told, nothing is decided.
     pub fault: Option<EdgeFault>,
+    /// The refreshes that were granted a short time ago.
+    pub repeats: Repeats,
 }
 
 ghost use Rattle.std.specs.Prelude.{◌≡◌, ◌+◌, ◌<◌, ◌≤◌, ◌++◌, ℕ, List, Option, None, Ok, length};
-ghost use Rattle.tk_turn.specs.Outcomes.{goes_on};
+ghost use Rattle.std.specs.Prelude.{IfSome, true};
+ghost use Rattle.tk_turn.specs.Outcomes.{goes_on, taken_of};
 ghost use Rattle.tokend.specs.Decisions.{ended_if, outcome_by, reach_by};
 ghost use Rattle.tokend.specs.Decisions.{Decides, FrontDecides, IsReplied};
 ghost use Rattle.tokend.specs.Decisions.{IsUnread, Seals};
+ghost use Rattle.tokend.specs.Repeating.{IsCome};
 ghost use Rattle.tokend.specs.Serving.{connection_fault};
 ghost use Rattle.tokend.specs.Telling.{Writer, Writes, writer_of};
 ghost use Rattle.tokend.specs.Turns.{Goes, ToldOf};
 ghost use Rattle.tokend.specs.declared.server.Server.{Server as AnyServer};
 
 use crate::draw::draw;
+use crate::repeating::{Asked, Refresh};
 use crate::telling::say;
 use std::mem::replace;
 use tk_edge::{Counted, Reach, Served, Sink, Taken, keep_open};
@@ -67,23 +73,13 @@ impl Service for Server {
         if self.left == 0 || self.fault.is_some() {
             return Outcome::More;
         }
-        let mark = replies.len();
-        let mut next = copy(&self.words);
-        let words = draw(&mut next);
-        match self.serve_front(input, is_over, &words, replies, records) {
-            Ok(None) => Outcome::More,
-            Ok(Some((served, taken))) => {
-                let outcome = outcome_of(self.keeps, served, taken);
-                let stays = stays_open(outcome);
-                reply_over(stays, replies, mark);
-                self.move_on(next, None, stays);
-                outcome
+        match self.ask(input, is_over) {
+            Asked::Other => self.decide_anew(None, input, is_over, replies, records),
+            Asked::Refresh(refresh) => {
+                self.decide_anew(Some(refresh), input, is_over, replies, records)
             }
-            Err(fault) => {
-                replies.truncate(mark);
-                self.move_on(next, Some(fault), false);
-                Outcome::Ended
-            }
+            Asked::Again(reply, taken) => self.reply_again(&reply, taken, replies),
+            Asked::Short => self.fall_short(),
         }
     }
 
@@ -94,7 +90,7 @@ impl Service for Server {
 
 // Returns which paths the requests of a socket reach: those of clients alone over an outer socket
 // beside an inner one, otherwise all.
-fn reach(has_inner: bool, is_inner: bool) -> Reach
+pub(crate) fn reach(has_inner: bool, is_inner: bool) -> Reach
     ensures { result ≡ reach_by has_inner is_inner }
 {
     if has_inner && !is_inner {
@@ -115,7 +111,7 @@ fn make_room(records: &mut Vec<u8>, replies: &mut Vec<u8>, size: usize) -> bool
 }
 
 // Returns a generator that gives the same words.
-fn copy(words: &ChaCha20Rng) -> ChaCha20Rng
+pub(crate) fn copy(words: &ChaCha20Rng) -> ChaCha20Rng
     ensures { result ≡ words.now }
 {
     match words.clone() {
@@ -126,7 +122,7 @@ fn copy(words: &ChaCha20Rng) -> ChaCha20Rng
 
 // Returns what is made of a connection that was served. A further request is read of it only if
 // connections are kept and its request lets it stay.
-fn outcome_of(keeps: bool, served: Served, taken: Taken) -> Outcome
+pub(crate) fn outcome_of(keeps: bool, served: Served, taken: Taken) -> Outcome
     ensures { result ≡ outcome_by keeps served taken }
 {
     match served {
@@ -136,7 +132,7 @@ fn outcome_of(keeps: bool, served: Served, taken: Taken) -> Outcome
 }
 
 // Returns whether the connection stays open.
-fn stays_open(outcome: Outcome) -> bool
+pub(crate) fn stays_open(outcome: Outcome) -> bool
     ensures { result ≡ goes_on outcome }
 {
     match outcome {
@@ -154,7 +150,7 @@ fn ended_if(stays: bool) -> u64
 }
 
 // Has the reply from `mark` on say nothing of the end of its connection, if that stays.
-fn reply_over(stays: bool, replies: &mut Vec<u8>, mark: usize)
+pub(crate) fn reply_over(stays: bool, replies: &mut Vec<u8>, mark: usize)
     requires { mark ≤ length replies.old.items }
     ensures { (front reply : List ℕ) → replies.old.items ≡ front ++ reply → mark ≡ length front
         → (sent : List ℕ) × IsReplied stays reply sent × (replies.new.items ≡ front ++ sent) }
@@ -181,6 +177,50 @@ impl Server {
             now: Moment::new(0).unwrap(),
             left: 0,
             fault: None,
+            repeats: Repeats::new(alloc, 0),
+        }
+    }
+
+    // Decides the request at the front of the bytes, if it is whole. `refresh` is that request, if
+    // it is a refresh that may be repeated.
+    fn decide_anew(
+        &mut self,
+        refresh: Option<Refresh>,
+        input: &[u8],
+        is_over: bool,
+        replies: &mut Vec<u8>,
+        records: &mut Vec<u8>,
+    ) -> Outcome
+        requires some { 0 < self.old.left }
+        requires told { self.old.fault ≡ None }
+        requires came { IfSome refresh (IsCome (reach_by self.old.has_inner self.old.is_inner)
+            input.now is_over) }
+        ensures within { taken_of result ≤ length input.now }
+        ensures some { goes_on result ≡ true → 0 < taken_of result }
+        ensures decided { (replied logged : List ℕ)
+            × Decides self.old input.now is_over result replied logged self.new
+            × (replies.new.items ≡ replies.old.items ++ replied)
+            × (records.new.items ≡ records.old.items ++ logged) }
+    {
+        let mark = replies.len();
+        let mut next = copy(&self.words);
+        let words = draw(&mut next);
+        let dot = self.edge.region().next_dot();
+        match self.serve_front(input, is_over, &words, replies, records) {
+            Ok(None) => Outcome::More,
+            Ok(Some((served, taken))) => {
+                let outcome = outcome_of(self.keeps, served, taken);
+                let stays = stays_open(outcome);
+                reply_over(stays, replies, mark);
+                self.keep(refresh, served, dot, &words);
+                self.move_on(next, None, stays);
+                outcome
+            }
+            Err(fault) => {
+                replies.truncate(mark);
+                self.move_on(next, Some(fault), false);
+                Outcome::Ended
+            }
         }
     }
 
@@ -230,7 +270,7 @@ impl Server {
 
     // Notes that a request has ended: the next one has the next words. `stays` is whether its
     // connection stays open.
-    fn move_on(&mut self, next: ChaCha20Rng, fault: Option<EdgeFault>, stays: bool)
+    pub(crate) fn move_on(&mut self, next: ChaCha20Rng, fault: Option<EdgeFault>, stays: bool)
         requires { 0 < self.old.left }
         ensures { (left : ℕ) × (self.old.left ≡ left + ended_if stays)
             × (self.new ≡ record self.old { words = next; left = left; fault = fault }) }

@@ -1,0 +1,13 @@
+-- The reply to a refresh that is repeated at a region (own).
+--   repeat_in   the reply, from the horizon on, with the tokens of a fact if both are live
+use Rattle.std.specs.Prelude.{ℕ, nat_lt, List, Option, None, if◌then◌else◌}
+use Rattle.tk_handle.specs.declared.dot.Dot.{Dot}
+use Rattle.tk_grant.specs.Repeat.{repeat_of}
+use Rattle.tk_message.specs.ReplyFields.{ReplyFields}
+use Rattle.tk_region.specs.RegionFields.{RegionFields}
+
+-- the reply again with the two tokens that the fact at the dot minted of these random words, if
+-- both are live at the moment; before the horizon there is none
+abbrev pub repeat_in : RegionFields → ℕ → Dot → List ℕ → Option ReplyFields
+repeat_in r now dot words =
+    if nat_lt now r.facts.horizon then None else repeat_of r.facts now dot words

@@ -1,0 +1,149 @@
+-- What may be repeated over turns. Key results:
+--   none_repeated    no request
+--   one_granted      a request that was a refresh, perhaps
+--   repeated_both    requests, one after the other
+--   found_parts      a refresh that was found is one that is kept, and is repeated
+--   forgets          what is left is of what was kept
+use Rattle.std.proofs.Common.{◌≡◌, ◌⊎◌, ℕ, ◌&&◌, Bool, true, false, cond, List, [], ◌∷◌, ◌++◌, length, drop, Option, Some, None, Result, Ok, Err, inl, inr, refl, sym, ap, subst, ◌∙◌}
+use Rattle.std.specs.Prelude.{find, nat_lt}
+use Rattle.std.proofs.lemmas.Bool.{cases_Bool, cond-true, cond-false}
+use Rattle.tk_handle.specs.declared.dot.Dot.{Dot}
+use Rattle.tk_ledger.specs.Bodies.{is_same_dot}
+use Rattle.tk_edge.specs.declared.edge.Served.{Served}
+use Rattle.tk_edge.specs.declared.edge.Served.TheVariants.{Done}
+use Rattle.tk_edge.specs.declared.front.Taken.{Taken}
+use Rattle.tk_edge.specs.declared.reach.Reach.{Reach}
+use Rattle.tk_edge.specs.declared.tell.Fault.{Fault}
+use Rattle.tk_grant.specs.Repeat.{is_again}
+use Rattle.tk_message.specs.RequestFields.{RequestFields}
+use Rattle.tk_message.specs.declared.status_code.StatusCode.TheVariants as code
+use Rattle.tk_turn.specs.Outcomes.{goes_on}
+use Rattle.tk_turn.specs.declared.service.Outcome.{Outcome}
+use Rattle.tokend.specs.Decisions.{Ending, kept_by, outcome_by}
+use Rattle.tokend.specs.Repeats.{IsIn, MayRepeat, RepeatsFields, Repetition, forgotten, is_recent, is_repeat, kept_with, most_kept, with_granted, with_room}
+use Rattle.tokend.specs.Turns.{AreAmong, AreRepeated, AreRepeats, Endings, all_granted}
+use Rattle.tokend.specs.declared.repeats.Refreshed.{Refreshed}
+
+-- ---- tests
+
+and_first : (a b : Bool) → (a && b) ≡ true → a ≡ true
+and_first true b h = refl
+and_first false b h = h
+
+and_second : (a b : Bool) → (a && b) ≡ true → b ≡ true
+and_second true b h = h
+and_second false b h = absurd (wrong h)
+  where
+    wrong : false ≡ true → ⊥
+    wrong e = cc
+
+pub recent_by : (seconds now : ℕ) (parent : Dot) (request : RequestFields) (it : Refreshed) → is_repeat seconds now parent request it ≡ true → is_recent seconds now it ≡ true
+recent_by seconds now parent request it h =
+    and_first (is_recent seconds now it) (is_again it.request request) (and_second (is_same_dot it.parent parent) (is_recent seconds now it && is_again it.request request) h)
+
+pub again_by : (seconds now : ℕ) (parent : Dot) (request : RequestFields) (it : Refreshed) → is_repeat seconds now parent request it ≡ true → is_again it.request request ≡ true
+again_by seconds now parent request it h =
+    and_second (is_recent seconds now it) (is_again it.request request) (and_second (is_same_dot it.parent parent) (is_recent seconds now it && is_again it.request request) h)
+
+-- a connection stays behind a reply that is given again only if its request lets it
+pub stays_taken : (keeps : Bool) (taken : Taken) (outcome : Outcome) → outcome ≡ outcome_by keeps (Done code.Ok) taken → goes_on outcome ≡ true → taken.stays ≡ true
+stays_taken keeps taken outcome is on = and_second keeps taken.stays (sym (ap goes_on is) ∙ on)
+
+pub closes_taken : (keeps : Bool) (taken : Taken) (outcome : Outcome) → outcome ≡ outcome_by keeps (Done code.Ok) taken → keeps ≡ false → goes_on outcome ≡ false
+closes_taken keeps taken outcome is off = ap goes_on is ∙ ap (λ b. b && taken.stays) off
+
+-- ---- lists of refreshes
+
+among_more : (o : Option Refreshed) (k l : List Refreshed) → AreAmong k l → AreAmong (with_granted o k) (with_granted o l)
+among_more None k l h it is = h it is
+among_more (Some x) k l h it (inl same) = inl same
+among_more (Some x) k l h it (inr rest) = inr (h it rest)
+
+granted_more : (k l : List Refreshed) (ends : Endings) → AreAmong k l → AreAmong (all_granted k ends) (all_granted l ends)
+granted_more k l [] h = h
+granted_more k l (e ∷ es) h = granted_more (with_granted e.granted k) (with_granted e.granted l) es (among_more e.granted k l h)
+
+granted_both : (k : List Refreshed) (xs ys : Endings) → all_granted k (xs ++ ys) ≡ all_granted (all_granted k xs) ys
+granted_both k [] ys = refl
+granted_both k (x ∷ xs) ys = granted_both (with_granted x.granted k) xs ys
+
+in_drop : (x : Refreshed) (k : List Refreshed) → IsIn x (drop 1 k) → IsIn x k
+in_drop x [] is = is
+in_drop x (y ∷ ys) is = inr is
+
+in_room : (x : Refreshed) (k : List Refreshed) → IsIn x (with_room k) → IsIn x k
+in_room x k is = elim (cases_Bool (nat_lt (length k) most_kept)) [
+  | inl few ↦ subst (IsIn x) (cond-true (nat_lt (length k) most_kept) k (drop 1 k) few) is
+  | inr many ↦ in_drop x k (subst (IsIn x) (cond-false (nat_lt (length k) most_kept) k (drop 1 k) many) is)
+]
+
+in_behind : (x it : Refreshed) (k : List Refreshed) → IsIn x (k ++ it ∷ []) → IsIn x (it ∷ k)
+in_behind x it [] is = is
+in_behind x it (y ∷ ys) (inl same) = inr (inl same)
+in_behind x it (y ∷ ys) (inr rest) = swapped (in_behind x it ys rest)
+  where
+    swapped : IsIn x (it ∷ ys) → IsIn x (it ∷ y ∷ ys)
+    swapped (inl same) = inl same
+    swapped (inr more) = inr (inr more)
+
+in_kept : (x it : Refreshed) (k : List Refreshed) → IsIn x (it ∷ with_room k) → IsIn x (it ∷ k)
+in_kept x it k (inl same) = inl same
+in_kept x it k (inr rest) = inr (in_room x k rest)
+
+none_some : (it : Refreshed) → None ≡ Some it → ⊥
+none_some it e = cc
+
+same_some : (x it : Refreshed) → Some x ≡ Some it → x ≡ it
+same_some x it e = cc
+
+pub found_parts : (p : Refreshed → Bool) (k : List Refreshed) (it : Refreshed) → find p k ≡ Some it → IsIn it k × (p it ≡ true)
+found_parts p [] it h = absurd (none_some it h)
+found_parts p (x ∷ xs) it h = elim (cases_Bool (p x)) [
+  | inl yes ↦
+      let same : x ≡ it = same_some x it (sym (cond-true (p x) (Some x) (find p xs) yes) ∙ h) in
+      (inl same, subst (λ y. p y ≡ true) same yes)
+  | inr no ↦
+      let rest = found_parts p xs it (sym (cond-false (p x) (Some x) (find p xs) no) ∙ h) in
+      (inr rest.0, rest.1)
+]
+
+pub forgets : (seconds now : ℕ) (k : List Refreshed) → AreAmong (forgotten seconds now k) k
+forgets seconds now [] it is = is
+forgets seconds now (x ∷ xs) it is = elim (cases_Bool (is_recent seconds now x)) [
+  | inl yes ↦ subst (IsIn it) (cond-true (is_recent seconds now x) (x ∷ xs) (forgotten seconds now xs) yes) is
+  | inr no ↦ inr (forgets seconds now xs it (subst (IsIn it) (cond-false (is_recent seconds now x) (x ∷ xs) (forgotten seconds now xs) no) is))
+]
+
+-- ---- requests
+
+may_more : (seconds : ℕ) (k l : List Refreshed) (o : Option Repetition) → AreAmong k l → MayRepeat seconds k o → MayRepeat seconds l o
+may_more seconds k l None h m = m
+may_more seconds k l (Some it) h m = (m.0, h it.refreshed m.1, m.2)
+
+repeats_more : (seconds : ℕ) (k l : List Refreshed) (ends : Endings) → AreAmong k l → AreRepeats seconds k ends → AreRepeats seconds l ends
+repeats_more seconds k l [] h r = r
+repeats_more seconds k l (e ∷ es) h r =
+    (may_more seconds k l e.again h r.0, repeats_more seconds (with_granted e.granted k) (with_granted e.granted l) es (among_more e.granted k l h) r.1)
+
+repeats_both : (seconds : ℕ) (k m : List Refreshed) (xs ys : Endings) → AreAmong m (all_granted k xs) → AreRepeats seconds k xs → AreRepeats seconds m ys → AreRepeats seconds k (xs ++ ys)
+repeats_both seconds k m [] ys among x y = repeats_more seconds m k ys among y
+repeats_both seconds k m (e ∷ es) ys among x y = (x.0, repeats_both seconds (with_granted e.granted k) m es ys among x.1 y)
+
+pub none_repeated : (repeats : RepeatsFields) → AreRepeated repeats [] repeats
+none_repeated repeats = record { seconds = refl; each = tt; kept = λ _ is. is }
+
+pub one_granted : (end : Result Served Fault) (stays : Bool) (reach : Reach) (granted : Option Refreshed) (repeats : RepeatsFields)
+    → AreRepeated repeats (record { end = end; stays = stays; reach = reach; granted = granted; again = None } ∷ []) (kept_by granted repeats)
+one_granted end stays reach None repeats = record { seconds = refl; each = (tt, tt); kept = λ _ is. is }
+one_granted end stays reach (Some it) repeats = record {
+  seconds = refl;
+  each = (tt, tt);
+  kept = λ x is. in_kept x it repeats.kept (in_behind x it (with_room repeats.kept) is);
+}
+
+pub repeated_both : (old mid new : RepeatsFields) (xs ys : Endings) → AreRepeated old xs mid → AreRepeated mid ys new → AreRepeated old (xs ++ ys) new
+repeated_both old mid new xs ys h k = record {
+  seconds = k.seconds ∙ h.seconds;
+  each = repeats_both old.seconds old.kept mid.kept xs ys h.kept h.each (subst (λ s. AreRepeats s mid.kept ys) h.seconds k.each);
+  kept = λ it is. subst (IsIn it) (sym (granted_both old.kept xs ys)) (granted_more mid.kept (all_granted old.kept xs) ys h.kept it (k.kept it is));
+}
