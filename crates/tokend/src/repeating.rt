@@ -107,8 +107,8 @@ fn dot_of(handle: Option<Handle>) -> Option<Dot>
 impl Server {
     /// Returns what the request at the front of the bytes asks, if refreshes may be repeated.
     pub(crate) fn ask(&self, input: &[u8], is_over: bool) -> Asked
-        ensures { spec.IsAsked self.now (reach_by self.now.has_inner self.now.is_inner) input.now
-            is_over result }
+        ensures { spec.IsAsked self.entry.now
+            (reach_by self.entry.now.has_inner self.entry.now.is_inner) input.now is_over result }
     {
         if self.repeats.seconds == 0 || !input.starts_with(b"POST /token") {
             return Asked::Other;
@@ -126,7 +126,7 @@ impl Server {
         requires { self.now.repeats.seconds ≢ 0 }
         ensures { (reach : AnyReach) (bytes : List ℕ) (over : Bool)
             → IsRefresh reach bytes over refresh taken
-            → spec.IsAsked self.now reach bytes over result }
+            → spec.IsAsked self.entry.now reach bytes over result }
     {
         let found = self
             .repeats
@@ -147,7 +147,7 @@ impl Server {
     /// Gives the reply to a refresh again. `taken` is what its request took of the bytes.
     pub(crate) fn reply_again(&mut self, reply: &[u8], taken: Taken, replies: &mut Vec<u8>) -> Outcome
         requires { 0 < self.old.left }
-        ensures { GivesAgain self.old taken reply.now result replies.old.items replies.new.items
+        ensures { spec.GivesAgain self.old taken reply.now result replies.old.items replies.new.items
             self.new }
     {
         let mark = replies.len();
@@ -165,7 +165,7 @@ impl Server {
     /// Ends a connection, because memory is short.
     pub(crate) fn fall_short(&mut self) -> Outcome
         requires { 0 < self.old.left }
-        ensures { FallsShort self.old result self.new }
+        ensures { spec.FallsShort self.old result self.new }
     {
         let next = past(&self.words);
         self.move_on(next, Some(EdgeFault::Memory), false);

@@ -147,6 +147,7 @@ fn turn<R: AllocGlobal + Clock, L: Sink, F: Sink>(
         connections.give_up();
     }
     server.now = at.unwrap_or(server.now);
+    server.repeats.forget(server.now);
     let is_stopped = decide(connections, server, log, faults);
     // The log may have taken long.
     let now = millis(rt).unwrap_or(now);
