@@ -11,12 +11,12 @@ pub struct Taken {
     pub stays: bool,
 }
 
-/// What the front of bytes is.
+/// What the front of the bytes of a connection is.
 #[derive(Drop)]
-pub(crate) enum Front {
-    /// No request is whole: more bytes are needed.
+pub enum Front {
+    /// No request is whole, and more bytes may follow: they are needed.
     More,
-    /// What arrived, and what it took of the bytes.
+    /// What arrived, and what was taken of the bytes. The meaning is the same whatever follows.
     Came(Arrival, Taken),
 }
 
@@ -48,9 +48,19 @@ use httparse::Status;
 use httparse::spans::{EMPTY_HEADER_SPAN, HeaderSpan, RequestSpans, parse_request};
 use std::alloc::Global;
 
-// Reads the request at the front of the bytes that have come, without a copy of its head. `is_over`
-// is whether no more bytes follow.
-pub(crate) fn hear_front(
+/// Reads the request at the front of the bytes that have come over a connection, without a copy of
+/// its head.
+///
+/// `reach` is which paths are served over the connection. `is_over` is whether the client has ended
+/// its side, so that no more bytes follow. Returns [`Front::More`] if no request is whole, and
+/// otherwise what arrived, which no further bytes can change. A refusal takes all bytes, and any
+/// other arrival those of its request: a head of at most [`HEAD_LIMIT`] bytes and 64 fields, and the
+/// body that its length names (RFC 9112, 6.3). Nothing is served.
+///
+/// # Errors
+///
+/// [`HearError::Memory`] if memory runs out. No other error is returned: no device is read.
+pub fn hear_front(
     alloc: Global,
     reach: Reach,
     bytes: &[u8],

@@ -4,23 +4,23 @@ use crate::exchange::{Exchange, Sent};
 use crate::refusal::Refusal;
 use tk_message::Request;
 
-/// What arrived over a connection.
+/// What arrived over a connection: the meaning of its bytes (RFC 9112, 3, 5 and 6).
 #[derive(Drop)]
 pub enum Arrival {
     /// Nothing: the stream ended before its first byte.
     Silence,
-    /// A request that isn't handed to the region.
+    /// A request that isn't handed to the region, by the first rule that it breaks.
     Refused(Refusal),
-    /// A request for the region.
+    /// A request for the region, decoded once.
     Request(Request),
-    /// A request of another region.
+    /// A request of another region. Arrives only if all paths are served.
     Exchange(Exchange),
 }
 
-/// Why nothing was heard.
+/// Why no request was read.
 #[derive(Clone, Copy)]
-pub(crate) enum HearError {
-    /// The source failed.
+pub enum HearError {
+    /// The source failed. [`hear_front`](crate::hear_front) reads no source, and never returns it.
     Read,
     /// Memory ran out.
     Memory,

@@ -13,9 +13,10 @@
 //! - [`Path`] and `judge`: which service a head requests, or the [`Refusal`] of it, by ordered
 //!   cases.
 //! - [`Arrival`]: what a stream means. An [`Exchange`] is with another region.
-//! - `front`: what the front of the bytes that have come means: an arrival, or more is needed.
+//! - [`hear_front`]: what the [`Front`] of the bytes that have come means: an arrival, or more is
+//!   needed.
 //! - `ahead` reads a pushed bundle, and may refuse one whose horizon is later than the moment.
-//! - `answer` makes the reply to an arrival, and `render` its bytes.
+//! - `answer` makes the reply to an arrival, and [`reply_bytes`] its bytes.
 //! - `tell` writes the record of a fact and only then the reply, or returns a [`Fault`].
 //! - `push` takes a pushed bundle in and logs it before the reply, if bundles are logged.
 //! - `serving`: serves an arrival, and the front of bytes.
@@ -60,13 +61,14 @@ pub use counted::Counted;
 pub use device::{Failed, Sink, Source};
 pub use edge::{Edge, Served};
 pub use exchange::{Exchange, Sent};
-pub use front::Taken;
+pub use front::{Front, Taken, hear_front};
 pub use head::HEAD_LIMIT;
-pub use hear::Arrival;
+pub use hear::{Arrival, HearError};
 pub use laws::{hears_all, one_meaning, refused_is_lost, takes_as_region};
 pub use open_reply::keep_open;
 pub use path::Path;
 pub use put::{Discard, put_whole};
 pub use reach::Reach;
 pub use refusal::Refusal;
+pub use render::reply_bytes;
 pub use tell::Fault;
