@@ -31,7 +31,6 @@ pub(crate) struct Server {
 }
 
 ghost use Rattle.std.specs.Prelude.{◌≡◌, ◌+◌, ◌<◌, ◌≤◌, ◌++◌, ℕ, List, Option, None, Ok, length};
-ghost use Rattle.tk_turn.specs.Outcomes.{goes_on};
 ghost use Rattle.tokend.specs.Decisions.{ended_if, outcome_by, reach_by};
 ghost use Rattle.tokend.specs.Decisions.{Decides, FrontDecides, IsReplied};
 ghost use Rattle.tokend.specs.Decisions.{IsUnread, Seals};
@@ -74,7 +73,7 @@ impl Service for Server {
             Ok(None) => Outcome::More,
             Ok(Some((served, taken))) => {
                 let outcome = outcome_of(self.keeps, served, taken);
-                let stays = stays_open(outcome);
+                let stays = outcome.goes_on();
                 reply_over(stays, replies, mark);
                 self.move_on(next, None, stays);
                 outcome
@@ -132,16 +131,6 @@ fn outcome_of(keeps: bool, served: Served, taken: Taken) -> Outcome
     match served {
         Served::Nothing => Outcome::Ended,
         Served::Done(_) => Outcome::Decided(taken.size, keeps && taken.stays),
-    }
-}
-
-// Returns whether the connection stays open.
-fn stays_open(outcome: Outcome) -> bool
-    ensures { result ≡ goes_on outcome }
-{
-    match outcome {
-        Outcome::More | Outcome::Ended => false,
-        Outcome::Decided(_, stays) => stays,
     }
 }
 

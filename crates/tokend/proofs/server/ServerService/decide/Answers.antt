@@ -51,7 +51,7 @@ returns-in-Ok-Some-clause-decided c =
     let said = c.reply_over.ensures c.args.replies.now.items h.0 h.2 at in
     let keeps : c.serve_front.new.self.keeps ≡ c.args.self.now.keeps = ap (λ (s : Server). s.keeps) c.in-Ok-Some.ensures.others in
     let is = c.outcome_of-outcome.ensures ∙ ap (λ b. outcome_by b c.in-Ok-Some.served c.in-Ok-Some.taken) keeps in
-    let stays : c.stays_open-stays.result ≡ goes_on c.outcome_of-outcome.result = c.stays_open-stays.ensures in (
+    let stays : c.goes_on-stays.result ≡ goes_on c.outcome_of-outcome.result = c.goes_on-stays.ensures in (
       said.0,
       h.1,
       served_ends c.args.self.now c.serve_front.new.self c.move_on.new.self c.args.input.now c.args.is_over c.draw-words.new.generator m.0 c.draw-words.result h.0 h.1
