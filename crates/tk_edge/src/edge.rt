@@ -188,13 +188,13 @@ impl Edge {
     ///
     /// # Errors
     ///
-    /// - [`Fault::Memory`] if memory runs out. Nothing is written to the client, and the region is
-    ///   as after an error of [`Edge::answer`]. The log has no record, unless `log_taken` is true: of
-    ///   a pushed bundle whose facts may be in it then has the record.
-    /// - [`Fault::Log`] if the log failed. The log has a beginning of the record, nothing is written
-    ///   to the client, and the edge is sealed. The fact is in the region.
-    /// - [`Fault::Write`] if the client's sink failed. It has a beginning of the reply, and the log
-    ///   has the record.
+    /// - [`Fault::Memory`] if memory runs out. The client gets nothing, and the region is as after
+    ///   an error of [`Edge::answer`]. The log is unchanged, or, if `log_taken` is true, has the
+    ///   pushed bundle whose facts may be in.
+    /// - [`Fault::Log`] if the log fails. The log has a beginning of the record, the client gets
+    ///   nothing, and the edge is sealed. The facts are in the region.
+    /// - [`Fault::Write`] if the client's sink fails. The client has a beginning of the reply. The
+    ///   facts are in the region, and the log has the record.
     pub fn serve_front<L: Sink, W: Sink>(
         &mut self,
         alloc: Global,

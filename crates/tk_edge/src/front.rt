@@ -55,9 +55,9 @@ use std::alloc::{AllocError, Global};
 ///
 /// `reach` is which paths are served over the connection. `is_over` is whether the client has ended
 /// its side, so that no more bytes follow. Returns [`Front::More`] if no request is whole, and
-/// otherwise what arrived, which no further bytes can change. A refusal takes all bytes, and any
-/// other arrival those of its request: a head of at most [`HEAD_LIMIT`] bytes and 64 fields, and the
-/// body that its length names (RFC 9112, 6.3). Nothing is served.
+/// otherwise what arrived, which no further bytes can change. A refusal takes all bytes. Any other
+/// arrival takes those of its request: a head of at most [`HEAD_LIMIT`] bytes and 64 fields, and
+/// the body that its length names (RFC 9112, 6.3). Nothing is served.
 ///
 /// # Errors
 ///

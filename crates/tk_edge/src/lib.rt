@@ -1,8 +1,8 @@
 //! From the bytes of a request to the bytes of its reply, with the log written before the reply.
 //!
-//! An [`Edge`] is a region behind its connections. A connection brings HTTP/1.1 requests, one behind
-//! the other, and takes a reply to each. The meaning of a request depends on its bytes alone, not on
-//! the pieces in which they come. An edge reads no device: it is given the bytes that have come.
+//! An [`Edge`] is a region behind its connections. A connection brings HTTP/1.1 requests, one after
+//! the other, and takes a reply to each. The meaning of a request depends on its bytes alone, not
+//! on the pieces in which they come. An edge reads no device: it takes the bytes that have come.
 //!
 //! In reading order:
 //!

@@ -1,8 +1,8 @@
 //! Tests of connections whose bytes come in pieces or whose devices fail, and of which paths are
 //! served, which no row of `check/rows/` can show.
 //!
-//! `serving` has the tests of devices, `pieces` those of requests that haven't come whole, `frail` a
-//! device, and `talks` the requests. `reaches` has the tests of paths.
+//! `serving` has the tests of devices, `pieces` those of requests that haven't come whole, `frail`
+//! a device, and `talks` the requests. `reaches` has the tests of paths.
 
 mod frail;
 mod pieces;

@@ -34,8 +34,8 @@ fn serve(
 }
 
 // Serves a request that comes in pieces of `step` bytes, and returns how serving it ended. If all
-// pieces aren't enough, the client ends its side. `None` if serving took less than all that had come,
-// or didn't end.
+// pieces aren't enough, the client ends its side. `None` if serving took less than all that had
+// come, or didn't end.
 pub(super) fn serve_pieces(
     alloc: Global,
     edge: &mut Edge,
@@ -95,8 +95,8 @@ fn miscut_at(alloc: Global, edge: &mut Edge, talk: &Talk) -> Option<usize> {
     None
 }
 
-// Returns the first number of bytes at which `is_cut_at` is false, at an edge that answered only the
-// requests before.
+// Returns the first number of bytes at which `is_cut_at` is false, at an edge that answered only
+// the requests before.
 fn miscut(alloc: Global, talk: &Talk) -> Option<usize> {
     match new_edge(alloc) {
         Some(mut edge) => {

@@ -249,8 +249,8 @@ const HALF_WRITTEN: Failing = [Fails::At(1), NEVER];
 const HALF_AWAY: End = End { result: Err(Fault::Write), facts: 2, sealed: true, logged: Some(0), written: Some(STEP), called: false, failed: 1 };
 
 // The life of an edge. An empty request gets no byte, and no call of client or log. std's writer
-// serves. A log that fails seals the edge. A sealed edge turns away without a call of the log, once,
-// again and without devices, and a write that fails is a fault.
+// serves. A log that fails seals the edge. A sealed edge turns away without a call of the log,
+// once, again and without devices, and a write that fails is a fault.
 fn life_at(alloc: Global, edge: &mut Edge) -> [bool; 8] {
     [
         is_answered(alloc, edge, Reach::All, b"", (StatusCode::BadRequest, b"")),
