@@ -10,6 +10,7 @@
 --   some_taken      a request behind which a connection stays took some bytes
 use Rattle.std.proofs.Common.{◌≡◌, ℕ, ◌+◌, ◌-◌, ◌<◌, ◌≤◌, Bool, true, false, List, [], ◌∷◌, ◌++◌, length, take, drop, map, Some, Result, Ok, Err, IfOk, nat_le, nat_lt, inl, inr, refl, sym, ap, ◌∙◌, subst, arith, append-nil, length-take}
 use Rattle.std.proofs.lemmas.Bool.Decides.{nat_tests}
+use Rattle.std.specs.declared.alloc.AllocError.{AllocError}
 use Rattle.std.proofs.lemmas.List.{length-drop, length-map, take_rest}
 use Rattle.httparse.specs.Grammar.{RequestHead, print_request, ReadsRequest, HasNoRequest}
 use Rattle.httparse.specs.Grammar.{IsRequestHead}
@@ -32,7 +33,6 @@ use Rattle.tk_edge.specs.declared.hear.Arrival.{Arrival}
 use Rattle.tk_edge.specs.declared.hear.Arrival.TheVariants.{Silence, Refused, Request}
 use Rattle.tk_edge.specs.declared.hear.Arrival.TheVariants as arrival
 use Rattle.tk_message.specs.RequestFields.{RequestFields}
-use Rattle.tk_edge.specs.declared.hear.HearError.{HearError}
 use Rattle.tk_edge.specs.declared.judge.Judged.{Judged}
 use Rattle.tk_edge.specs.declared.judge.Judged.TheVariants.{Body}
 use Rattle.tk_edge.specs.declared.path.Posted.{Posted}
@@ -171,7 +171,7 @@ front_heard reach bytes over headers spans h (Err e) within at fits full by take
 
 -- a whole body, whatever follows it
 pub body_whole : (over : Bool) (posted : Posted) (size : ℕ) (taken : Taken) (front target : List ℕ)
-    (pairs : Pairs) (result : Result Arrival HearError) → size ≤ length front
+    (pairs : Pairs) (result : Result Arrival AllocError) → size ≤ length front
     → IfOk result (λ came. came ≡ posted_to posted (take size front) pairs)
     → IfOk (front_of result taken)
     (IsFrontBy over (λ tail. arrival_by target pairs (front ++ tail) (Body posted size)))
@@ -197,7 +197,7 @@ same_front over f g (Ok (Came came taken)) e by = λ tail follows. by tail follo
 same_front over f g (Err error) e by = tt
 
 -- what comes of a whole request
-pub may_come : (reach : Reach) (result : Result Arrival HearError) (taken : Taken)
+pub may_come : (reach : Reach) (result : Result Arrival AllocError) (taken : Taken)
     → IfOk result (MayArrive reach) → IfOk (front_of result taken) (MayComeBy reach)
 may_come reach (Ok came) taken may = may
 may_come reach (Err error) taken may = tt
@@ -249,7 +249,7 @@ stays_at reach h minor method target pairs judged stays en em et ep ej es =
 
 -- a whole request takes its size
 pub request_takes : (reach : Reach) (bytes : List ℕ) (taken : Taken) (request : RequestFields)
-    (result : Result Arrival HearError) → IsOneRequest reach bytes taken
+    (result : Result Arrival AllocError) → IsOneRequest reach bytes taken
     → IfOk result (λ came. came ≡ Request request) → IfOk (front_of result taken) (TakesIn reach bytes)
 request_takes reach bytes taken request (Ok came) one e =
     subst (λ (x : Arrival). Takes reach bytes x taken) (sym e) one
@@ -257,7 +257,7 @@ request_takes reach bytes taken request (Err error) one e = tt
 
 -- a whole body is that of a request or of an exchange, which takes its size
 pub posted_takes : (reach : Reach) (bytes : List ℕ) (taken : Taken) (posted : Posted) (body : List ℕ)
-    (pairs : Pairs) (result : Result Arrival HearError) → IsOneRequest reach bytes taken
+    (pairs : Pairs) (result : Result Arrival AllocError) → IsOneRequest reach bytes taken
     → IfOk result (λ came. came ≡ posted_to posted body pairs)
     → IfOk (front_of result taken) (TakesIn reach bytes)
 posted_takes reach bytes taken posted body pairs (Ok came) one e =

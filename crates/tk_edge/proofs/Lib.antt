@@ -1,5 +1,4 @@
 pub mod AnswerLaws
-pub mod BodyLaws
 pub mod BoundLaws
 pub mod HeadLaws
 pub mod OpenReplyLaws

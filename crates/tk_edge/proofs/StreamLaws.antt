@@ -1,30 +1,23 @@
--- The bytes read are the whole of the bytes sent. Key results:
---   filled            a body that was read whole, and a body that wasn't
---   form_in_front     a form that came whole with its head
+-- The meaning of a stream. Key results:
+--   form_in_front     a body that came whole, whatever follows it
 --   judged_same       the meaning of a head, by what was judged of its parts
---   hears_head        the meaning of a head that was read from a source, and of what follows it
 --   has_one_meaning   a stream has at most one meaning
 --   silent_is_empty   only an empty stream is silent
 --   judged_may        an exchange is requested only if all paths are served, and a body is within its
 --                     limit
 --   all_heard         no exchange arrives unless all paths are served
-use Rattle.std.proofs.Common.{◌≡◌, ℕ, ◌≤◌, Bool, true, false, cond, List, [], ◌∷◌, ◌++◌, length, take, drop, Option, Some, None, Result, Ok, Err, IfOk, map, sym, ap, ◌∙◌, subst, arith, nat_le, min, length-take, inl, inr, refl}
-use Rattle.std.specs.Io.KnownBytes.{Consumes}
+use Rattle.std.proofs.Common.{◌≡◌, ℕ, ◌≤◌, Bool, true, false, cond, List, [], ◌∷◌, ◌++◌, length, take, Option, Some, None, map, sym, ap, ◌∙◌, subst, arith, nat_le, inl, inr, refl}
 use Rattle.std.specs.Option.{option_or}
 use Rattle.std.specs.Str.{bytes_eq}
 use Rattle.std.specs.Str.Parse.{digits_value}
 use Rattle.std.specs.Prelude.{codes}
 use Rattle.std.proofs.lemmas.Bool.{le-leb, leb-true}
-use Rattle.std.proofs.lemmas.Bool.Decides.{nat_tests}
-use Rattle.std.proofs.lemmas.List.{take_all, take-append-le, length-append}
-use Rattle.httparse.specs.Grammar.{RequestHead, ReadsRequest}
-use Rattle.httparse.specs.Spans.{IsRequestAt, name_and_value}
-use Rattle.httparse.specs.declared.spans.HeaderSpan.{HeaderSpan}
-use Rattle.httparse.specs.declared.spans.RequestSpans.{RequestSpans}
-use Rattle.httparse.proofs.GrammarLemmas.{ReadsRequest-append, request_unique}
+use Rattle.std.proofs.lemmas.List.{take-append-le, length-append}
+use Rattle.httparse.specs.Grammar.{RequestHead}
+use Rattle.httparse.specs.Spans.{name_and_value}
+use Rattle.httparse.proofs.GrammarLemmas.{request_unique}
 use Rattle.tk_edge.specs.HeadFields.{AreFields, has_repeats, coding_in, length_in, type_in}
 use Rattle.tk_edge.specs.declared.field.Fields.{Fields}
-use Rattle.tk_edge.specs.Heads.{HasHead, field_limit}
 use Rattle.tk_edge.specs.Heard.{posted_to, arrival_by, arrival_of, headless, IsArrival, MayArrive, Arrives}
 use Rattle.tk_edge.specs.Judged.{judged_of, at_path, at_service, asked, with_body, sized, fits_type, limit_of, MayPost, MayAsk}
 use Rattle.tk_edge.specs.Laws.{HasOneMeaning, HearsAll}
@@ -50,22 +43,6 @@ use Rattle.tk_edge.specs.declared.reach.Reach.{Reach}
 use Rattle.tk_edge.specs.declared.reach.Reach.TheVariants.{Clients, Admin, All}
 use Rattle.tk_edge.specs.declared.refusal.Refusal.TheVariants.{ShortBody}
 
--- count bytes were read into a body that has room for size: all of the bytes, or as many as fit
-pub filled : (count size : ℕ) (body all : List ℕ) → length body ≡ size → count ≤ size → take count body ≡ take size all
-    → (nat_le size count ≡ nat_le size (length all)) × (nat_le size count ≡ true → body ≡ take size all)
-filled count size body all full within e =
-    let long : count ≡ length (take size all) = sym (length-take count body ∙ by_min) ∙ ap length e in
-    (tests (long ∙ length-take size all), λ is. sym (take_all count body (all_read is)) ∙ e)
-  where
-    by_min : min count (length body) ≡ count
-    by_min = omega (arith, full, within)
-
-    tests : count ≡ min size (length all) → nat_le size count ≡ nat_le size (length all)
-    tests h = grind (arith, nat_tests)
-
-    all_read : nat_le size count ≡ true → length body ≤ count
-    all_read is = grind (arith, nat_tests)
-
 pub form_in_front : (front rest : List ℕ) (size : ℕ) → size ≤ length front
     → (nat_le size (length (front ++ rest)) ≡ true) × (take size (front ++ rest) ≡ take size front)
 form_in_front front rest size fits =
@@ -80,32 +57,6 @@ judged_same reach h rest method target judged em et ej =
     ap (λ j. arrival_by target pairs rest j)
     (ej ∙ ap (λ m. judged_of reach m target pairs) em ∙ ap (λ t. judged_of reach h.method t pairs) et)
     ∙ ap (λ t. arrival_by t pairs rest (judged_of reach h.method h.target pairs)) et
-
-whole_head_heard : (reach : Reach) (bytes front : List ℕ) (size : ℕ) (old new : Option (List ℕ))
-    (headers : List HeaderSpan) (spans : RequestSpans) (came : Arrival)
-    → size ≡ 8192 → old ≡ Some bytes → Consumes old new front
-    → ((h : RequestHead) × HasHead bytes size field_limit h × IsRequestAt front headers spans h)
-    → ((h : RequestHead) (rest : List ℕ) → IsRequestAt front headers spans h → new ≡ Some rest
-    → came ≡ arrival_of reach h (drop spans.len front ++ rest))
-    → IsArrival reach bytes came
-whole_head_heard reach bytes front size None new headers spans came room e c found told = absurd (cc)
-whole_head_heard reach bytes front size (Some xs) None headers spans came room e c found told = absurd c
-whole_head_heard reach bytes front size (Some xs) (Some rest) headers spans came room e c (h, has, at) told =
-    let same : xs ≡ bytes = cc in
-    let split : front ++ rest ≡ bytes = sym c ∙ same in
-    let reads = subst (λ l. ReadsRequest l h (drop spans.len front ++ rest)) split (ReadsRequest-append front h (drop spans.len front) rest at.reads) in
-    inr (h, _, reads, subst (λ n. HasHead bytes n field_limit h) room has, told h rest at refl)
-
-pub hears_head : {E : Type 0} (reach : Reach) (front : List ℕ) (size : ℕ) (old new : Option (List ℕ))
-    (headers : List HeaderSpan) (spans : RequestSpans) (result : Result Arrival E)
-    → size ≡ 8192 → Consumes old new front
-    → ((bytes : List ℕ) → old ≡ Some bytes → (h : RequestHead) × HasHead bytes size field_limit h × IsRequestAt front headers spans h)
-    → ((h : RequestHead) (rest : List ℕ) → IsRequestAt front headers spans h → new ≡ Some rest
-    → IfOk result (λ came. came ≡ arrival_of reach h (drop spans.len front ++ rest)))
-    → IfOk result (MayArrive reach) → IfOk result (Arrives reach old)
-hears_head reach front size old new headers spans (Ok came) room c found told may =
-    (may, λ bytes known. whole_head_heard reach bytes front size old new headers spans came room known c (found bytes known) told)
-hears_head reach front size old new headers spans (Err e) room c found told may = tt
 
 pub has_one_meaning : HasOneMeaning
 has_one_meaning reach bytes a b (inl (none, p)) (inl (none-2, q)) = p ∙ sym q

@@ -9,6 +9,7 @@
 --   IsFrontBy, IsTakenWithin, TakesIn, IsFewer, MayComeBy   parts of that
 use Rattle.std.specs.Prelude.{◌≡◌, ⊤, ℕ, ◌+◌, ◌<◌, ◌≤◌, Bool, true, false, List, [], ◌++◌, length}
 use Rattle.std.specs.Prelude.{map, Result, Ok, Err}
+use Rattle.std.specs.declared.alloc.AllocError.{AllocError}
 use Rattle.httparse.specs.Grammar.{RequestHead, ReadsRequest, print_request}
 use Rattle.httparse.specs.Spans.{name_and_value}
 use Rattle.tk_edge.specs.Bounds.{request_limit}
@@ -20,7 +21,6 @@ use Rattle.tk_edge.specs.declared.front.Front.TheVariants.{More, Came}
 use Rattle.tk_edge.specs.declared.front.Taken.{Taken}
 use Rattle.tk_edge.specs.declared.hear.Arrival.{Arrival}
 use Rattle.tk_edge.specs.declared.hear.Arrival.TheVariants.{Silence, Refused, Request, Exchange}
-use Rattle.tk_edge.specs.declared.hear.HearError.{HearError}
 use Rattle.tk_edge.specs.declared.judge.Judged.{Judged}
 use Rattle.tk_edge.specs.declared.judge.Judged.TheVariants as judged
 use Rattle.tk_edge.specs.declared.reach.Reach.{Reach}
@@ -119,6 +119,6 @@ MayComeBy reach More = ⊤
 MayComeBy reach (Came came taken) = MayArrive reach came
 
 -- the front of a whole request, unless memory ran out for it
-abbrev pub front_of : Result Arrival HearError → Taken → Result Front HearError
+abbrev pub front_of : Result Arrival AllocError → Taken → Result Front AllocError
 front_of (Ok came) taken = Ok (Came came taken)
 front_of (Err error) taken = Err error

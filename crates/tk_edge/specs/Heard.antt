@@ -4,7 +4,7 @@
 --   arrival_of   the meaning of a head and the bytes behind it; the last refusal is `ShortBody`
 --   IsArrival    the meaning of a stream, by which paths are served
 --   IsHeard      the meaning of a stream if the paths of clients and of operators are served
---   Arrives      what may arrive from a source, whose bytes may be unknown
+--   Arrives      what may arrive over a connection, whose bytes may be unknown
 --   MayArrive    what may arrive whatever the bytes are
 use Rattle.std.specs.Prelude.{◌≡◌, ◌⊎◌, ⊤, ℕ, nat_le, List, [], ◌∷◌, length}
 use Rattle.std.specs.Prelude.{take, map, Option, Some, if◌then◌else◌}
@@ -83,7 +83,7 @@ MayArrive reach (Refused why) = ⊤
 MayArrive reach (Request request) = ⊤
 MayArrive reach (Exchange asked) = reach ≡ All
 
--- what may arrive from a source: the meaning of its bytes, if these are known
+-- what may arrive over a connection: the meaning of its bytes, if these are known
 abbrev pub Arrives : Reach → Option (List ℕ) → Arrival → Type 0
 Arrives reach known came =
     MayArrive reach came × ((bytes : List ℕ) → known ≡ Some bytes → IsArrival reach bytes came)

@@ -1,12 +1,12 @@
 -- The definitions of this crate, in reading order:
 --   Failures     CountsFailure, how a device counts its failures
---   Heads        HasHead, the head at the front of a stream; IsHeadRead, the result of reading it
+--   Heads        HasHead, the head at the front of a stream
 --   HeadFields   values_named, the fields of a head; has_repeats, whether one is repeated
 --   Paths        path_named, the paths that are reached; service_at, what each serves
 --   MediaType    is_form, whether Content-Type is a form's
 --   Judged       judged_of, what a head requests or the first rule that it breaks
 --   Staying      stays_open, a connection stays behind the reply to a head
---   Bounds       TakesAtMost, how much of a source a request takes
+--   Bounds       request_limit, how many bytes a request may have
 --   Heard        IsArrival, the meaning of a stream; IsHeard, without exchanges between regions
 --   Pulls        wanted, the format of a pull
 --   Rendering    reply_bytes, the bytes of a reply

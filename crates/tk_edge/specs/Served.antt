@@ -3,10 +3,9 @@
 --   RepliesTo      how serving an arrival may end
 --   IsServed       what a connection to an edge that isn't sealed does, by its result
 --   IsTurnedAway   what a connection to a sealed edge does
---   IsReadFault    a read fault is returned only if the source failed
 -- Throughout, `still` is the statement that the log is as it was before, because no call reached
 -- it.
-use Rattle.std.specs.Prelude.{◌≡◌, ◌≢◌, ◌⊎◌, ℕ, ⊤, Bool, true, false, List, [], Option, None, Some}
+use Rattle.std.specs.Prelude.{◌≡◌, ◌≢◌, ◌⊎◌, ℕ, Bool, true, false, List, [], Option, None, Some}
 use Rattle.std.specs.Prelude.{IfSome, Result, Ok, Err}
 use Rattle.std.specs.declared.alloc.AllocError.{AllocError}
 use Rattle.std.specs.Io.KnownBytes.{Appends, Keeps}
@@ -15,7 +14,6 @@ use Rattle.tk_message.specs.declared.status_code.StatusCode.{StatusCode}
 use Rattle.tk_region.specs.RegionFields.{RegionFields}
 use Rattle.tk_edge.specs.Answers.{fact_by, IsRecorded, refused_by}
 use Rattle.tk_edge.specs.Arrivals.{Answers, IsShort}
-use Rattle.tk_edge.specs.Failures.{Rose}
 use Rattle.tk_edge.specs.Heard.{Arrives}
 use Rattle.tk_edge.specs.Pushes.{TakesAndLogs, bundle_to_log}
 use Rattle.tk_edge.specs.Told.{AnswerFields, Change, IsTold, UsesLog}
@@ -24,8 +22,6 @@ use Rattle.tk_edge.specs.declared.edge.Served.TheVariants.{Nothing, Done}
 use Rattle.tk_edge.specs.declared.hear.Arrival.{Arrival}
 use Rattle.tk_edge.specs.declared.exchange.Exchange.TheVariants.{Push}
 use Rattle.tk_edge.specs.declared.hear.Arrival.TheVariants.{Exchange, Silence}
-use Rattle.tk_edge.specs.declared.hear.HearError.{HearError}
-use Rattle.tk_edge.specs.declared.hear.HearError.TheVariants as hear
 use Rattle.tk_edge.specs.declared.reach.Reach.{Reach}
 use Rattle.tk_edge.specs.declared.refusal.Refusal.TheVariants.{Sealed}
 use Rattle.tk_edge.specs.declared.tell.Fault.{Fault}
@@ -88,7 +84,7 @@ RepliesTo None refuses now words came region log still writer sealed result =
 RepliesTo (Some bytes) refuses now words came region log still writer sealed result =
     TakesAndLogs refuses now bytes region.before region.after log still writer sealed result
 
--- some arrival that the source may send, which isn't silence, is answered and the reply is written
+-- some arrival that the client may send, which isn't silence, is answered and the reply is written
 abbrev pub IsAnswered : Asked → Step → Change → Type 0 → Change → Bool → Result StatusCode Fault
     → Type 0
 IsAnswered asked region log still writer sealed result =
@@ -134,9 +130,3 @@ IsTurnedAway writer (Err Write) = AppendsFront writer.before writer.after (refus
 IsTurnedAway writer (Err Memory) = Keeps writer.before writer.after
 IsTurnedAway writer (Err Read) = ⊥
 IsTurnedAway writer (Err Log) = ⊥
-
--- a read fault is returned only if the source failed in this call
-abbrev pub IsReadFault : {A : Type 0} → Result A HearError → ℕ → ℕ → Type 0
-IsReadFault (Ok a) old new = ⊤
-IsReadFault (Err hear.Read) old new = Rose old new
-IsReadFault (Err hear.Memory) old new = ⊤

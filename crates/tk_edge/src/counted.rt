@@ -1,14 +1,14 @@
-//! Devices made of std's readers and writers: `Counted` wraps one and counts its failures.
+//! Devices made of std's writers: `Counted` wraps one and counts its failures.
 
 ghost use Rattle.std.specs.Prelude.{◌≡◌};
 
-use crate::device::{Failed, Sink, Source};
-use std::io::{Read, Write};
+use crate::device::{Failed, Sink};
+use std::io::Write;
 
-/// A reader or a writer, with a count of its failures.
+/// A writer, with a count of its failures.
 #[derive(Drop)]
 pub struct Counted<T> {
-    /// The wrapped reader or writer.
+    /// The wrapped writer.
     pub inner: T,
     /// How many calls have failed. The count saturates at `u64::MAX`.
     pub failures: u64,
@@ -21,26 +21,6 @@ impl<T> Counted<T> {
         ensures none { result.failures ≡ 0 }
     {
         Counted { inner, failures: 0 }
-    }
-}
-
-impl<R: Read> Source for Counted<R> {
-    ghost coming = { λ s. R.remaining s.inner };
-
-    ghost failed = { λ s. s.failures };
-
-    fn take(&mut self, piece: &mut [u8]) -> Result<usize, Failed> {
-        match self.inner.read(piece) {
-            Ok(n) => Ok(n),
-            Err(_) => {
-                self.failures = self.failures.saturating_add(1);
-                Err(Failed)
-            }
-        }
-    }
-
-    fn failures(&self) -> u64 {
-        self.failures
     }
 }
 

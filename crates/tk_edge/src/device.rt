@@ -1,32 +1,12 @@
-//! Devices: `Source` gives bytes, `Sink` takes them, and both count their failures.
+//! Devices that take bytes and count their failures: `Sink`.
 
 ghost use Rattle.std.specs.Prelude.{◌≡◌, ℕ, ◌<◌, ◌≤◌, List, length, Option, IfOk};
-ghost use Rattle.std.specs.Io.KnownBytes.{Keeps, ReadConsumes, WriteAppends};
+ghost use Rattle.std.specs.Io.KnownBytes.{Keeps, WriteAppends};
 ghost use Rattle.tk_edge.specs.Failures.{CountsFailure};
 
 /// A call of a device failed.
 #[derive(Clone, Copy)]
 pub struct Failed;
-
-/// A device that gives bytes.
-pub trait Source {
-    // The bytes that the source still has, if they are known; those of a socket are not.
-    ghost coming: { Self → Option (List ℕ) };
-
-    // How many calls have failed. The count saturates at the greatest `u64`.
-    ghost failed: { Self → ℕ };
-
-    /// Reads bytes into the front of `piece`, and returns their number.
-    /// Zero means that the source is at its end, or that `piece` is empty.
-    fn take(&mut self, piece: &mut [u8]) -> Result<usize, Failed>
-        ensures within { IfOk result (λ n. n ≤ length piece.new) }
-        ensures bytes { ReadConsumes (coming self.old) (coming self.new) result piece.new }
-        ensures failures { CountsFailure result (failed self.old) (failed self.new) };
-
-    /// Returns how many calls have failed. The count saturates at `u64::MAX`.
-    fn failures(&self) -> u64
-        ensures { result ≡ failed self.now };
-}
 
 /// A device that takes bytes and keeps them.
 pub trait Sink {

@@ -1,7 +1,7 @@
 //! The edge: a region behind its connections.
 //!
-//! `Edge::answer` takes a request as bytes, `Edge::serve_one` serves a connection over devices, and
-//! `Edge::serve_front` serves the front of the bytes that have come over a connection.
+//! `Edge::answer` takes a request as bytes, and `Edge::serve_front` serves the front of the bytes
+//! that have come over a connection.
 
 use std::marker::Model;
 use tk_region::Region;
@@ -45,27 +45,22 @@ pub enum Served {
     Done(StatusCode),
 }
 
-ghost use Rattle.std.specs.Prelude.{◌≡◌, ◌≢◌, true, false, length, None, Some, Err};
+ghost use Rattle.std.specs.Prelude.{◌≡◌, ◌≢◌, true, false, None, Some, Err};
 ghost use Rattle.std.specs.Prelude.{IfOk, OnOk, OnErr};
 ghost use Rattle.std.specs.Borrow.{Lends, sem};
 ghost use Rattle.tk_region.specs.contracts.region.Region.{the_row as region_row};
 ghost use Rattle.tk_edge.specs.contracts.edge.Edge.{the_row as edge_row};
 ghost use Rattle.tk_edge.specs.Answers.{refused_by};
 ghost use Rattle.tk_edge.specs.Arrivals.{Answers, IsShort};
-ghost use Rattle.tk_edge.specs.Bounds.{TakesAtMost, request_limit};
 ghost use Rattle.tk_edge.specs.Failures.{Rose};
 ghost use Rattle.tk_edge.specs.FrontServed.{IsFrontServed, IsFrontTurnedAway};
 ghost use Rattle.tk_edge.specs.Heard.{IsArrival, MayArrive};
-ghost use Rattle.tk_edge.specs.Heads.{head_limit};
-ghost use Rattle.tk_edge.specs.Served.{IsServed, IsTurnedAway};
 ghost use Rattle.tk_edge.specs.declared.hear.Arrival.{Arrival as AnyArrival};
 
 use crate::answer::{Answer, answer_arrival, refuse};
-use crate::device::{Sink, Source};
-use crate::front::{Taken, ending};
-use crate::given::Given;
-use crate::head::HEAD_LIMIT;
-use crate::hear::{Arrival, HearError, hear};
+use crate::device::Sink;
+use crate::front::{Front, Taken, ending, hear_front};
+use crate::hear::Arrival;
 use crate::reach::Reach;
 use crate::refusal::Refusal;
 use crate::serving::{serve_arrival, serve_front_open, turn_away};
@@ -163,7 +158,7 @@ impl Edge {
         if self.sealed {
             return refuse(alloc, Refusal::Sealed);
         }
-        let came = hear_bytes(alloc, reach, bytes)?;
+        let came = hear_whole(alloc, reach, bytes)?;
         answer_arrival(
             alloc,
             &mut self.region,
@@ -174,148 +169,32 @@ impl Edge {
         )
     }
 
-    /// Serves one connection: reads a request, logs its fact and writes the reply, in this order.
-    ///
-    /// The reply is that of [`Edge::answer`]. The record of the fact is written to the log and
-    /// flushed before the first byte of the reply. `buf` holds the head while it is read:
-    /// [`HEAD_LIMIT`] bytes of any value. A sealed edge reads nothing, and writes the reply 503
-    /// temporarily_unavailable.
-    ///
-    /// The log isn't called without a fact. Bundles that are taken in aren't logged:
-    /// [`Edge::serve_one_logging`] may log them.
-    pub fn serve_one<S: Source, L: Sink, W: Sink>(
-        &mut self,
-        alloc: Global,
-        reach: Reach,
-        reader: &mut S,
-        writer: &mut W,
-        log: &mut L,
-        buf: &mut [u8],
-        now: Moment,
-        words: &[u64; 6],
-    ) -> Result<Served, Fault>
-        requires { length buf.old ≡ head_limit }
-        ensures room { length buf.new ≡ length buf.old }
-        ensures refuses_ahead { self.new.refuses_ahead ≡ self.old.refuses_ahead }
-
-        // What holds after each result. If the source's bytes are unknown, some request was
-        // answered.
-        ensures served { self.old.sealed ≡ false → IsServed
-            (record {
-              reach = reach;
-              refuses_ahead = self.old.refuses_ahead;
-              log_taken = false;
-              known = S.coming reader.old;
-              now = now;
-              words = words.now;
-            })
-            (record { before = self.old.region; after = self.new.region })
-            (record { before = L.holds log.old; after = L.holds log.new }) (log.new ≡ log.old)
-            (record { before = W.holds writer.old; after = W.holds writer.new }) self.new.sealed
-            result }
-        ensures turned_away { self.old.sealed ≡ true
-            → IsTurnedAway (record { before = W.holds writer.old; after = W.holds writer.new })
-            result }
-        ensures untouched { self.old.sealed ≡ true
-            → (self.new ≡ self.old) × (reader.new ≡ reader.old) × (log.new ≡ log.old) }
-
-        // The edge reads at most a head and a body within their limits.
-        ensures bounded { TakesAtMost (request_limit reach) (S.coming reader.old)
-            (S.coming reader.new) }
-
-        // A fault of a device is returned only if that device failed in this call.
-        ensures reader_fault { result ≡ Err Fault.Read
-            → Rose (S.failed reader.old) (S.failed reader.new) }
-        ensures writer_fault { result ≡ Err Fault.Write
-            → Rose (W.failed writer.old) (W.failed writer.new) }
-        ensures log_fault { result ≡ Err Fault.Log → Rose (L.failed log.old) (L.failed log.new) }
-    {
-        self.serve_one_logging(alloc, reach, reader, writer, log, false, buf, now, words)
-    }
-
-    /// Serves one connection as [`Edge::serve_one`] does, and logs the bundles taken in if
-    /// `log_taken` is true.
-    ///
-    /// Of a pushed bundle that changes the region, the record is then logged and flushed before the
-    /// first byte of its reply: the bundle without the facts at skipped dots. If memory runs out, the
-    /// log may have a bundle whose items may be in. The log isn't called without a fact made or a
-    /// record of a bundle.
-    pub fn serve_one_logging<S: Source, L: Sink, W: Sink>(
-        &mut self,
-        alloc: Global,
-        reach: Reach,
-        reader: &mut S,
-        writer: &mut W,
-        log: &mut L,
-        log_taken: bool,
-        buf: &mut [u8],
-        now: Moment,
-        words: &[u64; 6],
-    ) -> Result<Served, Fault>
-        requires { length buf.old ≡ head_limit }
-        ensures room { length buf.new ≡ length buf.old }
-        ensures refuses_ahead { self.new.refuses_ahead ≡ self.old.refuses_ahead }
-
-        ensures served { self.old.sealed ≡ false → IsServed
-            (record {
-              reach = reach;
-              refuses_ahead = self.old.refuses_ahead;
-              log_taken = log_taken;
-              known = S.coming reader.old;
-              now = now;
-              words = words.now;
-            })
-            (record { before = self.old.region; after = self.new.region })
-            (record { before = L.holds log.old; after = L.holds log.new }) (log.new ≡ log.old)
-            (record { before = W.holds writer.old; after = W.holds writer.new }) self.new.sealed
-            result }
-        ensures turned_away { self.old.sealed ≡ true
-            → IsTurnedAway (record { before = W.holds writer.old; after = W.holds writer.new })
-            result }
-        ensures untouched { self.old.sealed ≡ true
-            → (self.new ≡ self.old) × (reader.new ≡ reader.old) × (log.new ≡ log.old) }
-
-        ensures bounded { TakesAtMost (request_limit reach) (S.coming reader.old)
-            (S.coming reader.new) }
-
-        ensures reader_fault { result ≡ Err Fault.Read
-            → Rose (S.failed reader.old) (S.failed reader.new) }
-        ensures writer_fault { result ≡ Err Fault.Write
-            → Rose (W.failed writer.old) (W.failed writer.new) }
-        ensures log_fault { result ≡ Err Fault.Log → Rose (L.failed log.old) (L.failed log.new) }
-    {
-        if self.sealed {
-            return turn_away(alloc, writer);
-        }
-        match hear(alloc, reach, reader, buf) {
-            Ok(came) => serve_arrival(
-                alloc,
-                &mut self.region,
-                self.refuses_ahead,
-                &mut self.sealed,
-                log,
-                log_taken,
-                writer,
-                now,
-                words,
-                came,
-            ),
-            Err(HearError::Read) => Err(Fault::Read),
-            Err(HearError::Memory) => Err(Fault::Memory),
-        }
-    }
-
     /// Serves the request at the front of the bytes that have come over a connection, if that
-    /// request is whole. Returns how serving it ended, and what it took of the bytes.
+    /// request is whole: logs its record and writes the reply, in this order. Returns how serving
+    /// it ended, and what it took of the bytes.
     ///
     /// `reach` is which paths are served over the connection. `is_over` is whether the client has
-    /// ended its side, so that no more bytes follow. A request is served as
-    /// [`Edge::serve_one_logging`] serves it, whatever follows its bytes. If no request is whole,
-    /// the result is `None`: nothing is changed or written, and more bytes are needed. A sealed
-    /// edge takes all bytes, and writes the reply 503 temporarily_unavailable.
+    /// ended its side, so that no more bytes follow. The reply is that of [`Edge::answer`] to a
+    /// stream that begins with the bytes, whatever follows them. If no request is whole, the result
+    /// is `None`: nothing is changed or written, and more bytes are needed. A sealed edge takes all
+    /// bytes, and writes the reply 503 temporarily_unavailable.
+    ///
+    /// The record of a fact is written to the log and flushed before the first byte of the reply.
+    /// If `log_taken` is true, so is the record of a pushed bundle that changes the region: the
+    /// bundle without the facts at skipped dots. The log isn't called without a record.
     ///
     /// Each reply says `Connection: close`. If the connection may stay, [`keep_open`] takes that
     /// line out.
+    ///
+    /// # Errors
+    ///
+    /// - [`Fault::Memory`] if memory runs out. The client gets nothing, and the region is as after
+    ///   an error of [`Edge::answer`]. The log is unchanged, or, if `log_taken` is true, has the
+    ///   pushed bundle whose facts may be in.
+    /// - [`Fault::Log`] if the log fails. The log has a beginning of the record, the client gets
+    ///   nothing, and the edge is sealed. The facts are in the region.
+    /// - [`Fault::Write`] if the client's sink fails. The client has a beginning of the reply. The
+    ///   facts are in the region, and the log has the record.
     pub fn serve_front<L: Sink, W: Sink>(
         &mut self,
         alloc: Global,
@@ -347,7 +226,7 @@ impl Edge {
             (record { before = W.holds writer.old; after = W.holds writer.new }) result }
         ensures untouched { self.old.sealed ≡ true → (self.new ≡ self.old) × (log.new ≡ log.old) }
 
-        // No source is read, and a fault of a device is returned only if that device failed.
+        // No device is read, and a fault of a device is returned only if that device failed.
         ensures read { result ≢ Err Fault.Read }
         ensures writer_fault { result ≡ Err Fault.Write
             → Rose (W.failed writer.old) (W.failed writer.new) }
@@ -376,15 +255,14 @@ impl Edge {
     }
 }
 
-// Reads a request from the bytes of a stream that then ends. Memory alone can run out: the source
-// is a slice, which doesn't fail.
-fn hear_bytes(alloc: Global, reach: Reach, bytes: &[u8]) -> Result<Arrival, AllocError>
+// Reads a request from the bytes of a stream that then ends.
+fn hear_whole(alloc: Global, reach: Reach, bytes: &[u8]) -> Result<Arrival, AllocError>
     ensures came { IfOk result (IsArrival reach bytes.now) }
     ensures may { IfOk result (MayArrive reach) }
 {
-    let mut buf = [0u8; HEAD_LIMIT];
-    match hear(alloc, reach, &mut Given { rest: bytes }, &mut buf) {
-        Ok(came) => Ok(came),
-        Err(_) => Err(AllocError),
+    match hear_front(alloc, reach, bytes, true) {
+        Ok(Front::Came(came, _)) => Ok(came),
+        Ok(Front::More) => unreachable!("more bytes are needed only if some may follow"),
+        Err(error) => Err(error),
     }
 }

@@ -2,6 +2,9 @@
 
 use crate::hear::Arrival;
 
+/// The most bytes of a request's head.
+pub const HEAD_LIMIT: usize = 8_192;
+
 /// What was taken of the bytes of a connection.
 #[derive(Clone, Copy)]
 pub struct Taken {
@@ -11,12 +14,12 @@ pub struct Taken {
     pub stays: bool,
 }
 
-/// What the front of bytes is.
+/// What the front of the bytes of a connection is.
 #[derive(Drop)]
 pub enum Front {
-    /// No request is whole: more bytes are needed.
+    /// No request is whole, and more bytes may follow: they are needed.
     More,
-    /// What arrived, and what it took of the bytes.
+    /// What arrived, and what was taken of the bytes. The meaning is the same whatever follows.
     Came(Arrival, Taken),
 }
 
@@ -37,8 +40,7 @@ ghost use Rattle.tk_edge.specs.declared.reach.Reach.{Reach as AnyReach};
 
 use crate::exchange::Exchange;
 use crate::field::{Fields, fields_of};
-use crate::head::HEAD_LIMIT;
-use crate::hear::{HearError, asked, lent};
+use crate::hear::{asked, posted_to};
 use crate::judge::{Judged, judge};
 use crate::path::{Posted, split_target};
 use crate::reach::Reach;
@@ -46,19 +48,26 @@ use crate::refusal::Refusal;
 use crate::staying::stays_by;
 use httparse::Status;
 use httparse::spans::{EMPTY_HEADER_SPAN, HeaderSpan, RequestSpans, parse_request};
-use std::alloc::Global;
+use std::alloc::{AllocError, Global};
 
-/// Reads the request at the front of the bytes that have come over a connection.
+/// Reads the request at the front of the bytes that have come over a connection, without a copy of
+/// its head.
 ///
 /// `reach` is which paths are served over the connection. `is_over` is whether the client has ended
-/// its side, so that no more bytes follow. What came means the same whatever follows its bytes.
-/// Returns `HearError::Memory` if memory runs out.
+/// its side, so that no more bytes follow. Returns [`Front::More`] if no request is whole, and
+/// otherwise what arrived, which no further bytes can change. A refusal takes all bytes. Any other
+/// arrival takes those of its request: a head of at most [`HEAD_LIMIT`] bytes and 64 fields, and
+/// the body that its length names (RFC 9112, 6.3). Nothing is served.
+///
+/// # Errors
+///
+/// `AllocError` if memory runs out.
 pub fn hear_front(
     alloc: Global,
     reach: Reach,
     bytes: &[u8],
     is_over: bool,
-) -> Result<Front, HearError>
+) -> Result<Front, AllocError>
     ensures { IfOk result (IsFront reach bytes.now is_over) }
 {
     if bytes.is_empty() {
@@ -126,7 +135,7 @@ fn head_front(
     is_over: bool,
     headers: &[HeaderSpan],
     spans: RequestSpans,
-) -> Result<Front, HearError>
+) -> Result<Front, AllocError>
     requires within { IsRequestWithin bytes.now headers.now spans }
     requires short { spans.len ≤ head_limit }
     ensures came { (h : RequestHead) → IsRequestAt bytes.now headers.now spans h
@@ -161,7 +170,7 @@ fn head_front(
 }
 
 // Returns the front of a whole request, if there was memory for it.
-fn whole_front(came: Result<Arrival, HearError>, taken: Taken) -> Result<Front, HearError>
+fn whole_front(came: Result<Arrival, AllocError>, taken: Taken) -> Result<Front, AllocError>
     ensures { result ≡ front_of came taken }
 {
     match came {
@@ -180,7 +189,7 @@ fn body_front(
     rest: &[u8],
     is_over: bool,
     fields: &Fields<'_>,
-) -> Result<Front, HearError>
+) -> Result<Front, AllocError>
     requires { head.size + length rest.now < 2 ^ 64 }
     ensures came { (target : List ℕ) (pairs : Pairs) → AreFields fields.now pairs
         → IfOk result (IsFrontBy is_over
@@ -198,7 +207,7 @@ fn body_front(
             size: head.size + size,
             stays: head.stays,
         };
-        return whole_front(lent(alloc, posted, &rest[..size], fields), taken);
+        return whole_front(posted_to(alloc, posted, &rest[..size], fields), taken);
     }
     if is_over {
         let all = ending(head.size + rest.len());

@@ -1,6 +1,6 @@
-//! Renders a reply as bytes: `render`.
+//! Renders a reply as bytes: `reply_bytes`, and `render` for one that may name methods.
 
-ghost use Rattle.std.specs.Prelude.{◌≡◌, IfOk};
+ghost use Rattle.std.specs.Prelude.{◌≡◌, IfOk, None};
 ghost use Rattle.std.specs.Option.{option_copied};
 ghost use Rattle.tk_message.specs.ReplyFields.{content_of};
 ghost use Rattle.tk_edge.specs.Rendering as spec;
@@ -9,6 +9,18 @@ use itoa::Buffer;
 use std::alloc::{AllocError, Global};
 use tk_message::{Asks, Payload, Reply, StatusCode};
 use tk_put::{field_line, joined};
+
+/// Returns the bytes of a whole reply: head and body (RFC 9112, 4). The head has
+/// `Connection: close`, and no `Allow`: only a refused method has that.
+///
+/// # Errors
+///
+/// `AllocError` if memory runs out.
+pub fn reply_bytes(alloc: Global, reply: &Reply) -> Result<Vec<u8>, AllocError>
+    ensures { IfOk result (λ bytes. bytes.items ≡ spec.reply_bytes reply.now None) }
+{
+    render(alloc, reply, None)
+}
 
 // Renders the whole reply. `allowed` is the value of its `Allow`, if it has one.
 pub(crate) fn render(

@@ -13,7 +13,8 @@ use tk_message::StatusCode;
 /// Why a connection wasn't served.
 #[derive(Clone, Copy, PartialEq, Eq)]
 pub enum Fault {
-    /// The request couldn't be read. The region is unchanged, and nothing was written.
+    /// The request couldn't be read. No edge returns it, because an edge reads no device: who reads
+    /// the bytes of connections reports by it those that it couldn't read.
     Read,
     /// The reply couldn't be written whole. The fact is added, and its record is in the log, as is a
     /// bundle that was to be logged.

@@ -1,10 +1,11 @@
-//! Tests of connections over devices that fail, and of which paths are served, which no row of
-//! `check/rows/` can show.
+//! Tests of connections whose bytes come in pieces or whose devices fail, and of which paths are
+//! served, which no row of `check/rows/` can show.
 //!
-//! `serving` has the tests with devices, `frail` the devices, and `talks` the requests. `reaches`
-//! has the tests of paths.
+//! `serving` has the tests of devices, `pieces` those of requests that haven't come whole, `frail`
+//! a device, and `talks` the requests. `reaches` has the tests of paths.
 
 mod frail;
+mod pieces;
 mod reaches;
 mod serving;
 mod talks;
@@ -43,4 +44,28 @@ fn is_answered(
         }
         Err(_) => false,
     }
+}
+
+// Returns whether the request gets a reply, and makes a fact.
+fn makes_fact(alloc: Global, edge: &mut Edge, request: &[u8]) -> bool {
+    let Some(now) = Moment::new(1_000) else {
+        return false;
+    };
+    match edge.answer(alloc, Reach::All, now, &[0; 6], request) {
+        Ok(answer) => {
+            let is_made = answer.logged.is_some();
+            drop(answer);
+            is_made
+        }
+        Err(_) => false,
+    }
+}
+
+fn make_facts(alloc: Global, edge: &mut Edge, requests: &[&[u8]]) -> bool {
+    for request in requests {
+        if !makes_fact(alloc, edge, request) {
+            return false;
+        }
+    }
+    true
 }

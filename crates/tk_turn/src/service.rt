@@ -26,8 +26,9 @@ impl Outcome {
         }
     }
 
-    // Returns whether a request was decided behind which another may follow.
-    pub(crate) fn goes_on(self) -> bool
+    /// Returns whether a request was decided behind which another may follow: the connection stays
+    /// open.
+    pub fn goes_on(self) -> bool
         ensures { result ≡ goes_on self }
     {
         match self {

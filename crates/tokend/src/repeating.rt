@@ -34,7 +34,7 @@ ghost use Rattle.tokend.specs.Repeats.{IsRefresh, used_in};
 
 use crate::draw::draw;
 use crate::repeats::Refreshed;
-use crate::server::{Server, copy, outcome_of, reach, reply_over, stays_open};
+use crate::server::{Server, copy, outcome_of, reach, reply_over};
 use rand_chacha::ChaCha20Rng;
 use std::alloc::{AllocError, Global};
 use tk_edge::{Arrival, Fault as EdgeFault, Front, Reach, Served, Taken, hear_front};
@@ -57,7 +57,7 @@ fn refresh_at(
             Ok(with_taken(refresh_of(request), taken))
         }
         Ok(_) => Ok(None),
-        Err(_) => Err(AllocError),
+        Err(error) => Err(error),
     }
 }
 
@@ -155,7 +155,7 @@ impl Server {
             return self.fall_short();
         }
         let outcome = outcome_of(self.keeps, Served::Done(StatusCode::Ok), taken);
-        let stays = stays_open(outcome);
+        let stays = outcome.goes_on();
         reply_over(stays, replies, mark);
         let next = past(&self.words);
         self.move_on(next, None, stays);

@@ -131,16 +131,6 @@ pub(crate) fn outcome_of(keeps: bool, served: Served, taken: Taken) -> Outcome
     }
 }
 
-// Returns whether the connection stays open.
-pub(crate) fn stays_open(outcome: Outcome) -> bool
-    ensures { result ≡ goes_on outcome }
-{
-    match outcome {
-        Outcome::More | Outcome::Ended => false,
-        Outcome::Decided(_, stays) => stays,
-    }
-}
-
 // Returns how many connections end.
 fn ended_if(stays: bool) -> u64
     ensures value { result ≡ ended_if stays }
@@ -210,7 +200,7 @@ impl Server {
             Ok(None) => Outcome::More,
             Ok(Some((served, taken))) => {
                 let outcome = outcome_of(self.keeps, served, taken);
-                let stays = stays_open(outcome);
+                let stays = outcome.goes_on();
                 reply_over(stays, replies, mark);
                 self.keep(refresh, served, dot, &words);
                 self.move_on(next, None, stays);

@@ -1,14 +1,14 @@
-//! A source and a sink in memory (`FrailSource`, `FrailSink`), whose calls fail as a test chooses.
+//! A sink in memory, `FrailSink`, whose calls fail as a test chooses.
 
 ghost use Rattle.std.specs.Prelude.{◌≡◌, ◌<◌, ◌≤◌, []};
 ghost use Rattle.tk_edge.specs.Failures.{one_more};
 
 use std::alloc::Global;
-use tk_edge::{Failed, Sink, Source};
+use tk_edge::{Failed, Sink};
 
-/// Which calls of a device fail. Calls are numbered from 0.
+/// Which calls of a sink fail. Calls are numbered from 0.
 #[derive(Clone, Copy)]
-pub enum Fails {
+pub(super) enum Fails {
     /// No call fails.
     Never,
     /// The call of this number fails.
@@ -27,69 +27,9 @@ impl Fails {
     }
 }
 
-/// A source in memory. A call gives at most `step` bytes, or fails.
-#[derive(Drop)]
-pub struct FrailSource<'a> {
-    /// The bytes that the source still has.
-    pub rest: &'a [u8],
-    /// The most bytes that a call gives, at least 1.
-    pub step: usize,
-    /// How many calls there were.
-    pub calls: u64,
-    /// Which calls fail.
-    pub fails: Fails,
-    /// How many calls failed.
-    pub failures: u64,
-    ghost steps: { 0 < step },
-}
-
-impl<'a> FrailSource<'a> {
-    /// Returns a source that hasn't been called.
-    pub fn new(rest: &'a [u8], step: usize, fails: Fails) -> FrailSource<'a>
-        requires { 0 < step }
-        ensures bytes { result.rest.now ≡ rest.now }
-        ensures given { (result.step ≡ step) × (result.fails ≡ fails) }
-        ensures fresh { (result.calls ≡ 0) × (result.failures ≡ 0) }
-    {
-        FrailSource {
-            rest,
-            step,
-            calls: 0,
-            fails,
-            failures: 0,
-        }
-    }
-}
-
-impl<'a> Source for FrailSource<'a> {
-    ghost use Rattle.std.specs.Prelude.{Some};
-
-    ghost coming = { λ s. Some s.rest.now };
-
-    ghost failed = { λ s. s.failures };
-
-    fn take(&mut self, piece: &mut [u8]) -> Result<usize, Failed> {
-        let call = self.calls;
-        self.calls = call.saturating_add(1);
-        if self.fails.at(call) {
-            self.failures = self.failures.saturating_add(1);
-            return Err(Failed);
-        }
-        let rest = self.rest;
-        let n = rest.len().min(piece.len()).min(self.step);
-        piece[..n].copy_from_slice(&rest[..n]);
-        self.rest = &rest[n..];
-        Ok(n)
-    }
-
-    fn failures(&self) -> u64 {
-        self.failures
-    }
-}
-
 /// A sink in memory. A call takes at most `step` bytes, or fails.
 #[derive(Drop)]
-pub struct FrailSink {
+pub(super) struct FrailSink {
     /// The bytes that the sink has taken.
     pub bytes: Vec<u8>,
     /// The most bytes that a call takes, at least 1.
@@ -105,7 +45,7 @@ pub struct FrailSink {
 
 impl FrailSink {
     /// Returns a sink without bytes that hasn't been called.
-    pub fn new(alloc: Global, step: usize, fails: Fails) -> FrailSink
+    pub(super) fn new(alloc: Global, step: usize, fails: Fails) -> FrailSink
         requires { 0 < step }
         ensures empty { result.bytes.items ≡ [] }
         ensures given { (result.step ≡ step) × (result.fails ≡ fails) }

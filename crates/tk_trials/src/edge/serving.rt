@@ -1,10 +1,12 @@
-//! Connections over devices that fail: what each device holds then, and what the edge holds.
+//! Connections whose bytes come in pieces, and whose client or log fails: what each device holds
+//! then, and what the edge holds.
 
-use super::frail::{Fails, FrailSink, FrailSource};
-use super::talks::{EXCHANGE, PUSH, REGISTRATION, Talk};
-use super::{is_answered, new_edge};
+use super::frail::{Fails, FrailSink};
+use super::pieces::serve_pieces;
+use super::talks::{REGISTRATION, TALKS, Talk};
+use super::{is_answered, make_facts, new_edge};
 use std::alloc::Global;
-use tk_edge::{Counted, Discard, Edge, Fault, HEAD_LIMIT, Reach, Served, Sink, Source};
+use tk_edge::{Counted, Discard, Edge, Fault, Reach, Served, Sink};
 use tk_handle::Moment;
 use tk_message::StatusCode;
 
@@ -12,24 +14,24 @@ use tk_message::StatusCode;
 const AWAY: &[u8] =
     b"HTTP/1.1 503 Service Unavailable\r\nContent-Type: application/json\r\nContent-Length: 35\r\nCache-Control: no-store\r\nPragma: no-cache\r\nConnection: close\r\n\r\n{\"error\":\"temporarily_unavailable\"}";
 
-// The most bytes that a call of the source gives, and that a call of a sink takes.
+// The most bytes that come at once, and the most that a call of a sink takes.
 type Steps = (usize, usize);
 
-// The steps are so short that each device is called several times.
+// The steps are so short that several pieces come, and each sink is called several times.
 const STEP: usize = 20;
 
 const STEPS: Steps = (STEP, STEP);
 
-// Which calls of source, client and log fail.
-type Failing = [Fails; 3];
+// Which calls of client and log fail.
+type Failing = [Fails; 2];
 
 const NEVER: Fails = Fails::Never;
 
-const SOUND: Failing = [NEVER, NEVER, NEVER];
+const SOUND: Failing = [NEVER, NEVER];
 
 // How a connection ended: its result, the facts held, and whether the edge is sealed. Also how many
 // bytes the log and the client were given, `None` if they don't begin the record and the reply;
-// whether source or log were called; and how many of the client's calls failed.
+// whether the log was called; and how many of the client's calls failed.
 #[derive(Clone, Copy, PartialEq, Eq)]
 struct End {
     result: Result<Served, Fault>,
@@ -63,68 +65,30 @@ fn begins(whole: &[u8], part: &[u8]) -> Option<usize> {
     }
 }
 
-// Returns whether a connection of the client ends as expected, over these devices. Bundles that
-// are taken in are logged.
+// Returns whether a connection of the client ends as expected, over these devices.
 fn ends_at(
     alloc: Global,
     edge: &mut Edge,
     talk: &Talk,
-    (given, taken): Steps,
-    [read, write, log]: Failing,
+    (come, taken): Steps,
+    [write, log]: Failing,
     want: &End,
 ) -> bool {
-    let Some(now) = Moment::new(1_000) else {
-        return false;
-    };
-    let mut buf = [0u8; HEAD_LIMIT];
-    let mut reader = FrailSource::new(talk.request, given.max(1), read);
     let mut writer = FrailSink::new(alloc, taken.max(1), write);
     let mut log = FrailSink::new(alloc, taken.max(1), log);
-    let result = edge.serve_one_logging(
-        alloc,
-        Reach::All,
-        &mut reader,
-        &mut writer,
-        &mut log,
-        true,
-        &mut buf,
-        now,
-        &[0; 6],
-    );
+    let Some(result) = serve_pieces(alloc, edge, talk.request, come, &mut writer, &mut log) else {
+        return false;
+    };
     let end = End {
         result,
         facts: edge.region().len(),
         sealed: edge.sealed(),
         logged: begins(talk.record, log.bytes.as_slice()),
         written: begins(talk.reply, writer.bytes.as_slice()),
-        called: reader.calls.saturating_add(log.calls) > 0,
+        called: log.calls > 0,
         failed: writer.failures,
     };
     end == *want
-}
-
-// Returns whether the request gets a reply, and makes a fact.
-fn makes_fact(alloc: Global, edge: &mut Edge, request: &[u8]) -> bool {
-    let Some(now) = Moment::new(1_000) else {
-        return false;
-    };
-    match edge.answer(alloc, Reach::All, now, &[0; 6], request) {
-        Ok(answer) => {
-            let is_made = answer.logged.is_some();
-            drop(answer);
-            is_made
-        }
-        Err(_) => false,
-    }
-}
-
-fn make_facts(alloc: Global, edge: &mut Edge, requests: &[&[u8]]) -> bool {
-    for request in requests {
-        if !makes_fact(alloc, edge, request) {
-            return false;
-        }
-    }
-    true
 }
 
 // Returns whether a connection ends as expected at an edge that answered only the requests before.
@@ -155,46 +119,10 @@ fn a_request_is_served_in_any_pieces(rt: HostRuntime) {
     }
 }
 
-const TALKS: &[Talk] = &[REGISTRATION, EXCHANGE, PUSH];
-
 // Returns how many calls give or take the bytes. If only later calls fail, the connection ends as
 // over devices that don't fail.
 fn calls(bytes: &[u8]) -> u64 {
     bytes.len().div_ceil(STEP) as u64
-}
-
-// Returns the first call of the source whose failure changes something, or is reported as another
-// fault.
-fn misread(alloc: Global, talk: &Talk) -> Option<u64> {
-    let (calls, done) = (calls(talk.request), done(talk));
-    let want = End {
-        result: Err(Fault::Read),
-        facts: talk.before.len() as u64,
-        logged: Some(0),
-        written: Some(0),
-        ..done
-    };
-    for call in 0..calls {
-        let one = [Fails::At(call), NEVER, NEVER];
-        let all = [Fails::From(call), NEVER, NEVER];
-        if !both_end(alloc, talk, one, all, &want) {
-            return Some(call);
-        }
-    }
-    let none = [Fails::From(calls), NEVER, NEVER];
-    if ends(alloc, talk, STEPS, none, &done) {
-        None
-    } else {
-        Some(calls)
-    }
-}
-
-#[test]
-fn a_reader_that_fails_changes_nothing(rt: HostRuntime) {
-    for talk in TALKS {
-        let (name, miss) = (talk.name, misread(rt.alloc(), talk));
-        assert!(rt; miss.is_none(), "{name}: call {miss:?}");
-    }
 }
 
 // Returns the first call of the log whose failure doesn't seal the edge before the reply. The last
@@ -202,8 +130,8 @@ fn a_reader_that_fails_changes_nothing(rt: HostRuntime) {
 fn mislogged(alloc: Global, talk: &Talk) -> Option<u64> {
     let (puts, done) = (calls(talk.record), done(talk));
     for call in 0..=puts {
-        let one = [NEVER, NEVER, Fails::At(call)];
-        let all = [NEVER, NEVER, Fails::From(call)];
+        let one = [NEVER, Fails::At(call)];
+        let all = [NEVER, Fails::From(call)];
         let want = End {
             result: Err(Fault::Log),
             sealed: true,
@@ -215,7 +143,7 @@ fn mislogged(alloc: Global, talk: &Talk) -> Option<u64> {
             return Some(call);
         }
     }
-    let none = [NEVER, NEVER, Fails::From(puts.saturating_add(1))];
+    let none = [NEVER, Fails::From(puts.saturating_add(1))];
     if ends(alloc, talk, STEPS, none, &done) {
         None
     } else {
@@ -236,8 +164,8 @@ fn a_log_that_fails_seals_before_the_reply(rt: HostRuntime) {
 fn miswritten(alloc: Global, talk: &Talk) -> Option<u64> {
     let (calls, done) = (calls(talk.reply), done(talk));
     for call in 0..calls {
-        let one = [NEVER, Fails::At(call), NEVER];
-        let all = [NEVER, Fails::From(call), NEVER];
+        let one = [Fails::At(call), NEVER];
+        let all = [Fails::From(call), NEVER];
         let want = End {
             result: Err(Fault::Write),
             written: Some((call as usize).saturating_mul(STEP)),
@@ -248,7 +176,7 @@ fn miswritten(alloc: Global, talk: &Talk) -> Option<u64> {
             return Some(call);
         }
     }
-    let none = [NEVER, Fails::From(calls), NEVER];
+    let none = [Fails::From(calls), NEVER];
     if ends(alloc, talk, STEPS, none, &done) {
         None
     } else {
@@ -264,29 +192,30 @@ fn a_writer_that_fails_leaves_fact_and_record(rt: HostRuntime) {
     }
 }
 
-// Returns whether the request is served without a log, and over std's own reader and writer.
+// Returns whether the request is served without a log, and over std's own writer.
 fn is_served_by_std(alloc: Global, edge: &mut Edge) -> bool {
     let Some(now) = Moment::new(1_000) else {
         return false;
     };
     let mut log = Discard;
-    let mut reader = Counted::new(REGISTRATION.request);
     let mut writer = Counted::new(Vec::new(alloc));
-    let mut buf = [0u8; HEAD_LIMIT];
-    let result = edge.serve_one(
+    let result = edge.serve_front(
         alloc,
         Reach::All,
-        &mut reader,
+        REGISTRATION.request,
+        false,
         &mut writer,
         &mut log,
-        &mut buf,
+        false,
         now,
         &[0; 6],
     );
-    let is_quiet = reader.failures() == 0 && Sink::failures(&log) == 0;
-    result == done(&REGISTRATION).result
-        && is_quiet
-        && writer.inner.as_slice() == REGISTRATION.reply
+    let is_quiet = writer.failures() == 0 && log.failures() == 0;
+    let is_done = match result {
+        Ok(Some((served, _))) => Ok(served) == done(&REGISTRATION).result,
+        _ => false,
+    };
+    is_done && is_quiet && writer.inner.as_slice() == REGISTRATION.reply
 }
 
 // A client that sends no byte.
@@ -296,12 +225,12 @@ const SILENT: Talk = Talk {
     ..REGISTRATION
 };
 
-const MUTE: Failing = [NEVER, Fails::From(0), Fails::From(0)];
+const MUTE: Failing = [Fails::From(0), Fails::From(0)];
 
 #[rattlefmt::skip]
-const NOTHING: End = End { result: Ok(Served::Nothing), facts: 0, sealed: false, logged: Some(0), written: Some(0), called: true, failed: 0 };
+const NOTHING: End = End { result: Ok(Served::Nothing), facts: 0, sealed: false, logged: Some(0), written: Some(0), called: false, failed: 0 };
 
-const UNLOGGABLE: Failing = [NEVER, NEVER, Fails::At(0)];
+const UNLOGGABLE: Failing = [NEVER, Fails::At(0)];
 
 #[rattlefmt::skip]
 const SEALED: End = End { result: Err(Fault::Log), facts: 2, sealed: true, logged: Some(0), written: Some(0), called: true, failed: 0 };
@@ -314,13 +243,13 @@ const TURNED: Talk = Talk {
 #[rattlefmt::skip]
 const TURNED_AWAY: End = End { result: Ok(Served::Done(StatusCode::ServiceUnavailable)), facts: 2, sealed: true, logged: Some(0), written: Some(AWAY.len()), called: false, failed: 0 };
 
-const HALF_WRITTEN: Failing = [NEVER, Fails::At(1), NEVER];
+const HALF_WRITTEN: Failing = [Fails::At(1), NEVER];
 
 #[rattlefmt::skip]
 const HALF_AWAY: End = End { result: Err(Fault::Write), facts: 2, sealed: true, logged: Some(0), written: Some(STEP), called: false, failed: 1 };
 
-// The life of an edge. An empty request gets no byte, and no call of client or log. std's devices
-// serve. A log that fails seals the edge. A sealed edge turns away without a call of source or log,
+// The life of an edge. An empty request gets no byte, and no call of client or log. std's writer
+// serves. A log that fails seals the edge. A sealed edge turns away without a call of the log,
 // once, again and without devices, and a write that fails is a fault.
 fn life_at(alloc: Global, edge: &mut Edge) -> [bool; 8] {
     [
@@ -358,7 +287,7 @@ fn an_edge_serves_until_it_is_sealed(rt: HostRuntime) {
     let [none, silent, served, sealed, once, again, without, fault] = life(rt.alloc());
     assert!(rt; none, "no byte without devices");
     assert!(rt; silent, "no byte");
-    assert!(rt; served, "over std's reader and writer");
+    assert!(rt; served, "over std's writer");
     assert!(rt; sealed, "a log that fails");
     assert!(rt; once, "turned away once");
     assert!(rt; again, "turned away again");

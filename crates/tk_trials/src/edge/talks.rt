@@ -4,7 +4,7 @@ use tk_message::StatusCode;
 
 /// The request of a client to an edge that answered other requests before.
 #[derive(Clone, Copy)]
-pub struct Talk {
+pub(super) struct Talk {
     pub name: &'static str,
     /// The requests before, each of which made a fact.
     pub before: &'static [&'static [u8]],
@@ -16,7 +16,7 @@ pub struct Talk {
     pub status: StatusCode,
 }
 
-pub const REGISTRATION: Talk = Talk {
+pub(super) const REGISTRATION: Talk = Talk {
     name: "a registration",
     before: &[],
     request: b"POST /admin/client HTTP/1.1\r\nContent-Length: 55\r\n\r\n\
@@ -31,7 +31,7 @@ pub const REGISTRATION: Talk = Talk {
 
 /// A bundle of one fact of region 2, that its client 2:1 was retired. The bundle is logged as it
 /// was sent.
-pub const PUSH: Talk = Talk {
+pub(super) const PUSH: Talk = Talk {
     name: "a push",
     before: &[],
     request: b"POST /sync/push HTTP/1.1\r\nContent-Length: 29\r\n\r\n\
@@ -57,7 +57,7 @@ const BEFORE_TOKENS: &[&[u8]] = &[
 ];
 
 /// The exchange of the code for tokens. The random words of all three handles are 0.
-pub const EXCHANGE: Talk = Talk {
+pub(super) const EXCHANGE: Talk = Talk {
     name: "a token request",
     before: BEFORE_TOKENS,
     request: b"POST /token HTTP/1.1\r\nContent-Length: 177\r\n\r\n\
@@ -80,3 +80,6 @@ pub const EXCHANGE: Talk = Talk {
         \"scope\":\"read write\",\"token_type\":\"Bearer\"}",
     status: StatusCode::Ok,
 };
+
+/// All of these.
+pub(super) const TALKS: &[Talk] = &[REGISTRATION, EXCHANGE, PUSH];

@@ -52,7 +52,7 @@ returns-in-Ok-Some-clause-decided c =
     let said = c.reply_over.ensures c.args.replies.now.items h.0 h.2 at in
     let keeps : c.serve_front.new.self.keeps ≡ c.args.self.now.keeps = ap (λ (s : Server). s.keeps) c.in-Ok-Some.ensures.others in
     let is = c.outcome_of-outcome.ensures ∙ ap (λ b. outcome_by b c.in-Ok-Some.served c.in-Ok-Some.taken) keeps in
-    let stays : c.stays_open-stays.result ≡ goes_on c.outcome_of-outcome.result = c.stays_open-stays.ensures in
+    let stays : c.goes_on-stays.result ≡ goes_on c.outcome_of-outcome.result = c.goes_on-stays.ensures in
     let six_words = c.draw-words.ensures.value ∙ ap six c.copy-next.ensures in
     let may = may_grant (asking_of c.args.self.now c.args.input.now c.args.is_over) c.args.self.now.edge c.args.refresh c.in-Ok-Some.served c.serve_front.new.self.now c.next_dot-dot.result c.draw-words.result kept.0
         c.requires.came kept.1 (ap (λ (s : Server). s.now) c.in-Ok-Some.ensures.others) (search rules) six_words in (
