@@ -9,6 +9,8 @@ pub struct Choices {
     pub consent: ConsentReuse,
     /// The kinds of redirection URIs that a client may have; None for every absolute URL.
     pub redirects: Option<RedirectKinds>,
+    /// Which senders of introspection requests see refresh tokens.
+    pub refresh_seen: RefreshSeen,
 }
 
 /// Who may revoke a token of another region that this region has not seen (RFC 7009, 2.2.1 and 5).
@@ -34,14 +36,25 @@ pub enum ConsentReuse {
     Held,
 }
 
+/// Which senders of introspection requests see a refresh token (RFC 7662, 2.2 leaves it open).
+///
+/// A sender that doesn't see a token gets the reply that the token isn't active.
+#[derive(Clone, Copy)]
+pub enum RefreshSeen {
+    /// The client that the token is of, and every resource server.
+    ByAll,
+    /// The client that the token is of, and nobody else.
+    ByClient,
+}
+
 ghost use Rattle.std.specs.Prelude.{◌≡◌};
 ghost use Rattle.tk_message.specs.Choices.{profile_choices};
 
 use tk_match::RedirectKinds;
 
 impl Choices {
-    /// Returns what the profile does: any client revokes an unseen token, each consent is new, and
-    /// each absolute URL may be registered.
+    /// Returns what the profile does: any client revokes an unseen token, each consent is new, each
+    /// absolute URL may be registered, and resource servers see refresh tokens.
     pub fn profile() -> Choices
         ensures { result ≡ profile_choices }
     {
@@ -49,6 +62,7 @@ impl Choices {
             unseen: UnseenRevocation::Any,
             consent: ConsentReuse::New,
             redirects: None,
+            refresh_seen: RefreshSeen::ByAll,
         }
     }
 }
