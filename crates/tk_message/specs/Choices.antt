@@ -1,9 +1,11 @@
 -- What a region does if the profile leaves a choice (own).
+--   profile_rules     what the profile requires of challenges
 --   profile_choices   what the profile does
 --   coded_choices     the code of choices
 use Rattle.std.specs.Prelude.{◌≡◌, Bool, true, false, Option, Some, None, refl}
 use Rattle.std.specs.Coded.{Coded, code_by, coded×, coded_bool, coded_option}
 use Rattle.tk_match.specs.declared.redirect_kinds.RedirectKinds.{RedirectKinds}
+use Rattle.tk_message.specs.declared.choices.ChallengeRules.{ChallengeRules}
 use Rattle.tk_message.specs.declared.choices.Choices.{Choices}
 use Rattle.tk_message.specs.declared.choices.ConsentReuse.{ConsentReuse}
 use Rattle.tk_message.specs.declared.choices.ConsentReuse.TheVariants.{New, Held}
@@ -16,11 +18,22 @@ use Rattle.tk_message.specs.declared.choices.UnseenRevocation.TheVariants.{
   Nobody,
 }
 
+-- what the profile requires: a challenge of public clients alone, by either method (RFC 7636, 4.3
+-- and 4.4.1)
+abbrev pub profile_rules : ChallengeRules
+profile_rules = record { of_all = false; only_s256 = false }
+
 -- what the profile does: any client revokes a token that has not been seen, each consent is new,
--- each absolute URL may be registered, and resource servers see refresh tokens
+-- each absolute URL may be registered, resource servers see refresh tokens, and challenges are
+-- required by the profile's rules
 abbrev pub profile_choices : Choices
-profile_choices =
-    record { unseen = Any; consent = New; redirects = None; refresh_seen = ByAll }
+profile_choices = record {
+  unseen = Any;
+  consent = New;
+  redirects = None;
+  refresh_seen = ByAll;
+  challenge = profile_rules;
+}
 
 -- ---- codes
 
@@ -84,16 +97,26 @@ abbrev pub coded_refresh_seen : Coded RefreshSeen
 coded_refresh_seen =
     code_by Bool coded_bool refresh_seen_code refresh_seen_coded refresh_seen_again
 
+-- the code of what is required of challenges
+abbrev pub coded_rules : Coded ChallengeRules
+coded_rules =
+    code_by (Bool × Bool) (coded× coded_bool coded_bool) (λ r. (r.of_all, r.only_s256))
+    (λ p. record { of_all = p.0; only_s256 = p.1 }) (λ _. refl)
+
 -- the code of choices
 abbrev pub coded_choices : Coded Choices
 coded_choices =
-    code_by (UnseenRevocation × (ConsentReuse × (Option RedirectKinds × RefreshSeen)))
+    code_by
+    (UnseenRevocation
+    × (ConsentReuse × (Option RedirectKinds × (RefreshSeen × ChallengeRules))))
     (coded× coded_unseen
-    (coded× coded_consent (coded× (coded_option coded_kinds) coded_refresh_seen)))
-    (λ c. (c.unseen, (c.consent, (c.redirects, c.refresh_seen))))
+    (coded× coded_consent
+    (coded× (coded_option coded_kinds) (coded× coded_refresh_seen coded_rules))))
+    (λ c. (c.unseen, (c.consent, (c.redirects, (c.refresh_seen, c.challenge)))))
     (λ p. record {
       unseen = p.0;
       consent = p.1.0;
       redirects = p.1.1.0;
-      refresh_seen = p.1.1.1;
+      refresh_seen = p.1.1.1.0;
+      challenge = p.1.1.1.1;
     }) (λ _. refl)

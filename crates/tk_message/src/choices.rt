@@ -11,6 +11,8 @@ pub struct Choices {
     pub redirects: Option<RedirectKinds>,
     /// Which senders of introspection requests see refresh tokens.
     pub refresh_seen: RefreshSeen,
+    /// What is required of the challenge of a code.
+    pub challenge: ChallengeRules,
 }
 
 /// Who may revoke a token of another region that this region has not seen (RFC 7009, 2.2.1 and 5).
@@ -47,6 +49,15 @@ pub enum RefreshSeen {
     ByClient,
 }
 
+/// What is required of the challenge of a code, beyond the profile (RFC 9700, 2.1.1).
+#[derive(Clone, Copy)]
+pub struct ChallengeRules {
+    /// Every client must send a challenge, and not public clients alone.
+    pub of_all: bool,
+    /// The method must be `S256`: `plain` is refused, and so is no method, which means `plain`.
+    pub only_s256: bool,
+}
+
 ghost use Rattle.std.specs.Prelude.{◌≡◌};
 ghost use Rattle.tk_message.specs.Choices.{profile_choices};
 
@@ -54,7 +65,8 @@ use tk_match::RedirectKinds;
 
 impl Choices {
     /// Returns what the profile does: any client revokes an unseen token, each consent is new, each
-    /// absolute URL may be registered, and resource servers see refresh tokens.
+    /// absolute URL may be registered, resource servers see refresh tokens, and of clients public
+    /// ones alone must send a challenge, by either method.
     pub fn profile() -> Choices
         ensures { result ≡ profile_choices }
     {
@@ -63,6 +75,10 @@ impl Choices {
             consent: ConsentReuse::New,
             redirects: None,
             refresh_seen: RefreshSeen::ByAll,
+            challenge: ChallengeRules {
+                of_all: false,
+                only_s256: false,
+            },
         }
     }
 }
