@@ -13,7 +13,7 @@ OF_PAGE = r"^\.TP\n\.BI? --([\w-]+)(?: +\w+)?\n((?:(?!\.TP|\.S[SH]).*\n?)*)"
 FLAG = None, "off"  # an option without a value
 # options whose value is one of some words
 CHOICES = ("ahead", "revoke-unseen", "consent", "refresh-seen")
-LISTS = ("redirects",)  # options whose value is some words with commas between
+LISTS = ("redirects", "challenge")  # options whose value is some words with commas between
 SPELLINGS = {"no log": "none", "without end": "none"}
 
 

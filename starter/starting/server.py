@@ -39,7 +39,8 @@ def said_of(name, options):
 
 def words(settings, number, places, load, log, secret, prune):
     pruned = [] if prune is None else ["--prune", str(prune)]
-    chosen = [word for name, value in CHOICES if not said_of(name, settings.options)
+    choices = CHOICES + (("challenge", settings.challenge),) * bool(settings.challenge)
+    chosen = [word for name, value in choices if not said_of(name, settings.options)
               for word in ("--" + name, value)]
     return [settings.tokend, "serve", "--region", str(number), *places,
             "--seed", "/dev/fd/%d" % secret, "--load", load, "--log", log, "--log-taken",

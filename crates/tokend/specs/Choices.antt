@@ -25,6 +25,7 @@ use Rattle.std.specs.Prelude.{
 use Rattle.std.specs.Str.{bytes_eq}
 use Rattle.clap.specs.Words.{Row, Text, first_of}
 use Rattle.tk_message.specs.declared.choices.Choices.{Choices}
+use Rattle.tokend.specs.Challenges.{rules_named}
 use Rattle.tokend.specs.Kinds.{kinds_named}
 use Rattle.tk_message.specs.declared.choices.ConsentReuse.{ConsentReuse}
 use Rattle.tk_message.specs.declared.choices.ConsentReuse.TheVariants.{New, Held}
@@ -79,7 +80,8 @@ abbrev pub IsNoChoice : List Row → Type 0
 IsNoChoice rows = (unseen_named (first_of (codes "revoke-unseen") rows) ≡ None)
     ⊎ ((consent_named (first_of (codes "consent") rows) ≡ None)
     ⊎ ((kinds_named (first_of (codes "redirects") rows) ≡ None)
-    ⊎ (refresh_seen_named (first_of (codes "refresh-seen") rows) ≡ None)))
+    ⊎ ((refresh_seen_named (first_of (codes "refresh-seen") rows) ≡ None)
+    ⊎ (rules_named (first_of (codes "challenge") rows) ≡ None))))
 
 -- the rows have these choices
 pub record HasChoices (rows : List Row) (c : Choices) : Type 0 where
@@ -88,3 +90,4 @@ pub record HasChoices (rows : List Row) (c : Choices) : Type 0 where
   pub redirects : kinds_named (first_of (codes "redirects") rows) ≡ Some c.redirects
   pub refresh_seen : refresh_seen_named (first_of (codes "refresh-seen") rows)
       ≡ Some c.refresh_seen
+  pub challenge : rules_named (first_of (codes "challenge") rows) ≡ Some c.challenge

@@ -1,6 +1,7 @@
 -- The definitions of this crate:
 --   CommandLine   tokend_app, the command line as clap's contracts see it
 --   Choices       HasChoices, what a service does if the profile leaves a choice
+--   Challenges    rules_named, what is required of challenges by the words of an option
 --   Kinds         kinds_named, the kinds of redirection URIs by the words of an option
 --   Task          Asks, the task that the arguments request
 --   Draw          six, the random words of a connection
@@ -25,6 +26,7 @@
 --   CheckRun      ChecksFacts, what checking whether sources can be loaded does
 --   ProgramRun    IsDone, IsFaultFor: what a run of the program does
 pub mod CommandLine
+pub mod Challenges
 pub mod Choices
 pub mod Kinds
 pub mod Task

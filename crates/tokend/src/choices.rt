@@ -1,5 +1,5 @@
-//! The options `--revoke-unseen`, `--consent`, `--redirects` and `--refresh-seen`: what a region
-//! does if the profile leaves a choice.
+//! The options `--revoke-unseen`, `--consent`, `--redirects`, `--refresh-seen` and `--challenge`:
+//! what a region does if the profile leaves a choice.
 
 ghost use Rattle.std.specs.Prelude.{◌≡◌, IfSome, IfNone, Some, codes, is_some};
 ghost use Rattle.clap.specs.Words.{first_of, found_of, rows_of, subcommand_rows_of};
@@ -9,6 +9,7 @@ ghost use Rattle.tokend.specs.Choices.{is_refresh_seen_misnamed, refresh_seen_na
 ghost use Rattle.tokend.specs.Task.{has_misnamed, misnames_word};
 
 use crate::ahead::is_ahead_misnamed;
+use crate::challenges::{are_rules_misnamed, read_rules};
 use crate::kinds::{are_kinds_misnamed, read_redirects};
 use clap::ArgMatches;
 use tk_message::{Choices, ConsentReuse, RefreshSeen, UnseenRevocation};
@@ -42,6 +43,9 @@ fn misnamed_in(matches: &ArgMatches<'_>) -> Option<&'static str>
     if is_refresh_seen_misnamed(matches) {
         return Some("--refresh-seen takes 'all' or 'client'");
     }
+    if are_rules_misnamed(matches) {
+        return Some("--challenge takes 'all' and 'S256', with a comma between");
+    }
     None
 }
 
@@ -73,11 +77,15 @@ pub(crate) fn read_choices(matches: &ArgMatches<'_>) -> Option<Choices>
     let Some(refresh_seen) = read_refresh_seen(matches) else {
         return None;
     };
+    let Some(challenge) = read_rules(matches) else {
+        return None;
+    };
     Some(Choices {
         unseen,
         consent,
         redirects,
         refresh_seen,
+        challenge,
     })
 }
 
