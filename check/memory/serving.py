@@ -56,10 +56,13 @@ req 1 0 POST /admin/retire - - client_id=c2-1
 """
 
 # requests that a region with these options decides otherwise than the profile; 9:1 is not known
-CHOICES = " --revoke-unseen none --consent held --redirects https,app"
+CHOICES = " --revoke-unseen none --consent held --redirects https,app --refresh-seen client" \
+          " --challenge all,S256"
 CHOSEN = """
 req 1 0 POST /revoke <c2-1:s3cret> - token=AQIACQAAAAAAAAABAAAAAAAAAAAAAAAAAAAAAAAAAAAAAAAA
 req 1 0 CONSENT ann
+req 1 0 POST /introspect <c2-2:s3cret> - token={refresh1}
+req 1 0 ASK ann -
 req 1 0 POST /admin/client - - kind=public&scope=read&redirects=https://c.example/+a.b:/
 req 1 0 POST /admin/client - - kind=public&scope=read&redirects=https://c.example/+http://c.example/
 """

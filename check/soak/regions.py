@@ -13,6 +13,7 @@ from lib.site import Site
 from lib.waiting import until
 
 START = "../starter/tokend-start"
+SEEN = " --refresh-seen all"  # the model is of refresh tokens too
 FORM = "Content-Type: application/x-www-form-urlencoded"
 NUMBERS, WITNESS = 30_000, 65_000  # region numbers of all first folders; the witness's
 PATIENCE = 120  # seconds of a start
@@ -114,7 +115,7 @@ class Region(Answering, Site):
         if margin:
             before.append("TOKEND_PRUNE_MARGIN=%d" % margin)
             self.prunes += 1
-        self.begin(options=lives, before=before, script=START)
+        self.begin(options=lives + SEEN, before=before, script=START)
 
     def await_up(self):
         """Waits until it replies: returns what it had before, and hasn't now, by number."""

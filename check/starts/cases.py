@@ -71,6 +71,32 @@ def option_uses_no_number(room):
     wanted(room.number() == 0, "a busy port used a number")
 
 
+def option_of(run, name):
+    """The values of an option among the arguments of a run."""
+    words = run.listening().arguments()
+    return [value for word, value in zip(words, words[1:]) if word == name]
+
+
+def choice_is_passed_unless_it_is_made(room):
+    run = room.start()
+    wanted(option_of(run, "--refresh-seen") == ["client"], "another choice", run.arguments())
+    run.stop()
+    run = room.start(TOKEND_OPTIONS="--refresh-seen all")
+    wanted(option_of(run, "--refresh-seen") == ["all"], "another choice", run.arguments())
+
+
+def challenge_is_required_by_a_setting(room):
+    for given, passed in (
+            ({}, []), ({"TOKEND_CHALLENGE": ""}, []),
+            ({"TOKEND_CHALLENGE": "all,S256"}, ["all,S256"]),
+            ({"TOKEND_CHALLENGE": "all", "TOKEND_OPTIONS": "--challenge S256"}, ["S256"])):
+        run = room.start(**given)
+        wanted(option_of(run, "--challenge") == passed, "another challenge", run.arguments())
+        run.stop()
+    status, number = room.start(TOKEND_CHALLENGE="plain").ended(), room.number()
+    wanted((status, number) == (6, 4), "a word that is none isn't status 6", (status, number))
+
+
 def setting_is_refused(room):
     """A setting that is no good has status 6, and so has no folder."""
     for words in (["site", "x", "1-9"], ["site", "7001", "9-1"], ["site", "7001", "0-9"],
@@ -329,7 +355,8 @@ def proxies_are_ignored(room):
 
 CASES = [
     later_start_has_all, cut_record_is_left_out, second_run_is_refused, option_uses_no_number,
-    setting_is_refused, folder_of_another_user_is_refused, start_by_hand_shows_nobody_its_seed,
+    choice_is_passed_unless_it_is_made, challenge_is_required_by_a_setting, setting_is_refused,
+    folder_of_another_user_is_refused, start_by_hand_shows_nobody_its_seed,
     program_that_fails_is_no_bad_log,
     log_of_a_site_without_memory_is_checked, whole_front_of_a_log_is_counted,
     history_that_is_bad_is_named, log_may_have_any_name, folders_have_spaces,

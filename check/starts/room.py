@@ -63,6 +63,11 @@ class Child(Process, Tokend):
             raise Broken("it still runs after %d s" % patience) from None
         return self.child.returncode
 
+    def arguments(self):
+        """Those of the program that runs."""
+        with open("/proc/%d/cmdline" % self.child.pid, encoding="utf-8") as file:
+            return file.read().split("\0")
+
     def add_client(self):
         """Has the server make a fact: the region number and the serial of it."""
         return read_dot(super().add_client())

@@ -16,7 +16,7 @@ ANY_PORT = "--port", "0"
 PAUSE = 0.2  # seconds between two questions whether it listens
 # what is passed unless TOKEND_OPTIONS has the option
 CHOICES = (("ahead", "refused"), ("revoke-unseen", "authenticated"), ("consent", "held"),
-           ("redirects", "https,loopback,app"), ("keep", "60"))
+           ("redirects", "https,loopback,app"), ("refresh-seen", "client"), ("keep", "60"))
 
 
 @contextlib.contextmanager
@@ -39,7 +39,8 @@ def said_of(name, options):
 
 def words(settings, number, places, load, log, secret, prune):
     pruned = [] if prune is None else ["--prune", str(prune)]
-    chosen = [word for name, value in CHOICES if not said_of(name, settings.options)
+    choices = CHOICES + (("challenge", settings.challenge),) * bool(settings.challenge)
+    chosen = [word for name, value in choices if not said_of(name, settings.options)
               for word in ("--" + name, value)]
     return [settings.tokend, "serve", "--region", str(number), *places,
             "--seed", "/dev/fd/%d" % secret, "--load", load, "--log", log, "--log-taken",

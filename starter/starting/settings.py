@@ -35,6 +35,7 @@ class Settings(typing.NamedTuple):
     numbers: range
     tokend: str
     options: list
+    challenge: str
     peers: list
     seconds: int
     margin: typing.Optional[int]
@@ -132,6 +133,6 @@ def read(environ, arguments):
     return Settings(
         os.path.abspath(folder), places_of(environ), range(first, last + 1),
         command(environ.get("TOKEND") or "tokend"), environ.get("TOKEND_OPTIONS", "").split(),
-        peers_of(environ),
+        environ.get("TOKEND_CHALLENGE", ""), peers_of(environ),
         number(seconds, 0, 86_400, "TOKEND_PEER_SECONDS"), margin_of(environ),
         number(environ.get("TOKEND_AHEAD_SECONDS") or "0", 0, 86_400, "TOKEND_AHEAD_SECONDS"))

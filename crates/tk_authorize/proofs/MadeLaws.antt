@@ -28,7 +28,7 @@ decides_alone place now words sent (judged.Denied target why) = tt
 decides_alone place now words sent (judged.Approved target approval) = refl
 
 pub authorizes_alone : (F : FactSet) (place : Place) (now : ℕ) (words : List ℕ) (request : RequestFields) → IfSome (authorization_of F place now words request).made (λ b. uses_of b ≡ None)
-authorizes_alone F place now words request = decides_alone place now words (kept_state (value_of (codes "state") request.params)) (judged_of F request.params request.subject)
+authorizes_alone F place now words request = decides_alone place now words (kept_state (value_of (codes "state") request.params)) (judged_of F place.choices.challenge request.params request.subject)
 
 carried_out_alone : (place : Place) (a : Administered) → MakesAlone (administered_by place a)
 carried_out_alone place (administered.Refused why) = tt

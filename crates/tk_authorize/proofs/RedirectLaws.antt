@@ -18,6 +18,7 @@ use Rattle.tk_message.specs.declared.decision.Decision.{Decision}
 use Rattle.tk_message.specs.declared.place.Place.{Place}
 use Rattle.tk_message.specs.Reply.{redirect_reply, with_state}
 use Rattle.tk_message.specs.RequestFields.{RequestFields}
+use Rattle.tk_message.specs.declared.choices.ChallengeRules.{ChallengeRules}
 use Rattle.tk_authorize.specs.declared.approval.Approval.{Approval}
 use Rattle.tk_authorize.specs.declared.denial.Denial.{Denial}
 use Rattle.tk_authorize.specs.declared.judged.Judged.{Judged}
@@ -54,10 +55,10 @@ at_target : (F : FactSet) (params : Pairs) (target : Target) (approval : Result 
 at_target F params target (Ok approval) known = known
 at_target F params target (Err why) known = known
 
-by_redirect : (F : FactSet) (params : Pairs) (subject : Option (List ℕ)) (client : Dot) (view : ClientFields) → option_and_then client_in (value_of (codes "client_id") params) ≡ Some client → client_view F client ≡ Some view → view.live ≡ true → (p : Picked) → picked view.redirects (value_of (codes "redirect_uri") params) ≡ p → LeadsTo F params (judged_by_redirect F params subject client view p)
-by_redirect F params subject client view named added live Missing is = tt
-by_redirect F params subject client view named added live Unknown is = tt
-by_redirect F params subject client view named added live (Uri uri) is =
+by_redirect : (F : FactSet) (rules : ChallengeRules) (params : Pairs) (subject : Option (List ℕ)) (client : Dot) (view : ClientFields) → option_and_then client_in (value_of (codes "client_id") params) ≡ Some client → client_view F client ≡ Some view → view.live ≡ true → (p : Picked) → picked view.redirects (value_of (codes "redirect_uri") params) ≡ p → LeadsTo F params (judged_by_redirect F rules params subject client view p)
+by_redirect F rules params subject client view named added live Missing is = tt
+by_redirect F rules params subject client view named added live Unknown is = tt
+by_redirect F rules params subject client view named added live (Uri uri) is =
     at_target F params (target_of client uri params) _ (record {
       client = client;
       view = view;
@@ -67,25 +68,25 @@ by_redirect F params subject client view named added live (Uri uri) is =
       registered = picked_listed view.redirects _ uri is;
     })
 
-by_live : (F : FactSet) (params : Pairs) (subject : Option (List ℕ)) (client : Dot) (view : ClientFields) → option_and_then client_in (value_of (codes "client_id") params) ≡ Some client → client_view F client ≡ Some view → (b : Bool) → view.live ≡ b → LeadsTo F params (if b then judged_by_redirect F params subject client view (picked view.redirects (value_of (codes "redirect_uri") params)) else Refused refusal.RetiredClient)
-by_live F params subject client view named added true live = by_redirect F params subject client view named added live _ refl
-by_live F params subject client view named added false live = tt
+by_live : (F : FactSet) (rules : ChallengeRules) (params : Pairs) (subject : Option (List ℕ)) (client : Dot) (view : ClientFields) → option_and_then client_in (value_of (codes "client_id") params) ≡ Some client → client_view F client ≡ Some view → (b : Bool) → view.live ≡ b → LeadsTo F params (if b then judged_by_redirect F rules params subject client view (picked view.redirects (value_of (codes "redirect_uri") params)) else Refused refusal.RetiredClient)
+by_live F rules params subject client view named added true live = by_redirect F rules params subject client view named added live _ refl
+by_live F rules params subject client view named added false live = tt
 
-by_view : (F : FactSet) (params : Pairs) (subject : Option (List ℕ)) (client : Dot) → option_and_then client_in (value_of (codes "client_id") params) ≡ Some client → (v : Option ClientFields) → client_view F client ≡ v → LeadsTo F params (judged_by_view F params subject client v)
-by_view F params subject client named None added = tt
-by_view F params subject client named (Some view) added = by_live F params subject client view named added view.live refl
+by_view : (F : FactSet) (rules : ChallengeRules) (params : Pairs) (subject : Option (List ℕ)) (client : Dot) → option_and_then client_in (value_of (codes "client_id") params) ≡ Some client → (v : Option ClientFields) → client_view F client ≡ v → LeadsTo F params (judged_by_view F rules params subject client v)
+by_view F rules params subject client named None added = tt
+by_view F rules params subject client named (Some view) added = by_live F rules params subject client view named added view.live refl
 
-by_client : (F : FactSet) (params : Pairs) (subject : Option (List ℕ)) (d : Option Dot) → option_and_then client_in (value_of (codes "client_id") params) ≡ d → LeadsTo F params (judged_by_client F params subject d)
-by_client F params subject None named = tt
-by_client F params subject (Some client) named = by_view F params subject client named (client_view F client) refl
+by_client : (F : FactSet) (rules : ChallengeRules) (params : Pairs) (subject : Option (List ℕ)) (d : Option Dot) → option_and_then client_in (value_of (codes "client_id") params) ≡ d → LeadsTo F params (judged_by_client F rules params subject d)
+by_client F rules params subject None named = tt
+by_client F rules params subject (Some client) named = by_view F rules params subject client named (client_view F client) refl
 
-by_id : (F : FactSet) (params : Pairs) (subject : Option (List ℕ)) (id : Option (List ℕ)) → value_of (codes "client_id") params ≡ id → LeadsTo F params (judged_by_id F params subject id)
-by_id F params subject None is = tt
-by_id F params subject (Some id) is = by_client F params subject (client_in id) (ap (option_and_then client_in) is)
+by_id : (F : FactSet) (rules : ChallengeRules) (params : Pairs) (subject : Option (List ℕ)) (id : Option (List ℕ)) → value_of (codes "client_id") params ≡ id → LeadsTo F params (judged_by_id F rules params subject id)
+by_id F rules params subject None is = tt
+by_id F rules params subject (Some id) is = by_client F rules params subject (client_in id) (ap (option_and_then client_in) is)
 
-by_duplicate : (F : FactSet) (params : Pairs) (subject : Option (List ℕ)) (b : Bool) → LeadsTo F params (if b then Refused refusal.DuplicateClientOrRedirect else judged_by_id F params subject (value_of (codes "client_id") params))
-by_duplicate F params subject true = tt
-by_duplicate F params subject false = by_id F params subject _ refl
+by_duplicate : (F : FactSet) (rules : ChallengeRules) (params : Pairs) (subject : Option (List ℕ)) (b : Bool) → LeadsTo F params (if b then Refused refusal.DuplicateClientOrRedirect else judged_by_id F rules params subject (value_of (codes "client_id") params))
+by_duplicate F rules params subject true = tt
+by_duplicate F rules params subject false = by_id F rules params subject _ refl
 
 -- a redirect leads to the registered URI that it is made of
 redirect_leads : (F : FactSet) (params : Pairs) (uri name value : List ℕ) (state : Option (List ℕ)) → IsRegistered F params uri → LeadsToClient F params (redirect_reply uri name value state)
@@ -100,7 +101,7 @@ decided_leads F params place now words state (Approved target approval) known = 
 -- the reply to an authorisation request leads to a registered URI or to no URI
 leads : (F : FactSet) (place : Place) (now : ℕ) (words : List ℕ) (request : RequestFields) → LeadsToClient F request.params (authorization_of F place now words request).reply
 leads F place now words request =
-    decided_leads F request.params place now words _ (judged_of F request.params request.subject) (by_duplicate F request.params request.subject (has_twice target_names request.params))
+    decided_leads F request.params place now words _ (judged_of F place.choices.challenge request.params request.subject) (by_duplicate F place.choices.challenge request.params request.subject (has_twice target_names request.params))
 
 pub decision_leads : (F : FactSet) (place : Place) (now : ℕ) (words : List ℕ) (request : RequestFields) (r : Result Decision AllocError) → IfOk r (λ d. d ≡ authorization_of F place now words request) → IfOk r (λ d. LeadsToClient F request.params d.reply)
 decision_leads F place now words request (Ok d) is = subst (λ (x : Decision). LeadsToClient F request.params x.reply) (sym is) (leads F place now words request)

@@ -22,6 +22,7 @@ use Rattle.tk_message.specs.declared.choices.ConsentReuse.TheVariants.{New, Held
 use Rattle.tk_message.specs.declared.place.Place.{Place}
 use Rattle.tk_message.specs.declared.request.Endpoint.{Endpoint}
 use Rattle.tk_message.specs.declared.request.Endpoint.TheVariants as endpoint
+use Rattle.tk_message.specs.declared.choices.ChallengeRules.{ChallengeRules}
 use Rattle.tk_authorize.specs.Administered.{shown_at, shown_by, shown_of, retired_at, retired_by, retired_of, client_named, consented_at, consented_to, consented_by, consented_of, consent_names, withdrawn_at, withdrawn_to, withdrawn_by, withdrawn_of, withdrawal_names, signed_out_at, signed_out_as, signed_out_by, signed_out_of, sign_out_names, administered_at, administered_of}
 use Rattle.tk_authorize.specs.Administration.{administered_by, administration_of}
 use Rattle.tk_authorize.specs.Chosen.{chosen, consented_again, held_or_given}
@@ -50,23 +51,23 @@ module _ (F G : FactSet) (views : (d : Dot) → client_view F d ≡ client_view 
   approval_same client (Some subject) (Ok asked) =
       ap (λ (o : Option Dot). cond (is_subject subject) (approval_by_consent subject asked o) (Err denial.MalformedSubject)) (grants client subject asked.scope)
 
-  redirect_same : (params : Pairs) (subject : Option (List ℕ)) (client : Dot) (view : ClientFields) (x : Picked) → judged_by_redirect F params subject client view x ≡ judged_by_redirect G params subject client view x
-  redirect_same params subject client view Missing = refl
-  redirect_same params subject client view Unknown = refl
-  redirect_same params subject client view (Uri uri) = ap (judged_at (target_of client uri params)) (approval_same client subject (asked_of view.client_kind view.scope params))
+  redirect_same : (rules : ChallengeRules) (params : Pairs) (subject : Option (List ℕ)) (client : Dot) (view : ClientFields) (x : Picked) → judged_by_redirect F rules params subject client view x ≡ judged_by_redirect G rules params subject client view x
+  redirect_same rules params subject client view Missing = refl
+  redirect_same rules params subject client view Unknown = refl
+  redirect_same rules params subject client view (Uri uri) = ap (judged_at (target_of client uri params)) (approval_same client subject (asked_of rules view.client_kind view.scope params))
 
-  view_same : (params : Pairs) (subject : Option (List ℕ)) (client : Dot) (o : Option ClientFields) → judged_by_view F params subject client o ≡ judged_by_view G params subject client o
-  view_same params subject client None = refl
-  view_same params subject client (Some view) =
-      ap (λ (x : Judged). cond view.live x (Refused refusal.RetiredClient)) (redirect_same params subject client view (picked view.redirects (value_of (codes "redirect_uri") params)))
+  view_same : (rules : ChallengeRules) (params : Pairs) (subject : Option (List ℕ)) (client : Dot) (o : Option ClientFields) → judged_by_view F rules params subject client o ≡ judged_by_view G rules params subject client o
+  view_same rules params subject client None = refl
+  view_same rules params subject client (Some view) =
+      ap (λ (x : Judged). cond view.live x (Refused refusal.RetiredClient)) (redirect_same rules params subject client view (picked view.redirects (value_of (codes "redirect_uri") params)))
 
-  client_same : (params : Pairs) (subject : Option (List ℕ)) (o : Option Dot) → judged_by_client F params subject o ≡ judged_by_client G params subject o
-  client_same params subject None = refl
-  client_same params subject (Some client) = ap (judged_by_view F params subject client) (views client) ∙ view_same params subject client (client_view G client)
+  client_same : (rules : ChallengeRules) (params : Pairs) (subject : Option (List ℕ)) (o : Option Dot) → judged_by_client F rules params subject o ≡ judged_by_client G rules params subject o
+  client_same rules params subject None = refl
+  client_same rules params subject (Some client) = ap (judged_by_view F rules params subject client) (views client) ∙ view_same rules params subject client (client_view G client)
 
-  id_same : (params : Pairs) (subject : Option (List ℕ)) (o : Option (List ℕ)) → judged_by_id F params subject o ≡ judged_by_id G params subject o
-  id_same params subject None = refl
-  id_same params subject (Some id) = client_same params subject (client_in id)
+  id_same : (rules : ChallengeRules) (params : Pairs) (subject : Option (List ℕ)) (o : Option (List ℕ)) → judged_by_id F rules params subject o ≡ judged_by_id G rules params subject o
+  id_same rules params subject None = refl
+  id_same rules params subject (Some id) = client_same rules params subject (client_in id)
 
 pub authorizations_same : (F G : FactSet) (place : Place) (now : ℕ) (words : List ℕ) (request : RequestFields)
     → ((d : Dot) → client_view F d ≡ client_view G d)
@@ -74,7 +75,7 @@ pub authorizations_same : (F G : FactSet) (place : Place) (now : ℕ) (words : L
     → authorization_of F place now words request ≡ authorization_of G place now words request
 authorizations_same F G place now words request views grants =
     ap (λ (x : Judged). decided_by place now words (kept_state (value_of (codes "state") request.params)) (cond (has_twice target_names request.params) (Refused refusal.DuplicateClientOrRedirect) x))
-    (id_same F G views grants request.params request.subject (value_of (codes "client_id") request.params))
+    (id_same F G views grants place.choices.challenge request.params request.subject (value_of (codes "client_id") request.params))
 
 -- ---- administration requests
 

@@ -27,6 +27,7 @@ use Rattle.tk_match.specs.Challenge.{ChallengeFields}
 use Rattle.tk_fact.specs.declared.client_kind.ClientKind.{ClientKind}
 use Rattle.tk_params.specs.Params.{Pairs, value_of, has_twice}
 use Rattle.tk_message.specs.ScopeAsked.{scope_asked}
+use Rattle.tk_message.specs.declared.choices.ChallengeRules.{ChallengeRules}
 use Rattle.tk_authorize.specs.declared.asked.Asked.{Asked}
 use Rattle.tk_authorize.specs.declared.denial.Denial.{Denial}
 use Rattle.tk_authorize.specs.declared.denial.Denial.TheVariants as denial
@@ -38,19 +39,23 @@ asked_with scope (Err why) = Err why
 asked_with scope (Ok challenge) = Ok (record { scope = scope; challenge = challenge })
 
 -- what the parameters ask for, by the scope, which must be within the client's (RFC 6749, 3.3)
-abbrev pub asked_by_scope : ClientKind → Pairs → Option (List ℕ) → Result Asked Denial
-asked_by_scope client_kind params None = Err denial.WrongScope
-asked_by_scope client_kind params (Some scope) =
-    asked_with scope (challenge_sent client_kind (value_of (codes "code_challenge_method") params)
+abbrev pub asked_by_scope : ChallengeRules → ClientKind → Pairs → Option (List ℕ)
+    → Result Asked Denial
+asked_by_scope rules client_kind params None = Err denial.WrongScope
+asked_by_scope rules client_kind params (Some scope) =
+    asked_with scope
+    (challenge_sent rules client_kind (value_of (codes "code_challenge_method") params)
     (value_of (codes "code_challenge") params))
 
 -- what the parameters ask for, by the response type, which must be `code` (RFC 6749, 3.1.1). A
 -- request without a scope asks for the client's whole scope (RFC 6749, 3.3)
-abbrev pub asked_by_type : ClientKind → List ℕ → Pairs → Option (List ℕ) → Result Asked Denial
-asked_by_type client_kind whole params None = Err denial.MissingResponseType
-asked_by_type client_kind whole params (Some name) =
+abbrev pub asked_by_type : ChallengeRules → ClientKind → List ℕ → Pairs → Option (List ℕ)
+    → Result Asked Denial
+asked_by_type rules client_kind whole params None = Err denial.MissingResponseType
+asked_by_type rules client_kind whole params (Some name) =
     if bytes_eq name (codes "code")
-    then asked_by_scope client_kind params (scope_asked whole (value_of (codes "scope") params))
+    then asked_by_scope rules client_kind params
+    (scope_asked whole (value_of (codes "scope") params))
     else Err denial.UnsupportedResponseType
 
 -- a byte in %x20-7E (RFC 6749, appendix A.5)
@@ -71,8 +76,8 @@ other_names =
 
 -- what the parameters ask for. None of them may occur twice (RFC 6749, 3.1), and the state must be
 -- one that may be sent back
-abbrev pub asked_of : ClientKind → List ℕ → Pairs → Result Asked Denial
-asked_of client_kind whole params =
+abbrev pub asked_of : ChallengeRules → ClientKind → List ℕ → Pairs → Result Asked Denial
+asked_of rules client_kind whole params =
     if has_twice other_names params then Err denial.DuplicateParameter
     else if not (is_state (value_of (codes "state") params)) then Err denial.MalformedState
-    else asked_by_type client_kind whole params (value_of (codes "response_type") params)
+    else asked_by_type rules client_kind whole params (value_of (codes "response_type") params)

@@ -91,4 +91,4 @@ decided_by place now words state (Approved target approval) = record {
 abbrev pub authorization_of : FactSet → Place → ℕ → List ℕ → RequestFields → Decision
 authorization_of F place now words request =
     decided_by place now words (kept_state (value_of (codes "state") request.params))
-    (judged_of F request.params request.subject)
+    (judged_of F place.choices.challenge request.params request.subject)

@@ -23,6 +23,7 @@ use Rattle.tk_store.specs.FactSet.{FactSet}
 use Rattle.tk_ledger.specs.Views.{client_view}
 use Rattle.tk_ledger.specs.ViewFields.{ClientFields}
 use Rattle.tk_params.specs.Params.{Pairs, value_of, has_twice}
+use Rattle.tk_message.specs.declared.choices.ChallengeRules.{ChallengeRules}
 use Rattle.tk_authorize.specs.declared.approval.Approval.{Approval}
 use Rattle.tk_authorize.specs.declared.denial.Denial.{Denial}
 use Rattle.tk_authorize.specs.declared.judged.Judged.{Judged}
@@ -45,32 +46,36 @@ target_of client uri params =
 
 -- the judgement by the redirection URI. There must be one, and it must be registered (RFC 6749,
 -- 3.1.2.3)
-abbrev pub judged_by_redirect : FactSet → Pairs → Option (List ℕ) → Dot → ClientFields → Picked
-    → Judged
-judged_by_redirect F params subject client view Missing = Refused refusal.MissingRedirect
-judged_by_redirect F params subject client view Unknown = Refused refusal.UnknownRedirect
-judged_by_redirect F params subject client view (Uri uri) =
+abbrev pub judged_by_redirect : FactSet → ChallengeRules → Pairs → Option (List ℕ) → Dot
+    → ClientFields → Picked → Judged
+judged_by_redirect F rules params subject client view Missing = Refused refusal.MissingRedirect
+judged_by_redirect F rules params subject client view Unknown = Refused refusal.UnknownRedirect
+judged_by_redirect F rules params subject client view (Uri uri) =
     judged_at (target_of client uri params)
-    (approval_of F client subject (asked_of view.client_kind view.scope params))
+    (approval_of F client subject (asked_of rules view.client_kind view.scope params))
 
 -- the judgement by the client, which must be added (RFC 6749, 4.1.2.1) and not retired (own)
-abbrev pub judged_by_view : FactSet → Pairs → Option (List ℕ) → Dot → Option ClientFields → Judged
-judged_by_view F params subject client None = Refused refusal.UnknownClient
-judged_by_view F params subject client (Some view) =
-    if view.live then judged_by_redirect F params subject client view
+abbrev pub judged_by_view : FactSet → ChallengeRules → Pairs → Option (List ℕ) → Dot
+    → Option ClientFields → Judged
+judged_by_view F rules params subject client None = Refused refusal.UnknownClient
+judged_by_view F rules params subject client (Some view) =
+    if view.live then judged_by_redirect F rules params subject client view
     (picked view.redirects (value_of (codes "redirect_uri") params))
     else Refused refusal.RetiredClient
 
 -- the judgement by the client id, which must be one (RFC 6749, 4.1.2.1)
-abbrev pub judged_by_client : FactSet → Pairs → Option (List ℕ) → Option Dot → Judged
-judged_by_client F params subject None = Refused refusal.UnknownClient
-judged_by_client F params subject (Some client) =
-    judged_by_view F params subject client (client_view F client)
+abbrev pub judged_by_client : FactSet → ChallengeRules → Pairs → Option (List ℕ) → Option Dot
+    → Judged
+judged_by_client F rules params subject None = Refused refusal.UnknownClient
+judged_by_client F rules params subject (Some client) =
+    judged_by_view F rules params subject client (client_view F client)
 
 -- the judgement by the client id, which is required (RFC 6749, 4.1.1)
-abbrev pub judged_by_id : FactSet → Pairs → Option (List ℕ) → Option (List ℕ) → Judged
-judged_by_id F params subject None = Refused refusal.MissingClient
-judged_by_id F params subject (Some id) = judged_by_client F params subject (client_in id)
+abbrev pub judged_by_id : FactSet → ChallengeRules → Pairs → Option (List ℕ) → Option (List ℕ)
+    → Judged
+judged_by_id F rules params subject None = Refused refusal.MissingClient
+judged_by_id F rules params subject (Some id) =
+    judged_by_client F rules params subject (client_in id)
 
 -- the names of the parameters that decide where the reply goes
 abbrev pub target_names : List (List ℕ)
@@ -78,7 +83,7 @@ target_names = codes "client_id" ∷ codes "redirect_uri" ∷ []
 
 -- the judgement of a request. The client id and the redirection URI must not occur twice (RFC 6749,
 -- 3.1)
-abbrev pub judged_of : FactSet → Pairs → Option (List ℕ) → Judged
-judged_of F params subject =
+abbrev pub judged_of : FactSet → ChallengeRules → Pairs → Option (List ℕ) → Judged
+judged_of F rules params subject =
     if has_twice target_names params then Refused refusal.DuplicateClientOrRedirect
-    else judged_by_id F params subject (value_of (codes "client_id") params)
+    else judged_by_id F rules params subject (value_of (codes "client_id") params)

@@ -11,7 +11,7 @@ use crate::denial::Denial;
 use std::alloc::{AllocError, Global};
 use tk_fact::ClientKind;
 use tk_match::Challenge;
-use tk_message::{Params, scope_asked};
+use tk_message::{ChallengeRules, Params, scope_asked};
 use tk_scope::Scope;
 
 // The scope and challenge that a code is asked for.
@@ -22,14 +22,16 @@ pub(crate) struct Asked {
 }
 
 // Returns what the parameters ask for, or the first denial that holds. `whole` is the client's
-// scope.
+// scope, `rules` are those of challenges.
 pub(crate) fn find_asked(
     alloc: Global,
+    rules: ChallengeRules,
     client_kind: &ClientKind,
     whole: &Scope,
     params: &Params,
 ) -> Result<Result<Asked, Denial>, AllocError>
-    ensures { IfOk result (λ asked. asked ≡ spec.asked_of client_kind.now whole.now params.now) }
+    ensures { IfOk result (λ asked. asked ≡ spec.asked_of rules client_kind.now whole.now
+        params.now) }
 {
     if has_duplicate(params) {
         return Ok(Err(Denial::DuplicateParameter));
@@ -39,6 +41,7 @@ pub(crate) fn find_asked(
     }
     ask_by_type(
         alloc,
+        rules,
         client_kind,
         whole,
         params,
@@ -80,20 +83,21 @@ fn is_all_printable(bytes: &[u8]) -> bool
 // Returns what the parameters ask for, by the response type.
 fn ask_by_type(
     alloc: Global,
+    rules: ChallengeRules,
     client_kind: &ClientKind,
     whole: &Scope,
     params: &Params,
     response_type: Option<&str>,
 ) -> Result<Result<Asked, Denial>, AllocError>
-    ensures { IfOk result (λ asked. asked ≡ spec.asked_by_type client_kind.now whole.now params.now
-        (option_copied response_type.entry)) }
+    ensures { IfOk result (λ asked. asked ≡ spec.asked_by_type rules client_kind.now whole.now
+        params.now (option_copied response_type.entry)) }
 {
     let Some(response_type) = response_type else {
         return Ok(Err(Denial::MissingResponseType));
     };
     if response_type == "code" {
         let scope = scope_asked(alloc, whole, params.value("scope"))?;
-        return ask_by_scope(alloc, client_kind, params, scope);
+        return ask_by_scope(alloc, rules, client_kind, params, scope);
     }
     Ok(Err(Denial::UnsupportedResponseType))
 }
@@ -101,17 +105,20 @@ fn ask_by_type(
 // Returns what the parameters ask for, by their scope.
 fn ask_by_scope(
     alloc: Global,
+    rules: ChallengeRules,
     client_kind: &ClientKind,
     params: &Params,
     scope: Option<Scope>,
 ) -> Result<Result<Asked, Denial>, AllocError>
-    ensures { IfOk result (λ asked. asked ≡ spec.asked_by_scope client_kind.now params.now scope) }
+    ensures { IfOk result (λ asked. asked ≡ spec.asked_by_scope rules client_kind.now params.now
+        scope) }
 {
     let Some(scope) = scope else {
         return Ok(Err(Denial::WrongScope));
     };
     let method = params.value("code_challenge_method");
-    let challenge = find_challenge(alloc, client_kind, method, params.value("code_challenge"))?;
+    let text = params.value("code_challenge");
+    let challenge = find_challenge(alloc, rules, client_kind, method, text)?;
     Ok(asked_with(scope, challenge))
 }
 

@@ -23,8 +23,9 @@ use tk_message::{Decision, Place, Reply, Request, handle_string, redirect_reply}
 /// 4.4). Returns the reply, and the fact that a code was issued, if one is.
 ///
 /// The handle of the code is made of the first three random words. If the client or the redirection
-/// URI is bad, the reply is an error in place. Any other error goes to the redirection URI. Returns
-/// an error if memory runs out.
+/// URI is bad, the reply is an error in place. Any other error goes to the redirection URI. Which
+/// clients must send a challenge, and by which method, is the place's choice. Returns an error if
+/// memory runs out.
 pub fn decide_authorize(
     alloc: Global,
     ledger: &Ledger,
@@ -42,7 +43,8 @@ pub fn decide_authorize(
     ensures leads { IfOk result (λ d.
         LeadsToClient (held_facts ledger.now) request.now.params d.reply) }
 {
-    let judged = judge(alloc, ledger, &request.params, request.subject())?;
+    let rules = place.choices.challenge;
+    let judged = judge(alloc, ledger, rules, &request.params, request.subject())?;
     let state = kept_state(request.params.value("state"));
     decide_by(alloc, place, now, words, state, judged)
 }

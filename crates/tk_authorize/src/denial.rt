@@ -21,9 +21,10 @@ pub(crate) enum Denial {
     WrongScope,
     /// There is a `code_challenge_method` without a `code_challenge` (RFC 7636, 4.3).
     ChallengeMethodAlone,
-    /// A public client sent no `code_challenge` (RFC 7636, 4.4.1).
+    /// A client that must send a `code_challenge` sent none (RFC 7636, 4.4.1; RFC 9700, 2.1.1).
     MissingChallenge,
-    /// The challenge's method is not `plain` or `S256` (RFC 7636, 4.4.1).
+    /// The challenge's method is not `plain` or `S256`, or is `plain` and the region takes `S256`
+    /// alone (RFC 7636, 4.4.1; RFC 9700, 2.1.1).
     UnsupportedChallengeMethod,
     /// The challenge is not 43 to 128 unreserved bytes (RFC 7636, 4.2).
     MalformedChallenge,

@@ -17,7 +17,7 @@ use std::alloc::{AllocError, Global};
 use tk_handle::{Dot, read_client};
 use tk_ledger::Ledger;
 use tk_match::{Pick, RedirectError, Uri};
-use tk_message::Params;
+use tk_message::{ChallengeRules, Params};
 
 // The URI that the reply goes to, and the client that a code is issued to.
 #[derive(Drop)]
@@ -40,16 +40,24 @@ pub(crate) enum Judged {
 pub(crate) fn judge(
     alloc: Global,
     ledger: &Ledger,
+    rules: ChallengeRules,
     params: &Params,
     subject: Option<&[u8]>,
 ) -> Result<Judged, AllocError>
-    ensures { IfOk result (λ judged. judged ≡ spec.judged_of (held_facts ledger.now) params.now
-        (option_copied subject.entry)) }
+    ensures { IfOk result (λ judged. judged ≡ spec.judged_of (held_facts ledger.now) rules
+        params.now (option_copied subject.entry)) }
 {
     if has_duplicate(params) {
         return Ok(Judged::Refused(Refusal::DuplicateClientOrRedirect));
     }
-    judge_by_id(alloc, ledger, params, subject, params.value("client_id"))
+    judge_by_id(
+        alloc,
+        ledger,
+        rules,
+        params,
+        subject,
+        params.value("client_id"),
+    )
 }
 
 // Returns whether the client id or the redirection URI occurs twice.
@@ -64,18 +72,19 @@ fn has_duplicate(params: &Params) -> bool
 fn judge_by_id(
     alloc: Global,
     ledger: &Ledger,
+    rules: ChallengeRules,
     params: &Params,
     subject: Option<&[u8]>,
     id: Option<&str>,
 ) -> Result<Judged, AllocError>
-    ensures { IfOk result (λ judged. judged ≡ spec.judged_by_id (held_facts ledger.now) params.now
-        (option_copied subject.entry) (option_copied id.entry)) }
+    ensures { IfOk result (λ judged. judged ≡ spec.judged_by_id (held_facts ledger.now) rules
+        params.now (option_copied subject.entry) (option_copied id.entry)) }
 {
     let Some(id) = id else {
         return Ok(Judged::Refused(Refusal::MissingClient));
     };
     match read_client(id.as_bytes()) {
-        Some(client) => judge_client(alloc, ledger, params, subject, client),
+        Some(client) => judge_client(alloc, ledger, rules, params, subject, client),
         None => Ok(Judged::Refused(Refusal::UnknownClient)),
     }
 }
@@ -84,11 +93,12 @@ fn judge_by_id(
 fn judge_client(
     alloc: Global,
     ledger: &Ledger,
+    rules: ChallengeRules,
     params: &Params,
     subject: Option<&[u8]>,
     client: Dot,
 ) -> Result<Judged, AllocError>
-    ensures { IfOk result (λ judged. judged ≡ spec.judged_by_client (held_facts ledger.now)
+    ensures { IfOk result (λ judged. judged ≡ spec.judged_by_client (held_facts ledger.now) rules
         params.now (option_copied subject.entry) (Some client)) }
 {
     let Some(view) = ledger.client(client) else {
@@ -100,7 +110,7 @@ fn judge_client(
     let named = bytes_of(params.value("redirect_uri"));
     match view.redirects.pick(named) {
         Pick::Uri(uri) => {
-            let asked = find_asked(alloc, view.client_kind, view.scope, params)?;
+            let asked = find_asked(alloc, rules, view.client_kind, view.scope, params)?;
             let approval = approve(alloc, ledger, client, subject, asked)?;
             let target = find_target(alloc, client, uri, named.is_some())?;
             Ok(judged_at(target, approval))

@@ -5,7 +5,7 @@ ghost use Rattle.std.specs.Option.{option_map};
 ghost use Rattle.tk_edge.specs.Again.{repeat_at};
 
 use crate::edge::Edge;
-use crate::render::render;
+use crate::render::reply_bytes;
 use std::alloc::{AllocError, Global};
 use tk_handle::{Dot, Moment};
 
@@ -30,7 +30,7 @@ impl Edge {
         }
         match self.region().repeat(alloc, now, dot, words)? {
             Some(reply) => {
-                let bytes = render(alloc, &reply, None)?;
+                let bytes = reply_bytes(alloc, &reply)?;
                 Ok(Some(bytes))
             }
             None => Ok(None),

@@ -16,7 +16,7 @@
 //! - [`hear_front`]: what the [`Front`] of the bytes that have come means: an arrival, or more is
 //!   needed.
 //! - `ahead` reads a pushed bundle, and may refuse one whose horizon is later than the moment.
-//! - `answer` makes the reply to an arrival, and [`reply_bytes`] its bytes.
+//! - `answer` makes the reply to an arrival, and `render` its bytes.
 //! - `again` gives the reply to a refresh that is repeated.
 //! - `tell` writes the record of a fact and only then the reply, or returns a [`Fault`].
 //! - `push` takes a pushed bundle in and logs it before the reply, if bundles are logged.
@@ -68,5 +68,4 @@ pub use path::Path;
 pub use put::{Discard, put_whole};
 pub use reach::Reach;
 pub use refusal::Refusal;
-pub use render::reply_bytes;
 pub use tell::Fault;

@@ -10,13 +10,9 @@ use std::alloc::{AllocError, Global};
 use tk_message::{Asks, Payload, Reply, StatusCode};
 use tk_put::{field_line, joined};
 
-/// Returns the bytes of a whole reply: head and body (RFC 9112, 4). The head has
-/// `Connection: close`, and no `Allow`: only a refused method has that.
-///
-/// # Errors
-///
-/// `AllocError` if memory runs out.
-pub fn reply_bytes(alloc: Global, reply: &Reply) -> Result<Vec<u8>, AllocError>
+// Returns the bytes of a whole reply: head and body (RFC 9112, 4). The head has
+// `Connection: close`, and no `Allow`: only a refused method has that.
+pub(crate) fn reply_bytes(alloc: Global, reply: &Reply) -> Result<Vec<u8>, AllocError>
     ensures { IfOk result (λ bytes. bytes.items ≡ spec.reply_bytes reply.now None) }
 {
     render(alloc, reply, None)

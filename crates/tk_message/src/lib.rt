@@ -34,7 +34,7 @@ mod told;
 
 pub use authentication::{Auth, authenticate};
 pub use caller::{Caller, find_caller};
-pub use choices::{Choices, ConsentReuse, UnseenRevocation};
+pub use choices::{ChallengeRules, Choices, ConsentReuse, RefreshSeen, UnseenRevocation};
 pub use decision::Decision;
 pub use error_code::ErrorCode;
 pub use place::{Lives, Place};

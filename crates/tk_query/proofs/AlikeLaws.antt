@@ -34,6 +34,7 @@ use Rattle.tk_message.specs.Reply.{empty_reply}
 use Rattle.tk_message.specs.RequestFields.{RequestFields}
 use Rattle.tk_message.specs.declared.caller.Caller.{Caller}
 use Rattle.tk_message.specs.declared.caller.Caller.TheVariants as caller
+use Rattle.tk_message.specs.declared.choices.RefreshSeen.{RefreshSeen}
 use Rattle.tk_message.specs.declared.choices.UnseenRevocation.{UnseenRevocation}
 use Rattle.tk_message.specs.declared.decision.Decision.{Decision}
 use Rattle.tk_message.specs.declared.place.Place.{Place}
@@ -63,53 +64,53 @@ second_fails true c x y h = ap (λ t. cond (not t) x y) h
 second_fails false c x y h = refl
 
 -- a lost token is inactive
-lost_inactive : (client_kind : ClientKind) (asker : Dot) (k : Kind) (now : ℕ) (h : Handle) (s : Status) → IsLost now h s → introspected_by_status client_kind asker k s ≡ Inactive
-lost_inactive client_kind asker k now h Unseen lost = absurd lost
-lost_inactive client_kind asker k now h Wrong lost = refl
-lost_inactive client_kind asker k now h (Broken expiry) lost = refl
-lost_inactive client_kind asker k now h (Known s) lost = second_fails (sees client_kind asker s.client) (is_live s.state) Inactive (active k s) (closed_asleep s.state lost.0)
+lost_inactive : (seen : RefreshSeen) (client_kind : ClientKind) (asker : Dot) (k : Kind) (now : ℕ) (h : Handle) (s : Status) → IsLost now h s → introspected_by_status seen client_kind asker k s ≡ Inactive
+lost_inactive seen client_kind asker k now h Unseen lost = absurd lost
+lost_inactive seen client_kind asker k now h Wrong lost = refl
+lost_inactive seen client_kind asker k now h (Broken expiry) lost = refl
+lost_inactive seen client_kind asker k now h (Known s) lost = second_fails (sees seen client_kind k asker s.client) (is_live s.state) Inactive (active k s) (closed_asleep s.state lost.0)
 
-alike_told : (client_kind : ClientKind) (asker : Dot) (k : Kind) (now : ℕ) (h : Handle) (s r : Status) → AnsweredAlike now h s r → introspected_by_status client_kind asker k s ≡ introspected_by_status client_kind asker k r
-alike_told client_kind asker k now h s r (inl same) = ap (introspected_by_status client_kind asker k) same
-alike_told client_kind asker k now h s r (inr lost) = lost_inactive client_kind asker k now h s lost.0 ∙ sym (lost_inactive client_kind asker k now h r lost.1)
+alike_told : (seen : RefreshSeen) (client_kind : ClientKind) (asker : Dot) (k : Kind) (now : ℕ) (h : Handle) (s r : Status) → AnsweredAlike now h s r → introspected_by_status seen client_kind asker k s ≡ introspected_by_status seen client_kind asker k r
+alike_told seen client_kind asker k now h s r (inl same) = ap (introspected_by_status seen client_kind asker k) same
+alike_told seen client_kind asker k now h s r (inr lost) = lost_inactive seen client_kind asker k now h s lost.0 ∙ sym (lost_inactive seen client_kind asker k now h r lost.1)
 
-module _ (P Q : StoreFields) (now : ℕ) (alike : (h : Handle) → AnsweredAlike now h (status_here P now h) (status_here Q now h)) where
-  told_by_kind : (client_kind : ClientKind) (asker : Dot) (h : Handle) (k : Kind) → introspected_by_kind P now client_kind asker h k ≡ introspected_by_kind Q now client_kind asker h k
+module _ (P Q : StoreFields) (seen : RefreshSeen) (now : ℕ) (alike : (h : Handle) → AnsweredAlike now h (status_here P now h) (status_here Q now h)) where
+  told_by_kind : (client_kind : ClientKind) (asker : Dot) (h : Handle) (k : Kind) → introspected_by_kind P seen now client_kind asker h k ≡ introspected_by_kind Q seen now client_kind asker h k
   told_by_kind client_kind asker h kind.Code = refl
-  told_by_kind client_kind asker h kind.Access = alike_told client_kind asker kind.Access now h (status_here P now h) (status_here Q now h) (alike h)
-  told_by_kind client_kind asker h kind.Refresh = alike_told client_kind asker kind.Refresh now h (status_here P now h) (status_here Q now h) (alike h)
+  told_by_kind client_kind asker h kind.Access = alike_told seen client_kind asker kind.Access now h (status_here P now h) (status_here Q now h) (alike h)
+  told_by_kind client_kind asker h kind.Refresh = alike_told seen client_kind asker kind.Refresh now h (status_here P now h) (status_here Q now h) (alike h)
 
-  told_by_handle : (client_kind : ClientKind) (asker : Dot) (o : Option Handle) → introspected_by_handle P now client_kind asker o ≡ introspected_by_handle Q now client_kind asker o
+  told_by_handle : (client_kind : ClientKind) (asker : Dot) (o : Option Handle) → introspected_by_handle P seen now client_kind asker o ≡ introspected_by_handle Q seen now client_kind asker o
   told_by_handle client_kind asker None = refl
   told_by_handle client_kind asker (Some h) = told_by_kind client_kind asker h h.id.kind
 
-  told_by_text : (client_kind : ClientKind) (asker : Dot) (o : Option (List ℕ)) → introspected_by_text P now client_kind asker o ≡ introspected_by_text Q now client_kind asker o
+  told_by_text : (client_kind : ClientKind) (asker : Dot) (o : Option (List ℕ)) → introspected_by_text P seen now client_kind asker o ≡ introspected_by_text Q seen now client_kind asker o
   told_by_text client_kind asker None = refl
   told_by_text client_kind asker (Some text) = told_by_handle client_kind asker (handle_in text)
 
-  told_as : (params : Pairs) (asker : Dot) (client_kind : ClientKind) → introspected_as P now params asker client_kind ≡ introspected_as Q now params asker client_kind
+  told_as : (params : Pairs) (asker : Dot) (client_kind : ClientKind) → introspected_as P seen now params asker client_kind ≡ introspected_as Q seen now params asker client_kind
   told_as params asker Public = refl
   told_as params asker (Confidential digest) = told_by_text (Confidential digest) asker (value_of (codes "token") params)
   told_as params asker (Resource digest) = told_by_text (Resource digest) asker (value_of (codes "token") params)
 
-  told_by_client : (params : Pairs) (asker : Dot) (o : Option ClientFields) → introspected_by_client P now params asker o ≡ introspected_by_client Q now params asker o
+  told_by_client : (params : Pairs) (asker : Dot) (o : Option ClientFields) → introspected_by_client P seen now params asker o ≡ introspected_by_client Q seen now params asker o
   told_by_client params asker None = refl
   told_by_client params asker (Some client) = told_as params asker client.client_kind
 
-  told_by_caller : ((d : Dot) → client_view (held_facts P) d ≡ client_view (held_facts Q) d) → (params : Pairs) (c : Caller) → introspected_by_caller P now params c ≡ introspected_by_caller Q now params c
+  told_by_caller : ((d : Dot) → client_view (held_facts P) d ≡ client_view (held_facts Q) d) → (params : Pairs) (c : Caller) → introspected_by_caller P seen now params c ≡ introspected_by_caller Q seen now params c
   told_by_caller views params caller.DuplicateParameter = refl
   told_by_caller views params caller.MixedCredentials = refl
   told_by_caller views params caller.InvalidClient = refl
-  told_by_caller views params (caller.Client asker) = told_by_client params asker (client_view (held_facts P) asker) ∙ ap (introspected_by_client Q now params asker) (views asker)
+  told_by_caller views params (caller.Client asker) = told_by_client params asker (client_view (held_facts P) asker) ∙ ap (introspected_by_client Q seen now params asker) (views asker)
 
-pub introspections_alike : (P Q : StoreFields) (now : ℕ) (request : RequestFields)
+pub introspections_alike : (P Q : StoreFields) (seen : RefreshSeen) (now : ℕ) (request : RequestFields)
     → ((h : Handle) → AnsweredAlike now h (status_here P now h) (status_here Q now h))
     → ((d : Dot) → client_view (held_facts P) d ≡ client_view (held_facts Q) d)
     → caller_of (held_facts P) known_names request ≡ caller_of (held_facts Q) known_names request
-    → introspection_of P now request ≡ introspection_of Q now request
-introspections_alike P Q now request alike views same =
-    ap (λ (c : Caller). told (introspected_by_caller P now request.params c)) same
-    ∙ ap told (told_by_caller P Q now alike views request.params (caller_of (held_facts Q) known_names request))
+    → introspection_of P seen now request ≡ introspection_of Q seen now request
+introspections_alike P Q seen now request alike views same =
+    ap (λ (c : Caller). told (introspected_by_caller P seen now request.params c)) same
+    ∙ ap told (told_by_caller P Q seen now alike views request.params (caller_of (held_facts Q) known_names request))
 
 -- ---- revocation
 

@@ -1,6 +1,8 @@
 -- The outcome of introspection: the first case that holds (RFC 7662, 2.1 and 2.2). The facts, the
--- moment and the request alone determine the outcome.
---   sees                     a client may see the tokens of another client
+-- region's choice of who sees refresh tokens, the moment and the request determine the outcome.
+--   shows_refresh            resource servers see refresh tokens
+--   servers_see              resource servers see tokens of a kind
+--   sees                     a client may see tokens of another client
 --   is_live                  a state is Live
 --   introspected_by_caller   the outcome for the sender of a request
 use Rattle.std.specs.Prelude.{
@@ -37,6 +39,8 @@ use Rattle.tk_ledger.specs.declared.status.Status.TheVariants.{Unseen, Wrong, Br
 use Rattle.tk_params.specs.Params.{Pairs, value_of}
 use Rattle.tk_message.specs.declared.caller.Caller.{Caller}
 use Rattle.tk_message.specs.declared.caller.Caller.TheVariants as caller
+use Rattle.tk_message.specs.declared.choices.RefreshSeen.{RefreshSeen}
+use Rattle.tk_message.specs.declared.choices.RefreshSeen.TheVariants.{ByAll, ByClient}
 use Rattle.tk_query.specs.declared.introspected.Introspected.{Introspected}
 use Rattle.tk_query.specs.declared.introspected.Introspected.TheVariants.{
   Refused,
@@ -46,12 +50,23 @@ use Rattle.tk_query.specs.declared.introspected.Introspected.TheVariants.{
 }
 use Rattle.tk_query.specs.declared.refusal.Refusal.TheVariants as refusal
 
--- a client may see the tokens of the other: a resource server sees every token, another client its
--- own (RFC 7662, 2.1; who sees what is own)
-abbrev pub sees : ClientKind → Dot → Dot → Bool
-sees Public asker client = false
-sees (Confidential digest) asker client = is_same_dot client asker
-sees (Resource digest) asker client = true
+-- resource servers see refresh tokens, too (own; RFC 7662, 2.2 leaves it open)
+abbrev pub shows_refresh : RefreshSeen → Bool
+shows_refresh ByAll = true
+shows_refresh ByClient = false
+
+-- resource servers see tokens of the kind: access tokens, and refresh tokens by the region's choice
+abbrev pub servers_see : RefreshSeen → Kind → Bool
+servers_see seen kind.Code = true
+servers_see seen kind.Access = true
+servers_see seen kind.Refresh = shows_refresh seen
+
+-- a client may see tokens of the kind of the other client: a resource server sees those of every
+-- client, another client its own (RFC 7662, 2.1; who sees what is own)
+abbrev pub sees : RefreshSeen → ClientKind → Kind → Dot → Dot → Bool
+sees seen Public k asker client = false
+sees seen (Confidential digest) k asker client = is_same_dot client asker
+sees seen (Resource digest) k asker client = servers_see seen k
 
 -- the state is Live
 abbrev pub is_live : State → Bool
@@ -71,57 +86,66 @@ active kind.Refresh s = Refresh s
 
 -- the outcome by the token's standing: a token that the sender may not see, or that is not live, is
 -- inactive (RFC 7662, 2.2)
-abbrev pub introspected_by_standing : ClientKind → Dot → Kind → StandingFields → Introspected
-introspected_by_standing client_kind asker k s =
-    if not (sees client_kind asker s.client) || not (is_live s.state) then Inactive else active k s
+abbrev pub introspected_by_standing : RefreshSeen → ClientKind → Dot → Kind → StandingFields
+    → Introspected
+introspected_by_standing seen client_kind asker k s =
+    if not (sees seen client_kind k asker s.client) || not (is_live s.state) then Inactive
+    else active k s
 
 -- the outcome by the token's status: an unknown token is inactive (RFC 7662, 2.2)
-abbrev pub introspected_by_status : ClientKind → Dot → Kind → Status → Introspected
-introspected_by_status client_kind asker k Unseen = Inactive
-introspected_by_status client_kind asker k Wrong = Inactive
-introspected_by_status client_kind asker k (Broken expiry) = Inactive
-introspected_by_status client_kind asker k (Known s) = introspected_by_standing client_kind asker k s
+abbrev pub introspected_by_status : RefreshSeen → ClientKind → Dot → Kind → Status → Introspected
+introspected_by_status seen client_kind asker k Unseen = Inactive
+introspected_by_status seen client_kind asker k Wrong = Inactive
+introspected_by_status seen client_kind asker k (Broken expiry) = Inactive
+introspected_by_status seen client_kind asker k (Known s) =
+    introspected_by_standing seen client_kind asker k s
 
 -- the outcome by the kind of the handle: a code is inactive
-abbrev pub introspected_by_kind : StoreFields → ℕ → ClientKind → Dot → Handle → Kind → Introspected
-introspected_by_kind P now client_kind asker h kind.Code = Inactive
-introspected_by_kind P now client_kind asker h kind.Access =
-    introspected_by_status client_kind asker kind.Access (status_here P now h)
-introspected_by_kind P now client_kind asker h kind.Refresh =
-    introspected_by_status client_kind asker kind.Refresh (status_here P now h)
+abbrev pub introspected_by_kind : StoreFields → RefreshSeen → ℕ → ClientKind → Dot → Handle → Kind
+    → Introspected
+introspected_by_kind P seen now client_kind asker h kind.Code = Inactive
+introspected_by_kind P seen now client_kind asker h kind.Access =
+    introspected_by_status seen client_kind asker kind.Access (status_here P now h)
+introspected_by_kind P seen now client_kind asker h kind.Refresh =
+    introspected_by_status seen client_kind asker kind.Refresh (status_here P now h)
 
 -- the outcome by the handle: a text that is no handle is inactive (RFC 7662, 2.2)
-abbrev pub introspected_by_handle : StoreFields → ℕ → ClientKind → Dot → Option Handle → Introspected
-introspected_by_handle P now client_kind asker None = Inactive
-introspected_by_handle P now client_kind asker (Some h) = introspected_by_kind P now client_kind asker h h.id.kind
+abbrev pub introspected_by_handle : StoreFields → RefreshSeen → ℕ → ClientKind → Dot → Option Handle
+    → Introspected
+introspected_by_handle P seen now client_kind asker None = Inactive
+introspected_by_handle P seen now client_kind asker (Some h) =
+    introspected_by_kind P seen now client_kind asker h h.id.kind
 
 -- the outcome by the token's text, which is required (RFC 7662, 2.1)
-abbrev pub introspected_by_text : StoreFields → ℕ → ClientKind → Dot → Option (List ℕ) → Introspected
-introspected_by_text P now client_kind asker None = Refused refusal.MissingToken
-introspected_by_text P now client_kind asker (Some text) =
-    introspected_by_handle P now client_kind asker (handle_in text)
+abbrev pub introspected_by_text : StoreFields → RefreshSeen → ℕ → ClientKind → Dot → Option (List ℕ)
+    → Introspected
+introspected_by_text P seen now client_kind asker None = Refused refusal.MissingToken
+introspected_by_text P seen now client_kind asker (Some text) =
+    introspected_by_handle P seen now client_kind asker (handle_in text)
 
 -- the outcome for a client by its kind: a public client has proved nothing and is refused (RFC
 -- 7662, 2.1)
-abbrev pub introspected_as : StoreFields → ℕ → Pairs → Dot → ClientKind → Introspected
-introspected_as P now params asker Public = Refused refusal.PublicClient
-introspected_as P now params asker (Confidential digest) =
-    introspected_by_text P now (Confidential digest) asker (value_of (codes "token") params)
-introspected_as P now params asker (Resource digest) =
-    introspected_by_text P now (Resource digest) asker (value_of (codes "token") params)
+abbrev pub introspected_as : StoreFields → RefreshSeen → ℕ → Pairs → Dot → ClientKind → Introspected
+introspected_as P seen now params asker Public = Refused refusal.PublicClient
+introspected_as P seen now params asker (Confidential digest) =
+    introspected_by_text P seen now (Confidential digest) asker (value_of (codes "token") params)
+introspected_as P seen now params asker (Resource digest) =
+    introspected_by_text P seen now (Resource digest) asker (value_of (codes "token") params)
 
 -- the outcome for an authenticated client. Such a client was added: `None` never happens
-abbrev pub introspected_by_client : StoreFields → ℕ → Pairs → Dot → Option ClientFields
-    → Introspected
-introspected_by_client P now params asker None = Refused refusal.InvalidClient
-introspected_by_client P now params asker (Some client) =
-    introspected_as P now params asker client.client_kind
+abbrev pub introspected_by_client : StoreFields → RefreshSeen → ℕ → Pairs → Dot
+    → Option ClientFields → Introspected
+introspected_by_client P seen now params asker None = Refused refusal.InvalidClient
+introspected_by_client P seen now params asker (Some client) =
+    introspected_as P seen now params asker client.client_kind
 
 -- the outcome for the sender: no parameter that the endpoint knows may occur twice, no credentials
 -- in two places, and a client must be authenticated (RFC 6749, 2.3 and 3.2; RFC 7662, 2.3)
-abbrev pub introspected_by_caller : StoreFields → ℕ → Pairs → Caller → Introspected
-introspected_by_caller P now params caller.DuplicateParameter = Refused refusal.DuplicateParameter
-introspected_by_caller P now params caller.MixedCredentials = Refused refusal.MixedCredentials
-introspected_by_caller P now params caller.InvalidClient = Refused refusal.InvalidClient
-introspected_by_caller P now params (caller.Client asker) =
-    introspected_by_client P now params asker (client_view (held_facts P) asker)
+abbrev pub introspected_by_caller : StoreFields → RefreshSeen → ℕ → Pairs → Caller → Introspected
+introspected_by_caller P seen now params caller.DuplicateParameter =
+    Refused refusal.DuplicateParameter
+introspected_by_caller P seen now params caller.MixedCredentials =
+    Refused refusal.MixedCredentials
+introspected_by_caller P seen now params caller.InvalidClient = Refused refusal.InvalidClient
+introspected_by_caller P seen now params (caller.Client asker) =
+    introspected_by_client P seen now params asker (client_view (held_facts P) asker)

@@ -1,5 +1,6 @@
--- The reply to an introspection request (RFC 7662, 2.2). Facts, moment and request determine the
--- reply: no region number, serial, life or random word is among the arguments.
+-- The reply to an introspection request (RFC 7662, 2.2). Facts, moment, request and the choice of
+-- who sees refresh tokens determine the reply: no region number, serial, life or random word is
+-- among the arguments.
 --   told               the reply by the outcome of introspection
 --   introspection_of   the reply to a request
 use Rattle.std.specs.Prelude.{ℕ}
@@ -10,6 +11,7 @@ use Rattle.tk_message.specs.Caller.{caller_of}
 use Rattle.tk_message.specs.Reply.{error_reply, inactive_reply, json_reply}
 use Rattle.tk_message.specs.ReplyFields.{ReplyFields}
 use Rattle.tk_message.specs.RequestFields.{RequestFields}
+use Rattle.tk_message.specs.declared.choices.RefreshSeen.{RefreshSeen}
 use Rattle.tk_query.specs.declared.introspected.Introspected.{Introspected}
 use Rattle.tk_query.specs.declared.introspected.Introspected.TheVariants.{
   Refused,
@@ -30,7 +32,8 @@ told (Access s) = json_reply Ok (standing_body access_body s)
 told (Refresh s) = json_reply Ok (standing_body refresh_body s)
 
 -- the reply to an introspection request
-abbrev pub introspection_of : StoreFields → ℕ → RequestFields → ReplyFields
-introspection_of P now request =
+abbrev pub introspection_of : StoreFields → RefreshSeen → ℕ → RequestFields → ReplyFields
+introspection_of P seen now request =
     told
-    (introspected_by_caller P now request.params (caller_of (held_facts P) known_names request))
+    (introspected_by_caller P seen now request.params
+    (caller_of (held_facts P) known_names request))

@@ -2,6 +2,7 @@
 -- `says_active` are:
 --   SaysActive     the reply reports an active token that the sender may see
 --   SaysNothing    the reply to any sender reports no other token
+--   HidesRefresh   the reply to a resource server reports no refresh token, if it sees none
 -- The clauses of `queries_alike`, of two stores that answer each handle alike:
 --   IntrospectionsAlike   they give equal replies to introspection requests
 --   RevocationsAlike      they decide revocation requests alike
@@ -13,6 +14,7 @@ use Rattle.tk_handle.specs.declared.kind.Kind.TheVariants as kind
 use Rattle.tk_handle.specs.declared.handle.Handle.{Handle}
 use Rattle.tk_handle.specs.declared.token_id.TokenId.{TokenId}
 use Rattle.tk_fact.specs.declared.client_kind.ClientKind.{ClientKind}
+use Rattle.tk_fact.specs.declared.client_kind.ClientKind.TheVariants.{Resource}
 use Rattle.tk_store.specs.StoreFields.{StoreFields, held_facts}
 use Rattle.tk_ledger.specs.Alike.{AnsweredAlike}
 use Rattle.tk_ledger.specs.Status.{status_here, IsActive}
@@ -24,6 +26,8 @@ use Rattle.tk_message.specs.Reply.{inactive_reply, json_reply}
 use Rattle.tk_message.specs.Caller.{caller_of}
 use Rattle.tk_message.specs.ReplyFields.{ReplyFields}
 use Rattle.tk_message.specs.RequestFields.{RequestFields}
+use Rattle.tk_message.specs.declared.choices.RefreshSeen.{RefreshSeen}
+use Rattle.tk_message.specs.declared.choices.RefreshSeen.TheVariants.{ByClient}
 use Rattle.tk_message.specs.declared.place.Place.{Place}
 use Rattle.tk_query.specs.Caller.{known_names}
 use Rattle.tk_query.specs.Revocation.{revocation_of}
@@ -39,33 +43,43 @@ told_by_kind kind.Refresh client expiry start scope subject =
     json_reply Ok (refresh_body client expiry start scope subject)
 
 -- the reply to a client of the given kind for a handle
-abbrev pub told_to : StoreFields → ℕ → ClientKind → Dot → Handle → ReplyFields
-told_to P now client_kind asker h = told (introspected_by_handle P now client_kind asker (Some h))
+abbrev pub told_to : StoreFields → RefreshSeen → ℕ → ClientKind → Dot → Handle → ReplyFields
+told_to P seen now client_kind asker h =
+    told (introspected_by_handle P seen now client_kind asker (Some h))
 
 -- the reply for an active token that the sender may see has the client and subject of the code, and
 -- the expiry, start and scope of the fact that minted the token
 abbrev pub SaysActive : Type 0
 SaysActive =
-    (P : StoreFields) (now : ℕ) (client_kind : ClientKind) (asker : Dot) (h : Handle)
-    (a : IsActive (map.get (held_facts P)) now h) → sees client_kind asker a.issued.client ≡ true
-    → told_to P now client_kind asker h ≡ told_by_kind h.id.kind a.issued.client a.minted.expiry
-    a.minted.start a.minted.scope a.issued.subject
+    (P : StoreFields) (seen : RefreshSeen) (now : ℕ) (client_kind : ClientKind) (asker : Dot)
+    (h : Handle) (a : IsActive (map.get (held_facts P)) now h)
+    → sees seen client_kind h.id.kind asker a.issued.client ≡ true
+    → told_to P seen now client_kind asker h ≡ told_by_kind h.id.kind a.issued.client
+    a.minted.expiry a.minted.start a.minted.scope a.issued.subject
 
 -- the reply for a token that is not active is that it is not, whoever asks
 abbrev pub SaysNothing : Type 0
-SaysNothing = (P : StoreFields) (now : ℕ) (client_kind : ClientKind) (asker : Dot) (h : Handle)
-    → ¬ IsActive (map.get (held_facts P)) now h → told_to P now client_kind asker h ≡ inactive_reply
+SaysNothing =
+    (P : StoreFields) (seen : RefreshSeen) (now : ℕ) (client_kind : ClientKind) (asker : Dot)
+    (h : Handle) → ¬ IsActive (map.get (held_facts P)) now h
+    → told_to P seen now client_kind asker h ≡ inactive_reply
+
+-- if the client that a refresh token is of sees it alone, the reply to a resource server is that it
+-- is not active, whether or not it is
+abbrev pub HidesRefresh : Type 0
+HidesRefresh = (P : StoreFields) (now : ℕ) (digest : List ℕ) (asker : Dot) (h : Handle)
+    → h.id.kind ≡ kind.Refresh → told_to P ByClient now (Resource digest) asker h ≡ inactive_reply
 
 -- ---- two stores that answer each handle alike
 
 -- two stores that answer each handle alike, and have the same clients, give equal replies to an
 -- introspection request
 abbrev pub IntrospectionsAlike : Type 0
-IntrospectionsAlike = (P Q : StoreFields) (now : ℕ) (request : RequestFields)
+IntrospectionsAlike = (P Q : StoreFields) (seen : RefreshSeen) (now : ℕ) (request : RequestFields)
     → ((h : Handle) → AnsweredAlike now h (status_here P now h) (status_here Q now h))
     → ((d : Dot) → client_view (held_facts P) d ≡ client_view (held_facts Q) d)
     → caller_of (held_facts P) known_names request ≡ caller_of (held_facts Q) known_names request
-    → introspection_of P now request ≡ introspection_of Q now request
+    → introspection_of P seen now request ≡ introspection_of Q seen now request
 
 -- two stores that answer each handle alike, and have the same revocations and clients, decide a
 -- revocation request alike

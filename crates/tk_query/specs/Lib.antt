@@ -6,7 +6,8 @@
 --   Revoked           revoked_by_caller, the outcome of revocation
 --   SoundRevocation   IsSoundRevocation, the fact that is made passes its check
 --   Revocation        revocation_of, the decision of a revocation request
---   Laws              SaysActive, SaysNothing, IntrospectionsAlike, RevocationsAlike, the laws
+--   Laws              SaysActive, SaysNothing, HidesRefresh, IntrospectionsAlike and
+--                     RevocationsAlike, the laws
 pub mod Caller
 pub mod Introspected
 pub mod Introspection

@@ -23,23 +23,24 @@ use tk_fact::ClientKind;
 use tk_family::Steps;
 use tk_handle::{Dot, Handle, Kind, Moment};
 use tk_ledger::{Ledger, State, Status};
-use tk_message::{Caller, Params};
+use tk_message::{Caller, Params, RefreshSeen};
 
 // Judges an introspection request by its sender: the first case that holds.
 pub(crate) fn introspect<'a>(
     ledger: &'a Ledger,
+    seen: RefreshSeen,
     now: Moment,
     params: &Params,
     caller: Caller,
 ) -> Introspected<'a>
-    ensures { result ≡ spec.introspected_by_caller ledger.now now params.now caller }
+    ensures { result ≡ spec.introspected_by_caller ledger.now seen now params.now caller }
 {
     match caller {
         Caller::DuplicateParameter => Introspected::Refused(Refusal::DuplicateParameter),
         Caller::MixedCredentials => Introspected::Refused(Refusal::MixedCredentials),
         Caller::InvalidClient => Introspected::Refused(Refusal::InvalidClient),
         Caller::Client(asker) => match ledger.client(asker) {
-            Some(client) => introspect_as(ledger, now, params, asker, client.client_kind),
+            Some(client) => introspect_as(ledger, seen, now, params, asker, client.client_kind),
             None => Introspected::Refused(Refusal::InvalidClient),
         },
     }
@@ -48,17 +49,19 @@ pub(crate) fn introspect<'a>(
 // Judges a request of a client of the given kind.
 fn introspect_as<'a>(
     ledger: &'a Ledger,
+    seen: RefreshSeen,
     now: Moment,
     params: &Params,
     asker: Dot,
     client_kind: &ClientKind,
 ) -> Introspected<'a>
-    ensures { result ≡ spec.introspected_as ledger.now now params.now asker client_kind.now }
+    ensures { result ≡ spec.introspected_as ledger.now seen now params.now asker client_kind.now }
 {
     match client_kind {
         ClientKind::Public => Introspected::Refused(Refusal::PublicClient),
         ClientKind::Confidential(_) => introspect_token(
             ledger,
+            seen,
             now,
             client_kind,
             asker,
@@ -66,6 +69,7 @@ fn introspect_as<'a>(
         ),
         ClientKind::Resource(_) => introspect_token(
             ledger,
+            seen,
             now,
             client_kind,
             asker,
@@ -77,19 +81,20 @@ fn introspect_as<'a>(
 // Judges a request by the token's text.
 fn introspect_token<'a>(
     ledger: &'a Ledger,
+    seen: RefreshSeen,
     now: Moment,
     client_kind: &ClientKind,
     asker: Dot,
     text: Option<&str>,
 ) -> Introspected<'a>
-    ensures { result ≡ spec.introspected_by_text ledger.now now client_kind.now asker
+    ensures { result ≡ spec.introspected_by_text ledger.now seen now client_kind.now asker
         (option_copied text.entry) }
 {
     let Some(text) = text else {
         return Introspected::Refused(Refusal::MissingToken);
     };
     match Handle::read(text.as_bytes()) {
-        Some(handle) => introspect_handle(ledger, now, client_kind, asker, &handle),
+        Some(handle) => introspect_handle(ledger, seen, now, client_kind, asker, &handle),
         None => Introspected::Inactive,
     }
 }
@@ -97,54 +102,58 @@ fn introspect_token<'a>(
 // Judges a request by the token's handle.
 fn introspect_handle<'a>(
     ledger: &'a Ledger,
+    seen: RefreshSeen,
     now: Moment,
     client_kind: &ClientKind,
     asker: Dot,
     handle: &Handle,
 ) -> Introspected<'a>
-    ensures { result ≡ spec.introspected_by_kind ledger.now now client_kind.now asker handle.now
-        handle.now.id.kind }
+    ensures { result ≡ spec.introspected_by_kind ledger.now seen now client_kind.now asker
+        handle.now handle.now.id.kind }
 {
     match handle.id.kind {
         Kind::Code => Introspected::Inactive,
         Kind::Access => {
             let status = ledger.status(now, handle, &mut Steps::new());
-            by_status(client_kind, asker, Kind::Access, status)
+            by_status(seen, client_kind, asker, Kind::Access, status)
         }
         Kind::Refresh => {
             let status = ledger.status(now, handle, &mut Steps::new());
-            by_status(client_kind, asker, Kind::Refresh, status)
+            by_status(seen, client_kind, asker, Kind::Refresh, status)
         }
     }
 }
 
 // Judges a request by the token's status.
 fn by_status<'a>(
+    seen: RefreshSeen,
     client_kind: &ClientKind,
     asker: Dot,
     kind: Kind,
     status: Status<'a>,
 ) -> Introspected<'a>
-    ensures { result ≡ spec.introspected_by_status client_kind.now asker kind status.entry }
+    ensures { result ≡ spec.introspected_by_status seen client_kind.now asker kind status.entry }
 {
     match status {
         Status::Unseen => Introspected::Inactive,
         Status::Wrong => Introspected::Inactive,
         Status::Broken(_) => Introspected::Inactive,
-        Status::Known(standing) => by_standing(client_kind, asker, kind, standing),
+        Status::Known(standing) => by_standing(seen, client_kind, asker, kind, standing),
     }
 }
 
 // Judges a request by the token's standing.
 fn by_standing<'a>(
+    seen: RefreshSeen,
     client_kind: &ClientKind,
     asker: Dot,
     kind: Kind,
     standing: Standing<'a>,
 ) -> Introspected<'a>
-    ensures { result ≡ spec.introspected_by_standing client_kind.now asker kind standing.entry }
+    ensures { result
+        ≡ spec.introspected_by_standing seen client_kind.now asker kind standing.entry }
 {
-    if !sees(client_kind, asker, standing.client) || !is_live(standing.state) {
+    if !sees(seen, client_kind, kind, asker, standing.client) || !is_live(standing.state) {
         return Introspected::Inactive;
     }
     match kind {
@@ -154,14 +163,34 @@ fn by_standing<'a>(
     }
 }
 
-// Returns whether a client of the given kind may see the tokens of another client.
-fn sees(client_kind: &ClientKind, asker: Dot, client: Dot) -> bool
-    ensures { result ≡ spec.sees client_kind.now asker client }
+// Returns whether a client of the given kind may see tokens of a kind of another client.
+fn sees(seen: RefreshSeen, client_kind: &ClientKind, kind: Kind, asker: Dot, client: Dot) -> bool
+    ensures { result ≡ spec.sees seen client_kind.now kind asker client }
 {
     match client_kind {
         ClientKind::Public => false,
         ClientKind::Confidential(_) => client == asker,
-        ClientKind::Resource(_) => true,
+        ClientKind::Resource(_) => servers_see(seen, kind),
+    }
+}
+
+// Returns whether resource servers see tokens of the kind.
+fn servers_see(seen: RefreshSeen, kind: Kind) -> bool
+    ensures { result ≡ spec.servers_see seen kind }
+{
+    match kind {
+        Kind::Code | Kind::Access => true,
+        Kind::Refresh => shows_refresh(seen),
+    }
+}
+
+// Returns whether resource servers see refresh tokens.
+fn shows_refresh(seen: RefreshSeen) -> bool
+    ensures { result ≡ spec.shows_refresh seen }
+{
+    match seen {
+        RefreshSeen::ByAll => true,
+        RefreshSeen::ByClient => false,
     }
 }
 

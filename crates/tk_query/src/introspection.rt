@@ -9,25 +9,26 @@ use crate::introspected::{Introspected, introspect};
 use std::alloc::{AllocError, Global};
 use tk_handle::Moment;
 use tk_ledger::Ledger;
-use tk_message::{Decision, Reply, Request, Told};
+use tk_message::{Decision, RefreshSeen, Reply, Request, Told};
 
 /// Decides an introspection request at a moment, and returns the reply (RFC 7662, 2).
 ///
 /// For an active token that the sender may see, the reply has the client, expiry, start, scope and
-/// subject. For any other token, the reply is that it is not active. The reply depends on the
-/// facts, the moment and the request alone, and no fact is made. Returns an error if memory runs
-/// out.
+/// subject. For any other token, the reply is that it is not active. Who may see refresh tokens is
+/// the region's choice. The reply depends on the facts, this choice, the moment and the request
+/// alone, and no fact is made. Returns an error if memory runs out.
 pub fn decide_introspect(
     alloc: Global,
     ledger: &Ledger,
+    seen: RefreshSeen,
     now: Moment,
     request: &Request,
 ) -> Result<Decision, AllocError>
-    ensures { IfOk result (λ d. d ≡ answered (spec.introspection_of ledger.now now
+    ensures { IfOk result (λ d. d ≡ answered (spec.introspection_of ledger.now seen now
         request.now)) }
 {
     let caller = caller_here(alloc, ledger, request)?;
-    let known = introspect(ledger, now, &request.params, caller);
+    let known = introspect(ledger, seen, now, &request.params, caller);
     let reply = reply_to(alloc, known)?;
     Ok(Decision::answer(reply))
 }

@@ -1,6 +1,7 @@
 //! The laws of introspection and revocation.
 
 ghost use Rattle.tk_query.specs.Laws.{
+  HidesRefresh,
   IntrospectionsAlike,
   RevocationsAlike,
   SaysActive,
@@ -10,10 +11,12 @@ ghost use Rattle.tk_query.specs.Laws.{
 /// States a law: introspection reports exactly the active tokens (RFC 7662, 2.2).
 ///
 /// If the sender may see an active token, the reply has what the code and the fact that minted the
-/// token contain. For any other token, the reply to any sender is that it is not active.
+/// token contain. For any other token, the reply to any sender is that it is not active. If the
+/// region's choice hides refresh tokens from resource servers, no reply to one reports any.
 pub fn says_active()
     ensures active { SaysActive }
     ensures nothing { SaysNothing }
+    ensures hidden { HidesRefresh }
 {}
 
 /// States a law: two stores that answer each handle alike answer introspection and revocation

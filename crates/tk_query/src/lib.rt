@@ -1,9 +1,9 @@
 //! Introspection and revocation of tokens (RFC 7662; RFC 7009).
 //!
-//! `decide_introspect` decides a request to `/introspect` by the facts, the moment and the request
-//! alone: it takes no place, no random words and no lives. The outcome is an `Introspected`. The
-//! law `says_active` states that the reply reports exactly the active tokens that the sender may
-//! see.
+//! `decide_introspect` decides a request to `/introspect` by the facts, the moment, the request and
+//! the region's choice of who sees refresh tokens: it takes no place, no random words and no lives.
+//! The outcome is an `Introspected`. The law `says_active` states that the reply reports exactly
+//! the active tokens that the sender may see.
 //!
 //! `decide_revoke` decides a request to `/revoke`. Who may revoke a token of another region that
 //! this region has not seen is one of the region's `Choices`. The outcome is a `Revocation`: a

@@ -24,7 +24,8 @@ abbrev pub decision_by : Endpoint → StoreFields → Place → ℕ → List ℕ
 decision_by Authorize P place now words request =
     authorization_of (held_facts P) place now words request
 decision_by Token P place now words request = grant_of P place now words request
-decision_by Introspect P place now words request = answered (introspection_of P now request)
+decision_by Introspect P place now words request =
+    answered (introspection_of P place.choices.refresh_seen now request)
 decision_by Revoke P place now words request = revocation_of P place now request
 decision_by AddClient P place now words request = administration_of (held_facts P) place now request
 decision_by ShowClient P place now words request =

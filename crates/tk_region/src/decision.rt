@@ -28,7 +28,9 @@ pub(crate) fn decide_endpoint(
     match request.endpoint {
         Endpoint::Authorize => decide_authorize(alloc, ledger, place, now, words, request),
         Endpoint::Token => decide_token(alloc, ledger, place, now, words, request),
-        Endpoint::Introspect => decide_introspect(alloc, ledger, now, request),
+        Endpoint::Introspect => {
+            decide_introspect(alloc, ledger, place.choices.refresh_seen, now, request)
+        }
         Endpoint::Revoke => decide_revoke(alloc, ledger, place, now, request),
         Endpoint::AddClient
         | Endpoint::ShowClient

@@ -62,7 +62,7 @@ module _ (P : StoreFields) (U F : FactSet) (S : StandsFor P U F) (sound : AreSou
       authorizations_same H F place now words request (client_view_same P U F S) (consent_for_same P U F S)
       ∙ ap (λ (G : FactSet). authorization_of G place now words request) (sym back)
   by_endpoint endpoint.Token request = grants_alike P (whole_store F) place now words request alike (caller_back grants.known_names request)
-  by_endpoint endpoint.Introspect request = ap answered (introspections_alike P (whole_store F) now request alike view_back (caller_back queries.known_names request))
+  by_endpoint endpoint.Introspect request = ap answered (introspections_alike P (whole_store F) place.choices.refresh_seen now request alike view_back (caller_back queries.known_names request))
   by_endpoint endpoint.Revoke request =
       revocations_alike P (whole_store F) place now request alike
       (λ k digest client. revoked_same P U F S k digest client ∙ ap (λ (G : FactSet). is_revoked G k digest client) (sym back))

@@ -22,6 +22,7 @@ use Rattle.tk_query.specs.Introspection.{introspection_of}
 use Rattle.tk_query.proofs.ActiveLaws.{says_nothing}
 use Rattle.tk_region.specs.Decision.{decision_by}
 use Rattle.tk_region.specs.RegionFields.{RegionFields, place_in}
+use Rattle.tk_region.specs.SettingsFields.{SettingsFields}
 use Rattle.tk_region.specs.Step.{PreparedFields, early_in, prepared_by}
 use Rattle.tk_edge.specs.Answers.{answer_by, rendered}
 use Rattle.tk_edge.specs.declared.hear.Arrival.TheVariants.{Request as Asked}
@@ -35,7 +36,7 @@ use Rattle.tk_world.specs.Promises.{held_before, TellsOfSets, IntrospectAlike, I
 use Rattle.tk_world.specs.State.{Kept, State, region_with}
 use Rattle.tk_world.specs.Carrying.{in_place, IsReplied}
 use Rattle.tk_world.specs.World.{Step, Run, state_before}
-use Rattle.tk_world.proofs.RunLaws.{run_joins}
+use Rattle.tk_world.proofs.RunLaws.{run_joins, run_settings}
 
 -- ---- one event of a run
 
@@ -68,7 +69,7 @@ never_before now horizon h = grind (arith, nat_tests, h)
 -- from the horizon on, the reply to an introspection request doesn't depend on the cap, since no
 -- fact is made
 introspects : (s : State) (n : ℕ) (k : Kept) (now : ℕ) (words : List ℕ) (request : RequestFields) → k.horizon ≤ now → request.endpoint ≡ Introspect
-    → answer_by (region_with s n k) now words (Asked request) ≡ rendered (introspection_of (whole_store k.facts) now request) None None
+    → answer_by (region_with s n k) now words (Asked request) ≡ rendered (introspection_of (whole_store k.facts) s.settings.choices.refresh_seen now request) None None
 introspects s n k now words request soon h =
     let r : RegionFields = region_with s n k in
     let by : Endpoint → PreparedFields = λ e. prepared_by r.settings.cap (place_in r) (decision_by e r.facts (place_in r) now words request) in
@@ -91,19 +92,20 @@ tells_of_sets old es os ss new run i r now request status reply q from =
     let soon : k.horizon ≤ now = subst (λ h. h ≤ now) (ap horizon_of at.step.1.is_open) from in
     let one : at.step.2 ≡ Asked request = has_one_meaning Admin q.bytes.items at.step.2 (Asked request) at.step.3 q.heard in
     let told = ap (answer_by (region_with mid r k) now q.words) one ∙ introspects mid r k now q.words request soon q.introspects
-    ∙ ap (λ G. rendered (introspection_of (whole_store G) now request) None None) held in
+    ∙ ap (λ (x : SettingsFields). rendered (introspection_of (whole_store k.facts) x.choices.refresh_seen now request) None None) (run_settings in_place old (take i es) (take i os) (take i ss) mid at.run)
+    ∙ ap (λ G. rendered (introspection_of (whole_store G) old.settings.choices.refresh_seen now request) None None) held in
     subst (λ a. IsReplied a status reply) told (at.step.4.0, sym q.replied ∙ at.step.4.1)
 
 pub introspect_alike : (old : State) (es : List Event) (os : List Outcome) (ss : List Facts) (new : State) (run : Run old es os ss new) → IntrospectAlike old es os ss new run
 introspect_alike old es os ss new run i j q r now request s t one two a b from_one from_two same =
     let here = tells_of_sets old es os ss new run i q now request s one a from_one in
-    let there = subst (λ G. IsReplied (rendered (introspection_of (whole_store G) now request) None None) t two) (sym same) (tells_of_sets old es os ss new run j r now request t two b from_two) in
+    let there = subst (λ G. IsReplied (rendered (introspection_of (whole_store G) old.settings.choices.refresh_seen now request) None None) t two) (sym same) (tells_of_sets old es os ss new run j r now request t two b from_two) in
     (here.0 ∙ sym there.0, here.1 ∙ sym there.1)
 
 -- ---- inactive tokens
 
 inactive : (P : StoreFields) (h : Handle) → ((now : ℕ) → ¬ IsActive (map.get (held_facts P)) now h) → IsInactive P h
-inactive P h never now = (never now, λ client_kind asker. says_nothing P now client_kind asker h (never now))
+inactive P h never now = (never now, λ seen client_kind asker. says_nothing P seen now client_kind asker h (never now))
 
 pub revoked_inactive : (store : ℕ → StoreFields) → RevokedInactive store
 revoked_inactive store r F within h ended = inactive (store r) h (λ now. ends.revoked_inactive F (held_facts (store r)) within now h ended)

@@ -1,8 +1,9 @@
 -- What a step and a run do to each region's facts. Key results:
---   run_joins   after a run each region's facts are its old ones joined with what it has seen
---   run_alike   regions that began alike and have seen the same facts are alike
---   acts_more   a list of events goes on by one
---   acts_count  there is one outcome for each event
+--   run_joins      after a run each region's facts are its old ones joined with what it has seen
+--   run_settings   a run leaves the settings
+--   run_alike      regions that began alike and have seen the same facts are alike
+--   acts_more      a list of events goes on by one
+--   acts_count     there is one outcome for each event
 use Rattle.std.proofs.Common.{◌≡◌, inl, inr, ℕ, suc, ◌==◌, true, false, cond, if◌then◌else◌, List, [], ◌∷◌, ◌++◌, length, Option, Some, None, refl, sym, ap, subst, ◌∙◌, arith}
 use Rattle.std.specs.Option.{option_map_or}
 use Rattle.std.specs.Ordering.{nat_cmp, eq_by_cmp}
@@ -96,6 +97,33 @@ pub run_joins : (way : Way) (old : State) (es : List Event) (os : List Outcome) 
 run_joins way old [] [] [] new run r = subst (λ w. JoinsFacts (facts_in old r) [] (facts_in w r)) (sym run) (joins_nothing (facts_in old r))
 run_joins way old (e ∷ es) (o ∷ os) (s ∷ ss) new run r = joins_more (step_shows way old e o s run.0 run.1 r) (run_joins way run.0 es os ss new run.2 r)
 run_joins way old es os ss new run r = absurd run
+
+-- a step leaves the settings
+step_settings : (way : Way) (old : State) (e : Event) (o : Outcome) (seen : Facts) (new : State) → StepBy way old e o seen new → new.settings ≡ old.settings
+step_settings way old (Open n) Opened seen new step = ap (λ (w : State). w.settings) step.2
+step_settings way old (Open n) NumberTaken seen new step = ap (λ (w : State). w.settings) step.1.1
+step_settings way old (Open n) Memory seen new step = ap (λ (w : State). w.settings) step.1.1
+step_settings way old (Request n now words q) (Reply status bytes) seen new step = ap (λ (w : State). w.settings) step.1.changes
+step_settings way old (Request n now words q) NoRegion seen new step = ap (λ (w : State). w.settings) step.1.1
+step_settings way old (Request n now words q) Memory seen new step = ap (λ (w : State). w.settings) step.1.1
+step_settings way old (Pull n v after) (Bundle index count last more) seen new step = ap (λ (w : State). w.settings) step.5.4
+step_settings way old (Pull n v after) NoRegion seen new step = ap (λ (w : State). w.settings) step.1.1
+step_settings way old (Pull n v after) Memory seen new step = ap (λ (w : State). w.settings) step.1.1
+step_settings way old (Deliver i n) (Took k) seen new step = ap (λ (w : State). w.settings) step.4.changes
+step_settings way old (Deliver i n) Memory seen new (inl idle) = ap (λ (w : State). w.settings) idle.1.1
+step_settings way old (Deliver i n) Memory seen new (inr part) = ap (λ (w : State). w.settings) part.5.changes
+step_settings way old (Deliver i n) NoRegion seen new step = ap (λ (w : State). w.settings) step.1.1
+step_settings way old (Deliver i n) NoBundle seen new step = ap (λ (w : State). w.settings) step.2.1
+step_settings way old (Prune n moment) (Pruned k) seen new step = ap (λ (w : State). w.settings) step.1.changes
+step_settings way old (Prune n moment) NoRegion seen new step = ap (λ (w : State). w.settings) step.1.1
+step_settings way old (Prune n moment) Memory seen new step = ap (λ (w : State). w.settings) step.1.1
+step_settings way old e o seen new step = absurd step
+
+-- a run leaves the settings
+pub run_settings : (way : Way) (old : State) (es : List Event) (os : List Outcome) (ss : List Facts) (new : State) → RunBy way old es os ss new → new.settings ≡ old.settings
+run_settings way old [] [] [] new run = ap (λ (w : State). w.settings) run
+run_settings way old (e ∷ es) (o ∷ os) (s ∷ ss) new run = run_settings way run.0 es os ss new run.2 ∙ step_settings way old e o s run.0 run.1
+run_settings way old es os ss new run = absurd run
 
 -- regions that began alike, and have seen the same facts, are alike
 pub run_alike : (way : Way) (old : State) (es : List Event) (os : List Outcome) (ss : List Facts) (new : State) → RunBy way old es os ss new → (q r : ℕ) → facts_in old q ≡ facts_in old r → SameFacts (seen_by q es ss) (seen_by r es ss) → facts_in new q ≡ facts_in new r

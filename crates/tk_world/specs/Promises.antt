@@ -22,6 +22,7 @@ use Rattle.tk_store.specs.StoreFields.{StoreFields, held_facts}
 use Rattle.tk_store.specs.WholeStores.{whole_store}
 use Rattle.tk_ledger.specs.Status.{IsActive}
 use Rattle.tk_ledger.specs.Tokens.{links_in, IsEnded, IsMarked}
+use Rattle.tk_message.specs.declared.choices.RefreshSeen.{RefreshSeen}
 use Rattle.tk_message.specs.declared.request.Endpoint.TheVariants.{Introspect}
 use Rattle.tk_message.specs.Reply.{inactive_reply}
 use Rattle.tk_message.specs.declared.status_code.StatusCode.{StatusCode}
@@ -64,16 +65,17 @@ pub record IsIntrospected (es : List Event) (os : List Outcome) (i r now : ℕ)
   pub introspects : request.endpoint ≡ Introspect
   pub replied : written.items ≡ reply
 
--- from the region's horizon on, the reply to an introspection request depends only on the facts of
--- its region, the moment and the request
+-- From the region's horizon on, the reply to an introspection request depends only on the facts of
+-- its region, the moment and the request, besides the settings, which all regions share: one of
+-- their choices is who sees refresh tokens.
 abbrev pub TellsOfSets : (old : State) (es : List Event) (os : List Outcome) (ss : List Facts)
     (new : State) → Run old es os ss new → Type 0
 TellsOfSets old es os ss new run =
     (i r now : ℕ) (request : RequestFields) (status : StatusCode) (reply : List ℕ)
     → IsIntrospected es os i r now request status reply
     → IsFromHorizon old es os ss new run i r now
-    → IsReplied (rendered (introspection_of (whole_store (held_before old es ss i r)) now request)
-    None None) status reply
+    → IsReplied (rendered (introspection_of (whole_store (held_before old es ss i r))
+    old.settings.choices.refresh_seen now request) None None) status reply
 
 -- Two regions that have equal facts, each when its request arrives and from its horizon on, give
 -- equal replies to equal requests at equal moments. The replies are equal byte for byte, whatever
@@ -88,12 +90,14 @@ IntrospectAlike old es os ss new run =
 
 -- ---- tokens of revoked and reused families are inactive
 
--- the token is active at no moment, and introspection reports it as inactive to everyone
+-- the token is active at no moment, and introspection reports it as inactive to everyone, whoever
+-- sees refresh tokens
 abbrev pub IsInactive : StoreFields → Handle → Type 0
 IsInactive P h =
     (now : ℕ)
     → (¬ IsActive (map.get (held_facts P)) now h)
-    × ((client_kind : ClientKind) (asker : Dot) → told_to P now client_kind asker h ≡ inactive_reply)
+    × ((seen : RefreshSeen) (client_kind : ClientKind) (asker : Dot)
+    → told_to P seen now client_kind asker h ≡ inactive_reply)
 
 -- a token is inactive in each region that holds facts by which its client revoked it
 abbrev pub RevokedInactive : (ℕ → StoreFields) → Type 0

@@ -143,8 +143,8 @@ impl World {
         // the new world stands for where the run ends. The facts of each region are its old ones
         // joined with what it has seen.
         // From its region's horizon on, the reply to an introspection request depends only on the
-        // facts that its region made and took in, the moment and the request. Regions with equal
-        // facts give equal replies.
+        // facts that its region made and took in, the moment, the request and the settings, which
+        // all regions share. Regions with equal facts give equal replies.
         ensures run { IfOk result (λ outcomes. (made : FactSet) (state : State)
             → WorldStands self.old made state
             → (ran : RunStands in_place state events.now outcomes.items self.new)

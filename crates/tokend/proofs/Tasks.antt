@@ -323,8 +323,14 @@ without_choices rows (inl none) service h =
 without_choices rows (inr (inl none)) service h =
     let both : None ≡ Some service.choices.consent = sym none ∙ h.choices.consent in
     absurd (cc)
-without_choices rows (inr (inr none)) service h =
+without_choices rows (inr (inr (inl none))) service h =
     let both : None ≡ Some service.choices.redirects = sym none ∙ h.choices.redirects in
+    absurd (cc)
+without_choices rows (inr (inr (inr (inl none)))) service h =
+    let both : None ≡ Some service.choices.refresh_seen = sym none ∙ h.choices.refresh_seen in
+    absurd (cc)
+without_choices rows (inr (inr (inr (inr none)))) service h =
+    let both : None ≡ Some service.choices.challenge = sym none ∙ h.choices.challenge in
     absurd (cc)
 
 -- bundles taken in are to be logged without a log

@@ -3,6 +3,9 @@
 --   is_unseen_misnamed   `--revoke-unseen` has none of its three values
 --   consent_named        what is done if a consent is given again, by the value of `--consent`
 --   is_consent_misnamed  `--consent` has neither of its two values
+--   refresh_seen_named   who sees refresh tokens, by the value of `--refresh-seen`
+--   is_refresh_seen_misnamed
+--                        `--refresh-seen` has neither of its two values
 --   IsNoChoice           an option has none of its words, or no value
 --   HasChoices           clap's matches have these choices
 use Rattle.std.specs.Prelude.{
@@ -22,9 +25,12 @@ use Rattle.std.specs.Prelude.{
 use Rattle.std.specs.Str.{bytes_eq}
 use Rattle.clap.specs.Words.{Row, Text, first_of}
 use Rattle.tk_message.specs.declared.choices.Choices.{Choices}
+use Rattle.tokend.specs.Challenges.{rules_named}
 use Rattle.tokend.specs.Kinds.{kinds_named}
 use Rattle.tk_message.specs.declared.choices.ConsentReuse.{ConsentReuse}
 use Rattle.tk_message.specs.declared.choices.ConsentReuse.TheVariants.{New, Held}
+use Rattle.tk_message.specs.declared.choices.RefreshSeen.{RefreshSeen}
+use Rattle.tk_message.specs.declared.choices.RefreshSeen.TheVariants.{ByAll, ByClient}
 use Rattle.tk_message.specs.declared.choices.UnseenRevocation.{UnseenRevocation}
 use Rattle.tk_message.specs.declared.choices.UnseenRevocation.TheVariants.{
   Any,
@@ -57,14 +63,31 @@ abbrev pub is_consent_misnamed : Option Text → Bool
 is_consent_misnamed None = false
 is_consent_misnamed (Some text) = not (is_some (consent_named (Some text)))
 
+-- who sees refresh tokens: `all` or `client`
+abbrev pub refresh_seen_named : Option Text → Option RefreshSeen
+refresh_seen_named None = None
+refresh_seen_named (Some text) =
+    if bytes_eq text (codes "all") then Some ByAll
+    else (if bytes_eq text (codes "client") then Some ByClient else None)
+
+-- `--refresh-seen` was given, and its value is neither of the two
+abbrev pub is_refresh_seen_misnamed : Option Text → Bool
+is_refresh_seen_misnamed None = false
+is_refresh_seen_misnamed (Some text) = not (is_some (refresh_seen_named (Some text)))
+
 -- one of the options has no value, or none of its words
 abbrev pub IsNoChoice : List Row → Type 0
 IsNoChoice rows = (unseen_named (first_of (codes "revoke-unseen") rows) ≡ None)
     ⊎ ((consent_named (first_of (codes "consent") rows) ≡ None)
-    ⊎ (kinds_named (first_of (codes "redirects") rows) ≡ None))
+    ⊎ ((kinds_named (first_of (codes "redirects") rows) ≡ None)
+    ⊎ ((refresh_seen_named (first_of (codes "refresh-seen") rows) ≡ None)
+    ⊎ (rules_named (first_of (codes "challenge") rows) ≡ None))))
 
 -- the rows have these choices
 pub record HasChoices (rows : List Row) (c : Choices) : Type 0 where
   pub unseen : unseen_named (first_of (codes "revoke-unseen") rows) ≡ Some c.unseen
   pub consent : consent_named (first_of (codes "consent") rows) ≡ Some c.consent
   pub redirects : kinds_named (first_of (codes "redirects") rows) ≡ Some c.redirects
+  pub refresh_seen : refresh_seen_named (first_of (codes "refresh-seen") rows)
+      ≡ Some c.refresh_seen
+  pub challenge : rules_named (first_of (codes "challenge") rows) ≡ Some c.challenge

@@ -171,8 +171,9 @@ loopback_app = with_rules (new_app (codes "loopback")) setting_rules
 -- the options of a service: the region's number and the seed, which are required; the port, the
 -- socket and the inner one, the log, whether it gets bundles taken in, the old log, the moment of a
 -- prune, what is done with bundles that are ahead, who may revoke tokens that are not seen, what is
--- done if a consent is given again, the kinds of redirection URIs, how many connections are open at
--- once, how many are served, and how long they are kept
+-- done if a consent is given again, the kinds of redirection URIs, who sees refresh tokens, what is
+-- required of challenges, how many connections are open at once, how many are served, and how long
+-- they are kept
 abbrev pub service_rules : List Rule
 service_rules =
     range_rule (codes "region") 1 greatest_region true
@@ -188,6 +189,8 @@ service_rules =
     ∷ word_rule (codes "revoke-unseen") (codes "any")
     ∷ word_rule (codes "consent") (codes "new")
     ∷ file_rule (codes "redirects") false
+    ∷ word_rule (codes "refresh-seen") (codes "all")
+    ∷ file_rule (codes "challenge") false
     ∷ number_rule (codes "connections") (codes "1024") greatest_connections
     ∷ range_rule (codes "requests") 0 greatest_requests false
     ∷ range_rule (codes "keep") 0 greatest_keep false

@@ -1,6 +1,7 @@
 -- The definitions of this crate:
 --   CommandLine   tokend_app, the command line as clap's contracts see it
 --   Choices       HasChoices, what a service does if the profile leaves a choice
+--   Challenges    rules_named, what is required of challenges by the words of an option
 --   Kinds         kinds_named, the kinds of redirection URIs by the words of an option
 --   Task          Asks, the task that the arguments request
 --   Draw          six, the random words of a connection
@@ -11,8 +12,8 @@
 --   Starting      IsStart, the start of a service; PrunesOld, its prune
 --   Serving       Announces, the lines before a service's first connection; IsServiceFault, what
 --                 may prevent it
---   Decisions     Decides, what a server decides of the bytes that have come
 --   Repeats       is_repeat, a refresh that is repeated
+--   Decisions     Decides, what a server decides of the bytes that have come
 --   Repeating     IsAsked, what a request asks if refreshes may be repeated
 --   Turns         AreTurns, what turns do to an edge, its log and the lines about faults
 --   Connection    IsConnection, what a connection of `loopback` does to an edge and its log
@@ -26,27 +27,28 @@
 --   FactsRun      PrintsFacts, what printing the facts of sources does
 --   CheckRun      ChecksFacts, what checking whether sources can be loaded does
 --   ProgramRun    IsDone, IsFaultFor: what a run of the program does
-pub mod CheckRun
-pub mod Choices
 pub mod CommandLine
-pub mod Connection
-pub mod Decisions
+pub mod Challenges
+pub mod Choices
+pub mod Kinds
+pub mod Task
 pub mod Draw
-pub mod FactsRun
+pub mod Telling
+pub mod Script
+pub mod Loading
+pub mod Starting
+pub mod Serving
+pub mod Repeats
+pub mod Decisions
+pub mod Repeating
+pub mod Turns
+pub mod Connection
+pub mod ServiceRun
 pub mod Growing
 pub mod KeptLog
-pub mod Kinds
-pub mod Loading
-pub mod LoopbackRun
-pub mod ProgramRun
-pub mod Repeating
-pub mod Repeats
-pub mod Script
-pub mod ScriptRun
-pub mod ServiceRun
-pub mod Serving
-pub mod Starting
 pub mod Status
-pub mod Task
-pub mod Telling
-pub mod Turns
+pub mod ScriptRun
+pub mod LoopbackRun
+pub mod FactsRun
+pub mod CheckRun
+pub mod ProgramRun

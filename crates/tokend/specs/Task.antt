@@ -29,7 +29,8 @@ use Rattle.clap.specs.declared.error.kind.ErrorKind.TheVariants.{
 use Rattle.tk_region.specs.SettingsFields.{SettingsFields}
 use Rattle.tokend.specs.CommandLine.{HasCheck, HasFlag, HasNumbers, HasService, HasSources}
 use Rattle.tokend.specs.CommandLine.{is_given, is_misnamed, tokend_app}
-use Rattle.tokend.specs.Choices.{is_consent_misnamed, is_unseen_misnamed}
+use Rattle.tokend.specs.Challenges.{are_rules_misnamed}
+use Rattle.tokend.specs.Choices.{is_consent_misnamed, is_refresh_seen_misnamed, is_unseen_misnamed}
 use Rattle.tokend.specs.Kinds.{are_misnamed}
 use Rattle.tokend.specs.declared.fault.Fault.{Fault}
 use Rattle.tokend.specs.declared.fault.Fault.TheVariants.{Memory, Words}
@@ -116,14 +117,16 @@ is_unplaced (Some found) = is_unplaced_in found.1
 abbrev pub lacks_option : Option (Text × List Row) → Bool
 lacks_option found = lacks_log found || is_unplaced found
 
--- the value of `--ahead`, `--revoke-unseen` or `--consent` is none of its words, or `--redirects`
--- has another word
+-- the value of `--ahead`, `--revoke-unseen`, `--consent` or `--refresh-seen` is none of its words,
+-- or `--redirects` or `--challenge` has another word
 abbrev pub has_misnamed : List Row → Bool
 has_misnamed rows =
     is_misnamed (first_of (codes "ahead") rows)
     || is_unseen_misnamed (first_of (codes "revoke-unseen") rows)
     || is_consent_misnamed (first_of (codes "consent") rows)
     || are_misnamed (first_of (codes "redirects") rows)
+    || is_refresh_seen_misnamed (first_of (codes "refresh-seen") rows)
+    || are_rules_misnamed (first_of (codes "challenge") rows)
 
 -- the subcommand has an option whose value is none of its words
 abbrev pub misnames_word : Option (Text × List Row) → Bool

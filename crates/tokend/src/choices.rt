@@ -1,16 +1,18 @@
-//! The options `--revoke-unseen`, `--consent` and `--redirects`: what a region does if the profile
-//! leaves a choice.
+//! The options `--revoke-unseen`, `--consent`, `--redirects`, `--refresh-seen` and `--challenge`:
+//! what a region does if the profile leaves a choice.
 
 ghost use Rattle.std.specs.Prelude.{◌≡◌, IfSome, IfNone, Some, codes, is_some};
 ghost use Rattle.clap.specs.Words.{first_of, found_of, rows_of, subcommand_rows_of};
 ghost use Rattle.tokend.specs.Choices.{HasChoices, consent_named, is_consent_misnamed};
 ghost use Rattle.tokend.specs.Choices.{IsNoChoice, is_unseen_misnamed, unseen_named};
+ghost use Rattle.tokend.specs.Choices.{is_refresh_seen_misnamed, refresh_seen_named};
 ghost use Rattle.tokend.specs.Task.{has_misnamed, misnames_word};
 
 use crate::ahead::is_ahead_misnamed;
+use crate::challenges::{are_rules_misnamed, read_rules};
 use crate::kinds::{are_kinds_misnamed, read_redirects};
 use clap::ArgMatches;
-use tk_message::{Choices, ConsentReuse, UnseenRevocation};
+use tk_message::{Choices, ConsentReuse, RefreshSeen, UnseenRevocation};
 
 // Returns the error text of the first option whose value is none of its words, if there is one.
 pub(crate) fn misnamed_word(matches: &ArgMatches<'_>) -> Option<&'static str>
@@ -37,6 +39,12 @@ fn misnamed_in(matches: &ArgMatches<'_>) -> Option<&'static str>
     }
     if are_kinds_misnamed(matches) {
         return Some("--redirects takes 'https', 'loopback' and 'app', with commas between");
+    }
+    if is_refresh_seen_misnamed(matches) {
+        return Some("--refresh-seen takes 'all' or 'client'");
+    }
+    if are_rules_misnamed(matches) {
+        return Some("--challenge takes 'all' and 'S256', with a comma between");
     }
     None
 }
@@ -66,10 +74,18 @@ pub(crate) fn read_choices(matches: &ArgMatches<'_>) -> Option<Choices>
     let Some(redirects) = read_redirects(matches) else {
         return None;
     };
+    let Some(refresh_seen) = read_refresh_seen(matches) else {
+        return None;
+    };
+    let Some(challenge) = read_rules(matches) else {
+        return None;
+    };
     Some(Choices {
         unseen,
         consent,
         redirects,
+        refresh_seen,
+        challenge,
     })
 }
 
@@ -130,6 +146,41 @@ fn consent_named(text: &str) -> Option<ConsentReuse>
     }
     if text == "held" {
         return Some(ConsentReuse::Held);
+    }
+    None
+}
+
+// Returns whether there is a `--refresh-seen` whose value is neither of the two.
+fn is_refresh_seen_misnamed(matches: &ArgMatches<'_>) -> bool
+    ensures { result ≡ is_refresh_seen_misnamed
+        (first_of (codes "refresh-seen") (rows_of (found_of matches.now))) }
+{
+    match matches.get_str("refresh-seen") {
+        Some(text) => refresh_seen_named(text).is_none(),
+        None => false,
+    }
+}
+
+// Reads who sees refresh tokens, if the value is one of the two.
+fn read_refresh_seen(matches: &ArgMatches<'_>) -> Option<RefreshSeen>
+    ensures { result
+        ≡ refresh_seen_named (first_of (codes "refresh-seen") (rows_of (found_of matches.now))) }
+{
+    match matches.get_str("refresh-seen") {
+        Some(text) => refresh_seen_named(text),
+        None => None,
+    }
+}
+
+// Returns who sees refresh tokens, by a value of `--refresh-seen`.
+fn refresh_seen_named(text: &str) -> Option<RefreshSeen>
+    ensures { result ≡ refresh_seen_named (Some text.now) }
+{
+    if text == "all" {
+        return Some(RefreshSeen::ByAll);
+    }
+    if text == "client" {
+        return Some(RefreshSeen::ByClient);
     }
     None
 }

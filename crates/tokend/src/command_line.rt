@@ -163,7 +163,7 @@ fn serve_command<'a>(alloc: Global) -> Result<Command<'a>, AllocError>
     let serve = Command::new(alloc, "serve").about(
         "Serves requests over HTTP, those of many connections at once",
     );
-    let choices: [Choice<'a>; 17] = [
+    let choices: [Choice<'a>; 19] = [
         ("region", Takes::Range(1, Service::GREATEST_REGION, true),
             "The number of the region that is served, 1 to 65535, like no other's and never used again [required]"),
         ("port", Takes::Range(0, Address::GREATEST_PORT, false),
@@ -190,6 +190,10 @@ fn serve_command<'a>(alloc: Global) -> Result<Command<'a>, AllocError>
             "What is given if a good consent is held: a new one, or the held one without a fact"),
         ("redirects", Takes::List,
             "The kinds of redirection URIs that a new client may have: https, loopback, app [default: every absolute URL]"),
+        ("refresh-seen", Takes::Word("all"),
+            "Who sees a refresh token at /introspect: all, its client and resource servers; or client, its client alone"),
+        ("challenge", Takes::List,
+            "What is required of PKCE: all, a challenge of every client; S256, that method [default: a challenge of public clients]"),
         ("connections", Takes::Number(Service::GREATEST_CONNECTIONS, "1024"),
             "How many connections are open at once at most, 1 to 65536"),
         ("requests", Takes::Range(0, Service::GREATEST_REQUESTS, false),

@@ -59,7 +59,7 @@ fn is_kind(word: &str) -> bool
 }
 
 // Returns whether the word is one of those between commas.
-fn lists(text: &str, word: &str) -> bool
+pub(crate) fn lists(text: &str, word: &str) -> bool
     ensures { result ≡ list_any (bytes_eq word.now) (spec.words_of text.now) }
 {
     text.split(',').any(|w| word == w)

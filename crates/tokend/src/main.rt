@@ -43,6 +43,7 @@ mod accepting;
 mod address;
 mod ahead;
 mod bind;
+mod challenges;
 mod check;
 mod choices;
 mod command_line;

@@ -87,7 +87,8 @@ pub fn regions_agree(world: &World)
 /// The regions stand for equal sets when the request arrives, and the moment is not before their
 /// horizons. Bytes that mean the same introspection request at the same moment get the same status
 /// and the same bytes. The regions' numbers and the random words don't matter, and neither does
-/// what each of them skipped.
+/// what each of them skipped. All regions of a world have the same settings: one choice of these
+/// counts, who sees refresh tokens.
 pub fn equal_facts_introspect_alike(
     world: &mut World,
     events: &[Event],
