@@ -56,6 +56,7 @@ mod fault;
 pub mod folder;
 mod kinds;
 mod leaving;
+mod limits;
 mod listen;
 mod load;
 mod log_file;
