@@ -16,7 +16,8 @@ ANY_PORT = "--port", "0"
 PAUSE = 0.2  # seconds between two questions whether it listens
 # what is passed unless TOKEND_OPTIONS has the option
 CHOICES = (("ahead", "refused"), ("revoke-unseen", "authenticated"), ("consent", "held"),
-           ("redirects", "https,loopback,app"), ("refresh-seen", "client"), ("keep", "60"))
+           ("redirects", "https,loopback,app"), ("refresh-seen", "client"), ("keep", "60"),
+           ("repeat", "10"))
 
 
 @contextlib.contextmanager

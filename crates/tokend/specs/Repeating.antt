@@ -11,6 +11,8 @@ use Rattle.tk_handle.specs.declared.handle.Handle.{Handle}
 use Rattle.tk_edge.specs.declared.edge.Served.{Served}
 use Rattle.tk_edge.specs.declared.edge.Served.TheVariants.{Nothing, Done}
 use Rattle.tk_edge.specs.declared.front.Taken.{Taken}
+use Rattle.tk_edge.specs.declared.hear.Arrival.{Arrival}
+use Rattle.tk_edge.specs.declared.hear.Arrival.TheVariants.{Request}
 use Rattle.tk_edge.specs.declared.reach.Reach.{Reach}
 use Rattle.tk_edge.specs.declared.tell.Fault.TheVariants.{Memory}
 use Rattle.tk_turn.specs.Outcomes.{goes_on}
@@ -43,6 +45,12 @@ abbrev pub IsRefreshOf : RequestFields → Refresh → Type 0
 IsRefreshOf request refresh =
     (refresh.request ≡ request) × (is_refresh_request request ≡ true)
     × (used_in request ≡ Some refresh.parent)
+
+-- what came is this refresh
+abbrev pub IsRefreshIn : Arrival → Refresh → Type 0
+IsRefreshIn came refresh =
+    (came ≡ Request refresh.request) × (is_refresh_request refresh.request ≡ true)
+    × (used_in refresh.request ≡ Some refresh.parent)
 
 -- A refresh repeats one that the server keeps, and gets this reply again.
 pub record IsAgain (server : Server) (reach : Reach) (bytes : List ℕ) (over : Bool)

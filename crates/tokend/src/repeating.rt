@@ -53,11 +53,21 @@ fn refresh_at(
     ensures { IfOk result (λ o. IfSome o (λ it. IsRefresh reach input.now is_over it.0 it.1)) }
 {
     match hear_front(alloc, reach, input, is_over) {
-        Ok(Front::Came(Arrival::Request(request), taken)) => {
-            Ok(with_taken(refresh_of(request), taken))
-        }
-        Ok(_) => Ok(None),
+        Ok(Front::Came(came, taken)) => Ok(with_taken(refresh_in(came), taken)),
+        Ok(Front::More) => Ok(None),
         Err(error) => Err(error),
+    }
+}
+
+// Returns the refresh that came, if one did.
+fn refresh_in(came: Arrival) -> Option<Refresh>
+    ensures { IfSome result (spec.IsRefreshIn came) }
+{
+    match came {
+        Arrival::Request(request) => refresh_of(request),
+        Arrival::Silence => None,
+        Arrival::Refused(_) => None,
+        Arrival::Exchange(_) => None,
     }
 }
 
