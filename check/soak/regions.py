@@ -13,7 +13,7 @@ from lib.site import Site
 from lib.waiting import until
 
 START = "../starter/tokend-start"
-SEEN = " --refresh-seen all"  # the model is of refresh tokens too
+SEEN = " --refresh-seen all --repeat 0"  # the model is of refresh tokens, and of their reuse
 FORM = "Content-Type: application/x-www-form-urlencoded"
 NUMBERS, WITNESS = 30_000, 65_000  # region numbers of all first folders; the witness's
 PATIENCE = 120  # seconds of a start
