@@ -13,6 +13,7 @@ from shared import (FIGURES, GET, SECONDS, Running, dot_of, dots_in, refreshing,
 
 CLIENTS, REGION = 4, 2
 MOST = 2000  # allocations of a turn
+TOKENS = "access_token", "refresh_token"
 
 
 class Refusing(unittest.TestCase):
@@ -75,3 +76,33 @@ class Refusing(unittest.TestCase):
 
     def test_all_from_one_on(self):
         self.sweep(FOR_GOOD)
+
+
+class Repeated(Refusing):
+    """Refreshes that are repeated: a reply again, or none, and the login stays."""
+
+    def wanted(self, server, replies, refused):
+        lost = replies.count(b"")
+        self.assertLessEqual(lost, refused)
+        for sent, first, said in zip(self.requests, self.first, replies):
+            for it in [said] * bool(said) + [server.ask(sent)]:
+                self.assertEqual(status_of(it), 200)
+                self.assertEqual([token_in(it, name) for name in TOKENS], first)
+        return lost
+
+    def sweep(self, span):
+        lost, at = 0, 0
+        with Server(self.lab, REGION, self.old, "--repeat 60") as server:
+            server.table.write(clock=0)
+            replies, _ = self.turn(server, 0, 0)
+            self.first = [[token_in(it, name) for name in TOKENS] for it in replies]
+            logged, refused = server.logged(), 1
+            while refused and at < MOST:
+                at += 1
+                replies, refused = self.turn(server, at, span)
+                with self.subTest(at=at):
+                    lost += self.wanted(server, replies, refused)
+            self.assertEqual(server.logged(), logged)
+            self.assertEqual(server.errors(), "fault memory\n" * lost)
+        self.assertLess(1, at)
+        return at - 1, lost

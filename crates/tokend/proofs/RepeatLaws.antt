@@ -3,23 +3,26 @@
 --   one_granted      a request that was a refresh, perhaps
 --   repeated_both    requests, one after the other
 --   found_parts      a refresh that was found is one that is kept, and is repeated
+--   granted_done     a request that was granted what it asked for
 --   forgets          what is left is of what was kept
-use Rattle.std.proofs.Common.{◌≡◌, ◌⊎◌, ℕ, ◌&&◌, Bool, true, false, cond, List, [], ◌∷◌, ◌++◌, length, drop, Option, Some, None, Result, Ok, Err, inl, inr, refl, sym, ap, subst, ◌∙◌}
-use Rattle.std.specs.Prelude.{find, nat_lt}
+use Rattle.std.proofs.Common.{◌≡◌, ◌⊎◌, ℕ, ◌&&◌, Bool, true, false, cond, List, [], ◌∷◌, ◌++◌, length, drop, Option, Some, None, Result, Ok, Err, inl, inr, refl, sym, ap, subst, ◌∙◌, arith}
+use Rattle.std.specs.Prelude.{◌<◌, find, nat_lt, slice_index_or}
 use Rattle.std.proofs.lemmas.Bool.{cases_Bool, cond-true, cond-false}
 use Rattle.tk_handle.specs.declared.dot.Dot.{Dot}
 use Rattle.tk_ledger.specs.Bodies.{is_same_dot}
 use Rattle.tk_edge.specs.declared.edge.Served.{Served}
-use Rattle.tk_edge.specs.declared.edge.Served.TheVariants.{Done}
+use Rattle.tk_edge.specs.declared.edge.Served.TheVariants.{Done, Nothing}
 use Rattle.tk_edge.specs.declared.front.Taken.{Taken}
 use Rattle.tk_edge.specs.declared.reach.Reach.{Reach}
 use Rattle.tk_edge.specs.declared.tell.Fault.{Fault}
 use Rattle.tk_grant.specs.Repeat.{is_again}
 use Rattle.tk_message.specs.RequestFields.{RequestFields}
+use Rattle.tk_message.specs.declared.status_code.StatusCode.{StatusCode}
 use Rattle.tk_message.specs.declared.status_code.StatusCode.TheVariants as code
 use Rattle.tk_turn.specs.Outcomes.{goes_on}
 use Rattle.tk_turn.specs.declared.service.Outcome.{Outcome}
 use Rattle.tokend.specs.Decisions.{Ending, kept_by, outcome_by}
+use Rattle.tokend.specs.Repeating.{is_granted, is_ok}
 use Rattle.tokend.specs.Repeats.{IsIn, MayRepeat, RepeatsFields, Repetition, forgotten, is_recent, is_repeat, kept_with, most_kept, with_granted, with_room}
 use Rattle.tokend.specs.Turns.{AreAmong, AreRepeated, AreRepeats, Endings, all_granted}
 use Rattle.tokend.specs.declared.repeats.Refreshed.{Refreshed}
@@ -51,6 +54,28 @@ stays_taken keeps taken outcome is on = and_second keeps taken.stays (sym (ap go
 
 pub closes_taken : (keeps : Bool) (taken : Taken) (outcome : Outcome) → outcome ≡ outcome_by keeps (Done code.Ok) taken → keeps ≡ false → goes_on outcome ≡ false
 closes_taken keeps taken outcome is off = ap goes_on is ∙ ap (λ b. b && taken.stays) off
+
+-- ---- what was granted
+
+wrong_status : false ≡ true → ⊥
+wrong_status e = cc
+
+ok_status : (status : StatusCode) → is_ok status ≡ true → status ≡ code.Ok
+ok_status code.Ok h = refl
+ok_status code.Created h = absurd (wrong_status h)
+ok_status code.Found h = absurd (wrong_status h)
+ok_status code.BadRequest h = absurd (wrong_status h)
+ok_status code.Unauthorized h = absurd (wrong_status h)
+ok_status code.NotFound h = absurd (wrong_status h)
+ok_status code.MethodNotAllowed h = absurd (wrong_status h)
+ok_status code.Conflict h = absurd (wrong_status h)
+ok_status code.LengthRequired h = absurd (wrong_status h)
+ok_status code.ContentTooLarge h = absurd (wrong_status h)
+ok_status code.ServiceUnavailable h = absurd (wrong_status h)
+
+pub granted_done : (served : Served) → is_granted served ≡ true → served ≡ Done code.Ok
+granted_done Nothing h = absurd (wrong_status h)
+granted_done (Done status) h = ap (λ (s : StatusCode). Done s) (ok_status status h)
 
 -- ---- lists of refreshes
 
@@ -113,6 +138,24 @@ forgets seconds now (x ∷ xs) it is = elim (cases_Bool (is_recent seconds now x
   | inl yes ↦ subst (IsIn it) (cond-true (is_recent seconds now x) (x ∷ xs) (forgotten seconds now xs) yes) is
   | inr no ↦ inr (forgets seconds now xs it (subst (IsIn it) (cond-false (is_recent seconds now x) (x ∷ xs) (forgotten seconds now xs) no) is))
 ]
+
+-- the oldest one goes, if it wasn't granted lately
+pub forgotten_first : (seconds now : ℕ) (x : Refreshed) (k : List Refreshed) → x ≡ slice_index_or k 0 x → 0 < length k → is_recent seconds now x ≡ false
+    → forgotten seconds now (drop 1 k) ≡ forgotten seconds now k
+forgotten_first seconds now x [] at some old = absurd (omega (arith, some))
+forgotten_first seconds now x (y ∷ ys) at some old =
+    sym (cond-false (is_recent seconds now y) (y ∷ ys) (forgotten seconds now ys) (sym (ap (is_recent seconds now) at) ∙ old))
+
+-- none goes, if the oldest one was granted lately
+pub forgotten_none : (seconds now : ℕ) (x : Refreshed) (k : List Refreshed) → x ≡ slice_index_or k 0 x → 0 < length k → is_recent seconds now x ≡ true
+    → forgotten seconds now k ≡ k
+forgotten_none seconds now x [] at some lately = absurd (omega (arith, some))
+forgotten_none seconds now x (y ∷ ys) at some lately =
+    cond-true (is_recent seconds now y) (y ∷ ys) (forgotten seconds now ys) (sym (ap (is_recent seconds now) at) ∙ lately)
+
+pub forgotten_empty : (seconds now : ℕ) (k : List Refreshed) → length k ≡ 0 → forgotten seconds now k ≡ k
+forgotten_empty seconds now [] none = refl
+forgotten_empty seconds now (y ∷ ys) none = absurd (omega (arith, none))
 
 -- ---- requests
 

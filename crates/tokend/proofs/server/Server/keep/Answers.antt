@@ -1,0 +1,21 @@
+use Rattle.std.proofs.Common.{◌≡◌, true, None, Some, inl, inr, refl, sym, ap, subst, rules}
+use Rattle.std.proofs.lemmas.Bool.{cases_Bool}
+use Rattle.tokend.specs.Repeating.{IsKept, is_granted}
+use Rattle.tokend.specs.Repeats.{RepeatsFields, granted_at}
+use Rattle.tokend.specs.declared.server.Server.{Server}
+use Rattle.tokend.proofs.RepeatLaws.{granted_done}
+use Rattle.tokend.proofs.server.Server.keep.Goals as goal
+
+pub returns : goal.returns
+returns c =
+    let old = c.args.self.now in
+    let it = granted_at c.in-Some.refresh old.now c.args.dot c.args.words.now in
+    let granted : is_granted c.args.served ≡ true = search rules in
+    elim (cases_Bool c.keep.result) [
+      | inl yes ↦ (
+        Some it,
+        subst (λ o. IsKept o c.args.served old.now c.args.dot c.args.words.now (Some it)) (sym c.in-Some.is) (refl, granted_done c.args.served granted),
+        ap (λ (r : RepeatsFields). record old { repeats = r }) (c.keep.ensures.kept yes),
+      )
+      | inr no ↦ (None, tt, ap (λ (r : RepeatsFields). record old { repeats = r }) (c.keep.ensures.short no))
+    ]
