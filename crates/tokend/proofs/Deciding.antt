@@ -7,10 +7,12 @@
 --   may_stay        a connection stays only behind a request that lets it
 --   served_ends     a server decides a request that was served
 --   fault_ends      a server decides a request that ended by a fault
+--   short_decides   a server ends a connection, because memory is short
+--   again_decides   a server gives a reply again
 use Rattle.std.proofs.Common.{◌≡◌, ℕ, ◌+◌, ◌≤◌, Bool, true, false, List, [], ◌++◌, append-nil, length, take, drop, Option, Some, None, Result, Ok, Err, inl, inr, refl, sym, ap, subst, ◌∙◌, arith}
 use Rattle.std.specs.Prelude.{◌<◌, ◌&&◌}
 use Rattle.std.specs.Io.KnownBytes.{Appends, Keeps}
-use Rattle.std.specs.Prelude.{is_some}
+use Rattle.std.specs.Prelude.{IfSome, is_some}
 use Rattle.std.proofs.Math.Seq.{drop-append_seam, take-append_seam}
 use Rattle.std.proofs.lemmas.List.{append_cancel_left, length-append}
 use Rattle.rand_chacha.specs.ChaCha.{ChaCha}
@@ -27,6 +29,7 @@ use Rattle.tk_edge.specs.Served.{Asked, IsServed, IsTurnedAway, RepliesTo, RunsO
 use Rattle.tk_edge.specs.Told.{AnswerFields, Change, IsTold}
 use Rattle.tk_edge.specs.declared.ahead.PushError.{PushError}
 use Rattle.tk_edge.specs.declared.hear.Arrival.{Arrival}
+use Rattle.tk_edge.specs.declared.hear.Arrival.TheVariants.{Request}
 use Rattle.tk_edge.specs.declared.edge.Served.{Served}
 use Rattle.tk_edge.specs.declared.edge.Served.TheVariants.{Nothing, Done}
 use Rattle.tk_edge.specs.declared.front.Taken.{Taken}
@@ -518,6 +521,21 @@ short_decides old bytes over outcome new untold h = subst (λ o. Decides old byt
   where
     moved_same : (old new : Server) (end : Result Served Fault) (left : ℕ) → new ≡ moved_on old end old.edge None left → new ≡ moved_on old end new.edge None left
     moved_same old new end left is = is ∙ ap (λ e. moved_on old end e None left) (sym (ap (λ (s : Server). s.edge) is))
+
+-- a request that was given a reply again took some bytes, if its connection stays
+pub again_some : (old : Server) (bytes : List ℕ) (over : Bool) (outcome : Outcome) (reply before after : List ℕ) (taken : Taken) (new : Server)
+    → IsAgain old (reach_by old.has_inner old.is_inner) bytes over reply taken → GivesAgain old taken reply outcome before after new → goes_on outcome ≡ true → 0 < taken_of outcome
+again_some old bytes over outcome reply before after taken new again (inr h) on = absurd (clash (sym on ∙ ap goes_on h.1.0))
+again_some old bytes over outcome reply before after taken new again (inl h) on =
+    let come = again.repeated.came.came in
+    subst (λ o. 0 < taken_of o) (sym h.is_outcome)
+    (some_taken (reach_by old.has_inner old.is_inner) bytes (Request again.repeated.refresh.request) taken come.takes (both_true old.keeps taken.stays (sym (ap goes_on h.is_outcome) ∙ on)))
+
+-- and it took no more than there were
+pub again_within : (old : Server) (bytes : List ℕ) (over : Bool) (outcome : Outcome) (reply before after : List ℕ) (taken : Taken) (new : Server)
+    → IsAgain old (reach_by old.has_inner old.is_inner) bytes over reply taken → GivesAgain old taken reply outcome before after new → taken_of outcome ≤ length bytes
+again_within old bytes over outcome reply before after taken new again (inr h) = subst (λ o. taken_of o ≤ length bytes) (sym h.1.0) (omega arith)
+again_within old bytes over outcome reply before after taken new again (inl h) = subst (λ o. taken_of o ≤ length bytes) (sym h.is_outcome) again.repeated.came.came.within
 
 -- the reply to a refresh was given again
 pub again_decides : (old : Server) (bytes : List ℕ) (over : Bool) (outcome : Outcome) (reply before after : List ℕ) (taken : Taken) (new : Server) → old.fault ≡ None

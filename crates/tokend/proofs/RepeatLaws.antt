@@ -124,19 +124,19 @@ same_some x it e = cc
 pub found_parts : (p : Refreshed → Bool) (k : List Refreshed) (it : Refreshed) → find p k ≡ Some it → IsIn it k × (p it ≡ true)
 found_parts p [] it h = absurd (none_some it h)
 found_parts p (x ∷ xs) it h = elim (cases_Bool (p x)) [
-  | inl yes ↦
-      let same : x ≡ it = same_some x it (sym (cond-true (p x) (Some x) (find p xs) yes) ∙ h) in
-      (inl same, subst (λ y. p y ≡ true) same yes)
-  | inr no ↦
-      let rest = found_parts p xs it (sym (cond-false (p x) (Some x) (find p xs) no) ∙ h) in
+  | inl holds ↦
+      let same : x ≡ it = same_some x it (sym (cond-true (p x) (Some x) (find p xs) holds) ∙ h) in
+      (inl same, subst (λ y. p y ≡ true) same holds)
+  | inr fails ↦
+      let rest = found_parts p xs it (sym (cond-false (p x) (Some x) (find p xs) fails) ∙ h) in
       (inr rest.0, rest.1)
 ]
 
 pub forgets : (seconds now : ℕ) (k : List Refreshed) → AreAmong (forgotten seconds now k) k
 forgets seconds now [] it is = is
 forgets seconds now (x ∷ xs) it is = elim (cases_Bool (is_recent seconds now x)) [
-  | inl yes ↦ subst (IsIn it) (cond-true (is_recent seconds now x) (x ∷ xs) (forgotten seconds now xs) yes) is
-  | inr no ↦ inr (forgets seconds now xs it (subst (IsIn it) (cond-false (is_recent seconds now x) (x ∷ xs) (forgotten seconds now xs) no) is))
+  | inl holds ↦ subst (IsIn it) (cond-true (is_recent seconds now x) (x ∷ xs) (forgotten seconds now xs) holds) is
+  | inr fails ↦ inr (forgets seconds now xs it (subst (IsIn it) (cond-false (is_recent seconds now x) (x ∷ xs) (forgotten seconds now xs) fails) is))
 ]
 
 -- the oldest one goes, if it wasn't granted lately

@@ -1,4 +1,4 @@
-use Rattle.std.proofs.Common.{◌≡◌, ◌×◌, length}
+use Rattle.std.proofs.Common.{◌≡◌, length}
 use Rattle.tokend.specs.Repeats.{forgotten}
 use Rattle.tokend.proofs.repeats.Repeats.forget.Given as goal
 

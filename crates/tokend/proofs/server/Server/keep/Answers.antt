@@ -12,10 +12,10 @@ returns c =
     let it = granted_at c.in-Some.refresh old.now c.args.dot c.args.words.now in
     let granted : is_granted c.args.served ≡ true = search rules in
     elim (cases_Bool c.keep.result) [
-      | inl yes ↦ (
+      | inl held ↦ (
         Some it,
         subst (λ o. IsKept o c.args.served old.now c.args.dot c.args.words.now (Some it)) (sym c.in-Some.is) (refl, granted_done c.args.served granted),
-        ap (λ (r : RepeatsFields). record old { repeats = r }) (c.keep.ensures.kept yes),
+        ap (λ (r : RepeatsFields). record old { repeats = r }) (c.keep.ensures.kept held),
       )
-      | inr no ↦ (None, tt, ap (λ (r : RepeatsFields). record old { repeats = r }) (c.keep.ensures.short no))
+      | inr lost ↦ (None, tt, ap (λ (r : RepeatsFields). record old { repeats = r }) (c.keep.ensures.short lost))
     ]

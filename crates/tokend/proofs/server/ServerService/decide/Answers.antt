@@ -1,3 +1,28 @@
-use Rattle.std.proofs.Common.{sym, ◌∙◌}
-use Rattle.tokend.proofs.Deciding.{again_decides, none_of, short_decides}
+use Rattle.std.proofs.Common.{[], append-nil, sym, ◌∙◌}
+use Rattle.tokend.proofs.Deciding.{again_decides, again_some, again_within, none_of, short_decides}
 use Rattle.tokend.proofs.server.ServerService.decide.Goals as goal
+
+pub returns-in-Again-clause-within : goal.returns-in-Again-clause-within
+returns-in-Again-clause-within c =
+    again_within c.args.self.now c.args.input.now c.args.is_over c.reply_again.result c.in-Again.reply.items c.args.replies.now.items c.reply_again.new.replies.items c.in-Again.taken c.reply_again.new.self
+    c.in-Again.ensures c.reply_again.ensures
+
+pub returns-in-Again-clause-some : goal.returns-in-Again-clause-some
+returns-in-Again-clause-some c =
+    again_some c.args.self.now c.args.input.now c.args.is_over c.reply_again.result c.in-Again.reply.items c.args.replies.now.items c.reply_again.new.replies.items c.in-Again.taken c.reply_again.new.self
+    c.in-Again.ensures c.reply_again.ensures
+
+pub returns-in-Again-clause-decided : goal.returns-in-Again-clause-decided
+returns-in-Again-clause-decided c =
+    let h = again_decides c.args.self.now c.args.input.now c.args.is_over c.reply_again.result c.in-Again.reply.items c.args.replies.now.items c.reply_again.new.replies.items c.in-Again.taken c.reply_again.new.self
+    (none_of _ (sym c.is_some.ensures ∙ c.if-is_some.false)) c.in-Again.ensures c.reply_again.ensures in
+    (h.0, [], h.1, h.2, sym (append-nil c.args.records.now.items))
+
+pub returns-in-Short-clause-decided : goal.returns-in-Short-clause-decided
+returns-in-Short-clause-decided c = (
+  [],
+  [],
+  short_decides c.args.self.now c.args.input.now c.args.is_over c.fall_short.result c.fall_short.new.self (none_of _ (sym c.is_some.ensures ∙ c.if-is_some.false)) c.fall_short.ensures,
+  sym (append-nil c.args.replies.now.items),
+  sym (append-nil c.args.records.now.items),
+)
