@@ -6,10 +6,10 @@
 --   kept_with       one more that is kept
 --   forgotten       without the oldest ones that weren't granted lately
 --   IsRefresh       a refresh came at the front of some bytes
---   IsGrantOf       the refresh that is kept of a request, if it was granted
+--   granted_at      the refresh that is kept of a request
 --   Repetition      a refresh that was repeated, and when
 --   IsRepeated      a refresh is repeated, and gets its reply again
---   AreRepeats      what was repeated had been granted lately
+--   MayRepeat       what was repeated had been granted lately
 use Rattle.std.specs.Prelude.{◌≡◌, ◌≢◌, ◌⊎◌, ⊤, ℕ, ◌-◌, Bool, true, ◌&&◌, nat_le, nat_lt, List, [], ◌∷◌, ◌++◌, length}
 use Rattle.std.specs.Prelude.{drop, codes, Option, Some, None, if◌then◌else◌}
 use Rattle.std.specs.Option.{option_and_then, option_map}
