@@ -123,12 +123,19 @@ impl Server {
         if self.repeats.seconds == 0 || !input.starts_with(b"POST /token") {
             return Asked::Other;
         }
-        let reach = reach(self.has_inner, self.is_inner);
+        let reach = self.reached();
         match refresh_at(self.alloc, reach, input, is_over) {
             Ok(Some((refresh, taken))) => self.ask_refresh(refresh, taken),
             Ok(None) => Asked::Other,
             Err(_) => Asked::Short,
         }
+    }
+
+    // Returns which paths the requests of the socket reach.
+    fn reached(&self) -> Reach
+        ensures { result ≡ reach_by self.entry.now.has_inner self.entry.now.is_inner }
+    {
+        reach(self.has_inner, self.is_inner)
     }
 
     // Returns what a refresh asks: a reply again, if it repeats one that was granted.
