@@ -12,7 +12,7 @@ OPTION = r"^ +(?:-\w, )?--([\w-]+)(?: <(\w+)>)?((?:.*\n(?! *(?:-\w, )?--))*.*)"
 OF_PAGE = r"^\.TP\n\.BI? --([\w-]+)(?: +\w+)?\n((?:(?!\.TP|\.S[SH]).*\n?)*)"
 FLAG = None, "off"  # an option without a value
 CHOICES = ("ahead", "revoke-unseen", "consent")  # options whose value is one of some words
-LISTS = ("redirects",)  # options whose value is some words with commas between
+LISTS = ("range", "accept", "redirects")  # options whose value is some words with commas between
 SPELLINGS = {"no log": "none", "without end": "none"}
 
 

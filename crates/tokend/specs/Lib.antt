@@ -2,6 +2,7 @@
 --   CommandLine   tokend_app, the command line as clap's contracts see it
 --   Choices       HasChoices, what a service does if the profile leaves a choice
 --   Kinds         kinds_named, the kinds of redirection URIs by the words of an option
+--   Ranges        range_named and accepted_named, the region numbers of sites; terms_of a push
 --   Task          Asks, the task that the arguments request
 --   Draw          six, the random words of a connection
 --   Telling       Writes, what lines about faults leave of their writer
@@ -27,6 +28,7 @@
 pub mod CommandLine
 pub mod Choices
 pub mod Kinds
+pub mod Ranges
 pub mod Task
 pub mod Draw
 pub mod Telling

@@ -63,6 +63,8 @@ mod losses;
 mod options;
 mod program;
 pub mod promises;
+mod pushes;
+mod ranges;
 mod records;
 mod script;
 mod serve;
