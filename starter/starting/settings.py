@@ -33,12 +33,18 @@ class Settings(typing.NamedTuple):
     folder: str
     places: Places
     numbers: range
+    accepted: str
     tokend: str
     options: list
     peers: list
     seconds: int
     margin: typing.Optional[int]
     patience: int
+
+    def ranges(self):
+        """The options of the server for the site's numbers, and for those of all sites."""
+        own = ["--range", "%d-%d" % (self.numbers[0], self.numbers[-1])]
+        return own + (["--accept", self.accepted] if self.accepted else [])
 
     def prune(self):
         """The moment up to which a run is pruned that starts now; None for no prune."""
@@ -131,7 +137,7 @@ def read(environ, arguments):
     seconds = environ.get("TOKEND_PEER_SECONDS", str(SECONDS))
     return Settings(
         os.path.abspath(folder), places_of(environ), range(first, last + 1),
-        command(environ.get("TOKEND") or "tokend"), environ.get("TOKEND_OPTIONS", "").split(),
-        peers_of(environ),
+        environ.get("TOKEND_ACCEPT", ""), command(environ.get("TOKEND") or "tokend"),
+        environ.get("TOKEND_OPTIONS", "").split(), peers_of(environ),
         number(seconds, 0, 86_400, "TOKEND_PEER_SECONDS"), margin_of(environ),
         number(environ.get("TOKEND_AHEAD_SECONDS") or "0", 0, 86_400, "TOKEND_AHEAD_SECONDS"))
