@@ -13,7 +13,8 @@ OF_PAGE = r"^\.TP\n\.BI? --([\w-]+)(?: +\w+)?\n((?:(?!\.TP|\.S[SH]).*\n?)*)"
 FLAG = None, "off"  # an option without a value
 # options whose value is one of some words
 CHOICES = ("ahead", "revoke-unseen", "consent", "refresh-seen")
-LISTS = ("redirects", "challenge")  # options whose value is some words with commas between
+# options whose value is some words with commas between
+LISTS = ("range", "accept", "redirects", "challenge")
 SPELLINGS = {"no log": "none", "without end": "none"}
 
 

@@ -10,8 +10,10 @@ import re
 import urllib.parse
 
 from lib.cases import Case
-from lib.facts import MARK, client, clients, dot, mark, text
+from lib.facts import MARK, bundle, client, clients, dot, mark, retirement, text
+from lib.waiting import until
 
+STARTER = "../starter/tokend-start"
 GREATEST = 253_402_300_799  # the last moment there is
 BUSY = (503, b'{"error":"temporarily_unavailable"}')
 
@@ -113,11 +115,17 @@ class ByPeers(Case):
         self.assertEqual(self.carry(one.url, two.url)[0], 0)
         self.assertEqual(two.page().facts, 0)
 
-    def test_a_fact_at_the_end_of_a_range_uses_all_numbers_up(self):
-        it = self.site(1, count=9, script="../starter/tokend-start")
-        self.assertEqual(it.push(clients(9, 1))[0], 200)
-        it.stop()
-        self.assertEqual(it.begin(script="../starter/tokend-start").child.wait(30), 5)
+    def test_a_fact_near_the_end_of_a_range_uses_all_numbers_up(self):
+        """A start counts a number up to 64 above all others, if a peer took facts of it."""
+        one, two = self.site(1, count=9, script=STARTER), self.tokend(50, *clients(9, 1))
+        one.stop()
+        again = one.begin(script=STARTER, before=("env", "TOKEND_PEERS=" + two.url))
+        self.assertEqual(again.child.wait(30), 5)
+
+    def test_marks_take_memory_under_any_number(self):
+        it = self.tokend(1)
+        for number in range(2, 102):
+            self.assertEqual(it.push([mark(number, 2**62)], 0), (200, b'{"took":1}'))
 
     def test_two_facts_at_one_dot_stay_apart(self):
         one, two = self.tokend(1, client(3, 1, b"read")), self.tokend(2, client(3, 1, b"write"))
@@ -194,3 +202,41 @@ class Refused(Case):
         self.assertIn("1 facts in 1 pages, 1 new, 1 waiting, 1 marks", output)
         self.assertEqual(two.held(), [client(3, 1)])
         self.assertEqual(two.ask("/admin/client?client_id=c3-1")[0], 200)
+
+
+class OutOfRange(Case):
+    """By whoever may push, at sites of tokend-start, which passes --range."""
+
+    REFUSED = 409, b'{"error":"out_of_range"}'
+
+    def again(self, site, *before):
+        """The region number of the next run, by the id of a client that is added."""
+        site.stop()
+        site.begin(script=STARTER, before=before)
+        self.assertTrue(until(site.is_up), site.said())
+        said = site.ask("/admin/client", b"kind=public&scope=read&redirects=https://a.test/")[1]
+        return int(re.search(rb"c([0-9]+)-", said)[1])
+
+    def test_a_fact_of_29_bytes_uses_no_number_up(self):
+        sent = bundle([retirement((8191, 1), (1, 1))])
+        self.assertEqual(len(sent), 29)
+        it = self.site(1, count=8191, script=STARTER)
+        self.assertEqual(it.ask("/sync/push", sent), self.REFUSED)
+        self.assertEqual(it.held(), [])
+        self.assertEqual(self.again(it), 2)
+
+    def test_a_fact_that_a_peer_took_uses_no_number_up(self):
+        one, two = self.site(1, count=8191, script=STARTER), self.tokend(50, *clients(8191, 1))
+        self.assertEqual(self.again(one, "env", "TOKEND_PEERS=" + two.url), 2)
+        self.assertIn("there are facts of the number 8191, far above all others", one.said())
+
+    def test_marks_of_all_numbers_use_none_up(self):
+        """A mark of each number, in 794 KB, to a site that knows which numbers there are."""
+        accept = "env", "TOKEND_ACCEPT=1-8191,50000-50009"
+        it = self.site(1, count=8191, script=STARTER, before=accept)
+        for first in range(2, 65536, 128):
+            sent = [mark(number, 1) for number in range(first, min(first + 128, 65536))]
+            self.assertEqual(it.push(sent, 0), self.REFUSED)
+        self.assertEqual(it.held(), [])
+        self.assertEqual(it.push([mark(number, 1) for number in range(50000, 50010)], 0)[0], 200)
+        self.assertEqual(self.again(it, *accept), 2)

@@ -134,6 +134,11 @@ class Bundle:
         """The bundle of the facts, without the marks and the horizon."""
         return Bundle(tuple(it for it in self.items if len(it) > MARK))
 
+    def without(self, numbers: set[int]) -> Bundle:
+        """The bundle of the items that are under none of these region numbers."""
+        items = tuple(it for it in self.items if read_dot(it).region not in numbers)
+        return Bundle(items, self.horizon if _version(items) == MARKS else None)
+
     def halves(self) -> tuple[Bundle, Bundle]:
         middle = len(self.items) // 2
         return self.part(0, middle), self.part(middle, len(self.items))

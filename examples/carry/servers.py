@@ -19,7 +19,7 @@ import sys
 import threading
 import time
 from concurrent.futures import ThreadPoolExecutor
-from dataclasses import dataclass
+from dataclasses import dataclass, field
 from pathlib import Path
 from typing import Callable, Iterator, Optional, TypeVar
 
@@ -60,6 +60,10 @@ class Refused(Exception):
 
 class Ahead(Refused):
     """A bundle whose horizon is later than the server's clock."""
+
+
+class OutOfRange(Refused):
+    """A bundle with an item under a number that the server doesn't take."""
 
 
 class Silent(Exception):
@@ -216,6 +220,8 @@ class Server:
         reply = self._ask(path, bundle.write())
         if reply.status == 409 and reply.error == "horizon_ahead":
             raise Ahead("409 horizon_ahead")
+        if reply.status == 409 and reply.error == "out_of_range":
+            raise OutOfRange("409 out_of_range")
         if reply.status == 413 or (reply.status in (400, 409) and reply.error):
             raise Refused(("%d %s" % (reply.status, reply.error)).rstrip())
         took = re.fullmatch(rb'\{"took":(\d{1,3})\}\s*', reply.body)
@@ -352,6 +358,8 @@ class Pushed:
     new: int = 0  # dots that the server didn't know
     refused: int = 0  # items
     waiting: int = 0  # marks whose horizon is later than the server's clock
+    left_out: int = 0  # items under numbers that the server doesn't take
+    numbers: set[int] = field(default_factory=set)  # those numbers
 
 
 def push_all(target: Server, bundle: Bundle, pushed: Pushed,
@@ -359,8 +367,14 @@ def push_all(target: Server, bundle: Bundle, pushed: Pushed,
     """Pushes a bundle. A refused one is sent again in halves, down to single items.
 
     So a refused item holds no other back. If the bundle's horizon is later than the server's clock,
-    its facts are pushed alone: its marks wait for a later run.
+    its facts are pushed alone: its marks wait for a later run. A number that the server doesn't
+    take is named once, and its other items are left out.
     """
+    taken = bundle.without(pushed.numbers)
+    pushed.left_out += len(bundle.items) - len(taken.items)
+    if not taken.items:
+        return
+    bundle = taken
     try:
         pushed.new += target.push(bundle)
         return
@@ -371,6 +385,14 @@ def push_all(target: Server, bundle: Bundle, pushed: Pushed,
         if bundle.facts:
             push_all(target, bundle.facts_alone(), pushed, complain)
         return
+    except OutOfRange as refusal:
+        why = str(refusal)
+        if len(bundle.items) == 1:
+            number = read_dot(bundle.cursor).region
+            complain("%s takes no facts of number %d: %s" % (target.url, number, why))
+            pushed.numbers.add(number)
+            pushed.left_out += 1
+            return
     except Refused as refusal:
         why = str(refusal)
     if len(bundle.items) == 1:
@@ -378,9 +400,9 @@ def push_all(target: Server, bundle: Bundle, pushed: Pushed,
         complain("%s refuses %s%s: %s" % (target.url, "the mark " if bundle.marks else "",
                                           read_dot(bundle.cursor), why))
         return
-    before = pushed.refused
+    before = pushed.refused, pushed.left_out
     for half in bundle.halves():
         push_all(target, half, pushed, complain)
-    if pushed.refused == before:
+    if (pushed.refused, pushed.left_out) == before:
         complain("%s refuses %d items at once, %s, and takes them in parts"
                  % (target.url, len(bundle.items), why))

@@ -18,6 +18,10 @@ PAUSE = 0.2  # seconds between two questions whether it listens
 CHOICES = (("ahead", "refused"), ("revoke-unseen", "authenticated"), ("consent", "held"),
            ("redirects", "https,loopback,app"), ("refresh-seen", "client"), ("keep", "60"),
            ("repeat", "10"))
+# options that TOKEND_OPTIONS can't have, and what stands for them
+INSTEAD = (("inner", "name that socket by TOKEND_INNER"),
+           ("range", "name these numbers by TOKEND_FIRST and TOKEND_LAST"),
+           ("accept", "name these numbers by TOKEND_ACCEPT"))
 
 
 @contextlib.contextmanager
@@ -41,11 +45,12 @@ def said_of(name, options):
 def words(settings, number, places, load, log, secret, prune):
     pruned = [] if prune is None else ["--prune", str(prune)]
     choices = CHOICES + (("challenge", settings.challenge),) * bool(settings.challenge)
+    ranges = settings.ranges() if number in settings.numbers else []
     chosen = [word for name, value in choices if not said_of(name, settings.options)
               for word in ("--" + name, value)]
     return [settings.tokend, "serve", "--region", str(number), *places,
             "--seed", "/dev/fd/%d" % secret, "--load", load, "--log", log, "--log-taken",
-            *pruned, *chosen, *settings.options]
+            *pruned, *ranges, *chosen, *settings.options]
 
 
 def tried(settings, number, load, prune=None):
@@ -62,8 +67,9 @@ def tried(settings, number, load, prune=None):
 
 def check_options(settings):
     """Stops if the program refuses the options, or would do something else than serve."""
-    if any(re.match("--inner(=|$)", it) for it in settings.options):
-        raise Stop(SETTINGS, "the options are refused\n--inner: name that socket by TOKEND_INNER")
+    for name, instead in INSTEAD:
+        if any(re.match("--%s(=|$)" % name, it) for it in settings.options):
+            raise Stop(SETTINGS, "the options are refused\n--%s: %s" % (name, instead))
     done = tried(settings, settings.numbers[0], NOTHING, settings.prune())
     if done.returncode == 2:
         raise Stop(SETTINGS, "the options are refused\n" + done.stderr.strip())

@@ -33,6 +33,7 @@ class Settings(typing.NamedTuple):
     folder: str
     places: Places
     numbers: range
+    accepted: str
     tokend: str
     options: list
     challenge: str
@@ -40,6 +41,11 @@ class Settings(typing.NamedTuple):
     seconds: int
     margin: typing.Optional[int]
     patience: int
+
+    def ranges(self):
+        """The options of the server for the site's numbers, and for those of all sites."""
+        own = ["--range", "%d-%d" % (self.numbers[0], self.numbers[-1])]
+        return own + (["--accept", self.accepted] if self.accepted else [])
 
     def prune(self):
         """The moment up to which a run is pruned that starts now; None for no prune."""
@@ -132,7 +138,8 @@ def read(environ, arguments):
     seconds = environ.get("TOKEND_PEER_SECONDS", str(SECONDS))
     return Settings(
         os.path.abspath(folder), places_of(environ), range(first, last + 1),
-        command(environ.get("TOKEND") or "tokend"), environ.get("TOKEND_OPTIONS", "").split(),
-        environ.get("TOKEND_CHALLENGE", ""), peers_of(environ),
+        environ.get("TOKEND_ACCEPT", ""), command(environ.get("TOKEND") or "tokend"),
+        environ.get("TOKEND_OPTIONS", "").split(), environ.get("TOKEND_CHALLENGE", ""),
+        peers_of(environ),
         number(seconds, 0, 86_400, "TOKEND_PEER_SECONDS"), margin_of(environ),
         number(environ.get("TOKEND_AHEAD_SECONDS") or "0", 0, 86_400, "TOKEND_AHEAD_SECONDS"))

@@ -21,6 +21,8 @@ import re
 from starting.bundles import Held, NoBundle, whole_bytes
 from starting.stop import HELD, NO_NUMBER, SETTINGS, Stop, no_log
 
+MOST_AHEAD = 64  # how far above all others a number may be that facts are seen of
+
 
 def sync(path):
     """Makes the bytes of a file last, or the names in a folder."""
@@ -147,13 +149,22 @@ class Site:
         return {int(it[1]) for name in names if (it := re.match(r"0*([0-9]{1,5})\b", name))}
 
     def next_number(self, numbers, seen):
-        """The number above all of the site's that were taken, or that facts were seen of."""
-        used = {self.last_number()} | self.numbers_of_logs() | set(seen)
-        number = max((it for it in used if it in numbers), default=numbers[0] - 1) + 1
-        if number not in numbers:
+        """The number above all of the site's that were taken, or that facts were seen of.
+
+        A number that facts were seen of isn't counted if it is far above all others: whoever may
+        push can make it up. Returns the number, and those that weren't counted.
+        """
+        taken = {self.last_number()} | self.numbers_of_logs()
+        top = max((it for it in taken if it in numbers), default=numbers[0] - 1)
+        others = []
+        for it in sorted(it for it in seen if it in numbers):
+            if it > top + MOST_AHEAD:
+                others.append(it)
+            top = top if others else max(top, it)
+        if top + 1 not in numbers:
             raise Stop(NO_NUMBER, "all numbers from %d to %d are used" % (
                 numbers[0], numbers[-1]))
-        return number
+        return top + 1, others
 
     def take(self, number):
         """Takes a number for good, and makes its log: returns the log's path."""

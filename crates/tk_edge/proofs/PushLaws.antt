@@ -3,20 +3,22 @@
 --   begun             the log failed, and has a beginning of the record
 --   refused_lost      RefusedIsLost
 --   taken_as          TakesAsRegion
-use Rattle.std.proofs.Common.{◌≡◌, ◌≢◌, ℕ, Bool, true, false, List, Option, None, Some, Result, Ok, Err, refl, subst}
+--   all_accepted      AcceptsAll
+use Rattle.std.proofs.Common.{◌≡◌, ◌≢◌, ◌⊎◌, inl, inr, ℕ, Bool, false, List, [], ◌∷◌, Option, None, Some, Result, Ok, Err, refl, subst, ap}
 use Rattle.std.specs.Io.KnownBytes.{Appends}
 use Rattle.tk_put.specs.Put.{AppendsFront}
 use Rattle.tk_message.specs.declared.status_code.StatusCode.{StatusCode}
 use Rattle.tk_format.specs.Format.{whole}
 use Rattle.tk_bundle.specs.Bundle.{bundle}
-use Rattle.tk_bundle.specs.BundleFields.{BundleFields}
+use Rattle.tk_bundle.specs.BundleFields.{Items}
 use Rattle.tk_region.specs.declared.take.TakeError.{TakeError}
 use Rattle.tk_region.specs.declared.take.TakeError.TheVariants as take
-use Rattle.tk_edge.specs.Ahead.{is_refused, lifted}
+use Rattle.tk_edge.specs.Ahead.{first_refusal, lifted}
 use Rattle.tk_edge.specs.Exchanges.{PushesBy, TakesBundle}
-use Rattle.tk_edge.specs.Laws.{RefusedIsLost, TakesAsRegion}
+use Rattle.tk_edge.specs.Laws.{AcceptsAll, RefusedIsLost, TakesAsRegion}
 use Rattle.tk_edge.specs.declared.ahead.PushError.{PushError}
-use Rattle.tk_edge.specs.declared.ahead.PushError.TheVariants.{HorizonAhead, Take}
+use Rattle.tk_edge.specs.declared.ahead.PushError.TheVariants.{HorizonAhead, OutOfRange, Take}
+use Rattle.tk_edge.specs.Terms.{accept_all, has_outside}
 use Rattle.tk_edge.specs.Pushes.{IsBegun, LogsAndTells, TellsTaken, logged_of}
 use Rattle.tk_edge.specs.Told.{Change}
 use Rattle.tk_edge.specs.declared.tell.Fault.{Fault}
@@ -38,21 +40,30 @@ begun None log some front = absurd (some refl)
 begun (Some bytes) log some front = front
 
 pub refused_lost : RefusedIsLost
-refused_lost refuses now old new bytes taken is h = by taken (subst (λ r. PushesBy r old bytes taken new) is h)
+refused_lost terms now old new bytes taken why is h = by taken (subst (λ r. PushesBy r old bytes taken new) is h)
   where
-    by : (t : Result ℕ PushError) → PushesBy true old bytes t new → new ≡ old
-    by (Err HorizonAhead) h = h
-    by (Err (Take take.Memory)) h = h
-    by t h = absurd h
+    by : (t : Result ℕ PushError) → PushesBy (Some why) old bytes t new → ((t ≡ Err why) ⊎ (t ≡ Err (Take take.Memory))) × (new ≡ old)
+    by (Err HorizonAhead) h = (inl (ap Err h.0), h.1)
+    by (Err OutOfRange) h = (inl (ap Err h.0), h.1)
+    by (Err (Take take.Memory)) h = (inr refl, h)
+    by (Err (Take take.Malformed)) h = (inl (ap Err h.0), h.1)
+    by (Err (Take take.OwnNumber)) h = (inl (ap Err h.0), h.1)
+    by (Err (Take take.Conflict)) h = (inl (ap Err h.0), h.1)
+    by (Ok n) h = absurd h
 
-refuses_none : (now : ℕ) (o : Option BundleFields) → is_refused false now o ≡ false
-refuses_none now None = refl
-refuses_none now (Some b) = refl
+none_outside : (items : Items) → has_outside accept_all items ≡ false
+none_outside [] = refl
+none_outside (i ∷ items) = none_outside items
+
+pub all_accepted : AcceptsAll
+all_accepted now None = refl
+all_accepted now (Some b) = ap (first_refusal false) (none_outside b.items)
 
 pub taken_as : TakesAsRegion
-taken_as now old new bytes taken h = by taken (subst (λ r. PushesBy r old bytes taken new) (refuses_none now (whole bundle bytes)) h)
+taken_as terms now old new bytes taken is h = by taken (subst (λ r. PushesBy r old bytes taken new) is h)
   where
-    by : (t : Result ℕ PushError) → PushesBy false old bytes t new → (result : Result ℕ TakeError) × (t ≡ lifted result) × TakesBundle old bytes result new
+    by : (t : Result ℕ PushError) → PushesBy None old bytes t new → (result : Result ℕ TakeError) × (t ≡ lifted result) × TakesBundle old bytes result new
     by (Ok n) h = (Ok n, refl, h)
     by (Err (Take error)) h = (Err error, refl, h)
     by (Err HorizonAhead) h = absurd h
+    by (Err OutOfRange) h = absurd h

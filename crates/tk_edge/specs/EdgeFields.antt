@@ -2,17 +2,18 @@
 use Rattle.std.specs.Prelude.{Bool, refl}
 use Rattle.std.specs.Coded.{Coded, code_by, coded×, coded_bool}
 use Rattle.tk_region.specs.RegionFields.{RegionFields, coded_region}
+use Rattle.tk_edge.specs.Terms.{TermsFields, coded_terms}
 
--- an edge: its region, whether it refuses pushed bundles that are ahead, and whether it is sealed
+-- an edge: its region, the terms of a push to it, and whether it is sealed
 pub record EdgeFields : Type 0 where
   pub region : RegionFields
-  pub refuses_ahead : Bool
+  pub terms : TermsFields
   pub sealed : Bool
 
 -- the code of an edge, as nested pairs
 abbrev pub coded_edge : Coded EdgeFields
 coded_edge =
-    code_by (RegionFields × (Bool × Bool))
-    (coded× coded_region (coded× coded_bool coded_bool))
-    (λ e. (e.region, (e.refuses_ahead, e.sealed)))
-    (λ p. record { region = p.0; refuses_ahead = p.1.0; sealed = p.1.1 }) (λ _. refl)
+    code_by (RegionFields × (TermsFields × Bool))
+    (coded× coded_region (coded× coded_terms coded_bool))
+    (λ e. (e.region, (e.terms, e.sealed)))
+    (λ p. record { region = p.0; terms = p.1.0; sealed = p.1.1 }) (λ _. refl)

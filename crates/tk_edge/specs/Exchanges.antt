@@ -4,11 +4,11 @@
 --   unread_code     the name of the error for bytes that can't be read
 --   refusal_code    the name of the error for a bundle that isn't taken in
 --   TakesBundle     the region takes a bundle in, or refuses it, or is cut off by lack of memory
---   Pushes          a pushed bundle is refused because it is ahead, or goes to the region
+--   Pushes          a pushed bundle is refused by the terms, or goes to the region
 --   IsTakenReply    the reply to a push, by its result
 --   TakesAndTells   how a push may end
 --   Exchanges       how each of the three requests may end
-use Rattle.std.specs.Prelude.{◌≡◌, ℕ, Bool, true, false, List, Option, None, Some, Result, Ok, Err}
+use Rattle.std.specs.Prelude.{◌≡◌, ℕ, List, Option, None, Some, Result, Ok, Err}
 use Rattle.std.specs.declared.alloc.AllocError.{AllocError}
 use Rattle.tk_format.specs.Format.{whole}
 use Rattle.tk_format.specs.declared.error.ReadError.{ReadError}
@@ -32,12 +32,13 @@ use Rattle.tk_region.specs.Taking.{TakesIn}
 use Rattle.tk_region.specs.declared.take.TakeError.{TakeError}
 use Rattle.tk_region.specs.declared.take.TakeError.TheVariants.{Malformed, OwnNumber, Conflict}
 use Rattle.tk_region.specs.declared.take.TakeError.TheVariants.{Memory}
-use Rattle.tk_edge.specs.Ahead.{is_refused}
+use Rattle.tk_edge.specs.Ahead.{refused}
 use Rattle.tk_edge.specs.Answers.{rendered}
 use Rattle.tk_edge.specs.Pulls.{wanted}
+use Rattle.tk_edge.specs.Terms.{TermsFields}
 use Rattle.tk_edge.specs.Told.{AnswerFields}
 use Rattle.tk_edge.specs.declared.ahead.PushError.{PushError}
-use Rattle.tk_edge.specs.declared.ahead.PushError.TheVariants.{HorizonAhead, Take}
+use Rattle.tk_edge.specs.declared.ahead.PushError.TheVariants.{HorizonAhead, OutOfRange, Take}
 use Rattle.tk_edge.specs.declared.exchange.Exchange.{Exchange}
 use Rattle.tk_edge.specs.declared.exchange.Exchange.TheVariants.{Vector, Pull, Push}
 use Rattle.tk_edge.specs.declared.pull.Wanted.{Wanted}
@@ -62,21 +63,23 @@ pub record TakesBundle (old : RegionFields) (bytes : List ℕ) (taken : Result �
   pub takes : TakesIn old.facts (next_in (place_in old)) (whole bundle bytes) taken
       new.facts
 
--- the outcome of a push, by whether the bundle is refused because it is ahead: the region is then
--- unchanged; otherwise the region takes the bundle in or refuses it
-abbrev pub PushesBy : Bool → RegionFields → List ℕ → Result ℕ PushError → RegionFields → Type 0
-PushesBy true old bytes (Err HorizonAhead) new = new ≡ old
-PushesBy true old bytes (Err (Take Memory)) new = new ≡ old
-PushesBy true old bytes taken new = ⊥
-PushesBy false old bytes (Ok n) new = TakesBundle old bytes (Ok n) new
-PushesBy false old bytes (Err (Take error)) new = TakesBundle old bytes (Err error) new
-PushesBy false old bytes (Err HorizonAhead) new = ⊥
+-- the outcome of a push, by why the terms refuse the bundle: the region is then unchanged; if they
+-- don't refuse it, the region takes the bundle in or refuses it
+abbrev pub PushesBy : Option PushError → RegionFields → List ℕ → Result ℕ PushError → RegionFields
+    → Type 0
+PushesBy (Some why) old bytes (Err (Take Memory)) new = new ≡ old
+PushesBy (Some why) old bytes (Err error) new = (error ≡ why) × (new ≡ old)
+PushesBy (Some why) old bytes (Ok n) new = ⊥
+PushesBy None old bytes (Ok n) new = TakesBundle old bytes (Ok n) new
+PushesBy None old bytes (Err (Take error)) new = TakesBundle old bytes (Err error) new
+PushesBy None old bytes (Err HorizonAhead) new = ⊥
+PushesBy None old bytes (Err OutOfRange) new = ⊥
 
--- a pushed bundle is refused, if it is ahead of the moment and such bundles are refused; otherwise
--- the region takes it in or refuses it
-abbrev pub Pushes : Bool → ℕ → RegionFields → List ℕ → Result ℕ PushError → RegionFields → Type 0
-Pushes refuses now old bytes taken new =
-    PushesBy (is_refused refuses now (whole bundle bytes)) old bytes taken new
+-- a pushed bundle is refused by the terms at the moment, or the region takes it in or refuses it
+abbrev pub Pushes : TermsFields → ℕ → RegionFields → List ℕ → Result ℕ PushError → RegionFields
+    → Type 0
+Pushes terms now old bytes taken new =
+    PushesBy (refused terms now (whole bundle bytes)) old bytes taken new
 
 -- the name of the error for bytes that can't be read; out of memory has no name and gets no reply
 abbrev pub unread_code : ReadError → Option ErrorCode
@@ -87,6 +90,7 @@ unread_code read.Memory = None
 abbrev pub refusal_code : PushError → Option ErrorCode
 refusal_code (Take Malformed) = Some code.Malformed
 refusal_code HorizonAhead = Some code.HorizonAhead
+refusal_code OutOfRange = Some code.OutOfRange
 refusal_code (Take OwnNumber) = Some code.OwnNumber
 refusal_code (Take Conflict) = Some code.Conflict
 refusal_code (Take Memory) = None
@@ -103,22 +107,22 @@ IsTakenReply (Err error) reply = IsErrorReply (refusal_code error) reply
 
 -- Success: the answer reports what became of the bundle. Out of memory: the bundle may still have
 -- been taken in, in whole or in part.
-abbrev pub TakesAndTells : Bool → ℕ → RegionFields → List ℕ → Result AnswerFields AllocError
+abbrev pub TakesAndTells : TermsFields → ℕ → RegionFields → List ℕ → Result AnswerFields AllocError
     → RegionFields → Type 0
-TakesAndTells refuses now old bytes (Ok answer) new =
-    (taken : Result ℕ PushError) × Pushes refuses now old bytes taken new × (reply : ReplyFields)
+TakesAndTells terms now old bytes (Ok answer) new =
+    (taken : Result ℕ PushError) × Pushes terms now old bytes taken new × (reply : ReplyFields)
     × IsTakenReply taken reply × (answer ≡ rendered reply None None)
-TakesAndTells refuses now old bytes (Err e) new =
-    (taken : Result ℕ PushError) × Pushes refuses now old bytes taken new
+TakesAndTells terms now old bytes (Err e) new =
+    (taken : Result ℕ PushError) × Pushes terms now old bytes taken new
 
 -- how a request of another region may end, at the moment; only a push changes the region
-abbrev pub Exchanges : Bool → ℕ → RegionFields → Exchange → Result AnswerFields AllocError
+abbrev pub Exchanges : TermsFields → ℕ → RegionFields → Exchange → Result AnswerFields AllocError
     → RegionFields → Type 0
-Exchanges refuses now old Vector (Ok answer) new =
+Exchanges terms now old Vector (Ok answer) new =
     TellsVector old.facts.slots answer × (new ≡ old)
-Exchanges refuses now old Vector (Err e) new = new ≡ old
-Exchanges refuses now old (Pull bytes) (Ok answer) new =
+Exchanges terms now old Vector (Err e) new = new ≡ old
+Exchanges terms now old (Pull bytes) (Ok answer) new =
     (answer ≡ rendered (page_reply old.facts (whole wanted bytes)) None None)
     × (new ≡ old)
-Exchanges refuses now old (Pull bytes) (Err e) new = new ≡ old
-Exchanges refuses now old (Push bytes) result new = TakesAndTells refuses now old bytes result new
+Exchanges terms now old (Pull bytes) (Err e) new = new ≡ old
+Exchanges terms now old (Push bytes) result new = TakesAndTells terms now old bytes result new

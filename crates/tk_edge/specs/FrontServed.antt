@@ -18,7 +18,7 @@ use Rattle.tk_edge.specs.declared.tell.Fault.{Fault}
 abbrev pub asked_by : Asked → List ℕ → List ℕ → Asked
 asked_by asked bytes tail = record {
   reach = asked.reach;
-  refuses_ahead = asked.refuses_ahead;
+  terms = asked.terms;
   log_taken = asked.log_taken;
   known = Some (bytes ++ tail);
   now = asked.now;

@@ -1,16 +1,21 @@
 -- Laws of streams (RFC 9112, 3 and 6) and of pushed bundles (own), whatever a program does.
 --   HasOneMeaning   a stream has at most one meaning
 --   HearsAll        no exchange arrives unless all paths are served
---   RefusedIsLost   a bundle that is refused because it is ahead changes nothing
---   TakesAsRegion   an edge that refuses none takes a bundle in as its region does
-use Rattle.std.specs.Prelude.{◌≡◌, ℕ, Bool, true, false, List, Result}
+--   RefusedIsLost   a bundle that the terms refuse changes nothing
+--   TakesAsRegion   a bundle that the terms don't refuse is taken in as the region does
+--   AcceptsAll      the terms that accept all refuse no bundle
+use Rattle.std.specs.Prelude.{◌≡◌, ◌⊎◌, ℕ, List, Option, None, Some, Result, Err}
 use Rattle.tk_format.specs.Format.{whole}
 use Rattle.tk_bundle.specs.Bundle.{bundle}
+use Rattle.tk_bundle.specs.BundleFields.{BundleFields}
 use Rattle.tk_region.specs.RegionFields.{RegionFields}
 use Rattle.tk_region.specs.declared.take.TakeError.{TakeError}
-use Rattle.tk_edge.specs.Ahead.{is_refused, lifted}
+use Rattle.tk_region.specs.declared.take.TakeError.TheVariants.{Memory}
+use Rattle.tk_edge.specs.Ahead.{lifted, refused}
 use Rattle.tk_edge.specs.Exchanges.{Pushes, TakesBundle}
+use Rattle.tk_edge.specs.Terms.{TermsFields, accept_all}
 use Rattle.tk_edge.specs.declared.ahead.PushError.{PushError}
+use Rattle.tk_edge.specs.declared.ahead.PushError.TheVariants.{Take}
 use Rattle.tk_edge.specs.Heard.{IsArrival, MayArrive}
 use Rattle.tk_edge.specs.declared.hear.Arrival.{Arrival}
 use Rattle.tk_edge.specs.declared.reach.Reach.{Reach}
@@ -27,18 +32,25 @@ HearsAll =
     (reach : Reach) (bytes : List ℕ) (came : Arrival) → IsArrival reach bytes came
     → MayArrive reach came
 
--- a pushed bundle that is refused because it is ahead is a lost one: the region is unchanged
+-- a pushed bundle that the terms refuse is a lost one: the result is why, unless memory ran out,
+-- and the region is unchanged
 abbrev pub RefusedIsLost : Type 0
 RefusedIsLost =
-    (refuses : Bool) (now : ℕ) (old new : RegionFields) (bytes : List ℕ)
-    (taken : Result ℕ PushError)
-    → is_refused refuses now (whole bundle bytes) ≡ true
-    → Pushes refuses now old bytes taken new → new ≡ old
+    (terms : TermsFields) (now : ℕ) (old new : RegionFields) (bytes : List ℕ)
+    (taken : Result ℕ PushError) (why : PushError)
+    → refused terms now (whole bundle bytes) ≡ Some why
+    → Pushes terms now old bytes taken new
+    → ((taken ≡ Err why) ⊎ (taken ≡ Err (Take Memory))) × (new ≡ old)
 
--- an edge that refuses no bundle because it is ahead takes each in, or refuses it, as its region
--- does
+-- an edge takes a bundle that the terms don't refuse in, or refuses it, as its region does
 abbrev pub TakesAsRegion : Type 0
 TakesAsRegion =
-    (now : ℕ) (old new : RegionFields) (bytes : List ℕ) (taken : Result ℕ PushError)
-    → Pushes false now old bytes taken new
+    (terms : TermsFields) (now : ℕ) (old new : RegionFields) (bytes : List ℕ)
+    (taken : Result ℕ PushError)
+    → refused terms now (whole bundle bytes) ≡ None
+    → Pushes terms now old bytes taken new
     → (result : Result ℕ TakeError) × (taken ≡ lifted result) × TakesBundle old bytes result new
+
+-- the terms that accept all refuse no bundle
+abbrev pub AcceptsAll : Type 0
+AcceptsAll = (now : ℕ) (sent : Option BundleFields) → refused accept_all now sent ≡ None

@@ -12,7 +12,8 @@
 --   Rendering    reply_bytes, the bytes of a reply
 --   Told         IsTold, the record is written and then the reply
 --   Answers      answer_by, the reply to a request; fact_by, the fact made for it
---   Ahead        is_ahead, a bundle's horizon is later than the moment
+--   Terms        is_out_of_range, a bundle has an item under a number that isn't accepted
+--   Ahead        is_ahead, a bundle's horizon is later than the moment; refused, by the terms
 --   Exchanges    Exchanges, the reply to another region
 --   Arrivals     Answers, the reply to what arrived
 --   Pushes       TakesAndLogs, a pushed bundle with its log
@@ -47,4 +48,5 @@ pub mod Pushes
 pub mod Rendering
 pub mod Served
 pub mod Staying
+pub mod Terms
 pub mod Told

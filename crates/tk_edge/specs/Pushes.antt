@@ -24,6 +24,7 @@ use Rattle.tk_region.specs.declared.take.TakeError.TheVariants as take
 use Rattle.tk_edge.specs.Ahead.{lifted}
 use Rattle.tk_edge.specs.Exchanges.{IsTakenReply, Pushes}
 use Rattle.tk_edge.specs.Rendering.{reply_bytes}
+use Rattle.tk_edge.specs.Terms.{TermsFields}
 use Rattle.tk_edge.specs.Told.{Change}
 use Rattle.tk_edge.specs.declared.ahead.PushError.{PushError}
 use Rattle.tk_edge.specs.declared.ahead.PushError.TheVariants.{Take}
@@ -98,9 +99,9 @@ LogsAndTells logged taken log still writer sealed result =
 
 -- A pushed bundle is taken in or refused. If it changes the region, the log gains its record before
 -- the reply, and also if memory runs out.
-abbrev pub TakesAndLogs : Bool → ℕ → List ℕ → RegionFields → RegionFields → Change → Type 0
+abbrev pub TakesAndLogs : TermsFields → ℕ → List ℕ → RegionFields → RegionFields → Change → Type 0
     → Change → Bool → Result StatusCode Fault → Type 0
-TakesAndLogs refuses now bytes old new log still writer sealed result =
-    (taken : Result ℕ PushError) × Pushes refuses now old bytes taken new
+TakesAndLogs terms now bytes old new log still writer sealed result =
+    (taken : Result ℕ PushError) × Pushes terms now old bytes taken new
     × (logged : Option (List ℕ)) × IsNews old bytes taken logged new
     × LogsAndTells logged taken log still writer sealed result

@@ -16,6 +16,7 @@ use Rattle.tk_edge.specs.Answers.{fact_by, IsRecorded, refused_by}
 use Rattle.tk_edge.specs.Arrivals.{Answers, IsShort}
 use Rattle.tk_edge.specs.Heard.{Arrives}
 use Rattle.tk_edge.specs.Pushes.{TakesAndLogs, bundle_to_log}
+use Rattle.tk_edge.specs.Terms.{TermsFields}
 use Rattle.tk_edge.specs.Told.{AnswerFields, Change, IsTold, UsesLog}
 use Rattle.tk_edge.specs.declared.edge.Served.{Served}
 use Rattle.tk_edge.specs.declared.edge.Served.TheVariants.{Nothing, Done}
@@ -27,11 +28,11 @@ use Rattle.tk_edge.specs.declared.refusal.Refusal.TheVariants.{Sealed}
 use Rattle.tk_edge.specs.declared.tell.Fault.{Fault}
 use Rattle.tk_edge.specs.declared.tell.Fault.TheVariants.{Read, Write, Log, Memory}
 
--- a connection: which paths are served, whether pushed bundles that are ahead are refused, whether
--- taken bundles are logged, its bytes, if known, the moment, and the random words
+-- a connection: which paths are served, the terms of a push, whether taken bundles are logged, its
+-- bytes, if known, the moment, and the random words
 pub record Asked : Type 0 where
   pub reach : Reach
-  pub refuses_ahead : Bool
+  pub terms : TermsFields
   pub log_taken : Bool
   pub known : Option (List ℕ)
   pub now : ℕ
@@ -54,54 +55,54 @@ IsUntouched region log still writer sealed =
 
 -- the arrival is answered at the moment and with the random words: its facts are added, and the
 -- record, which can be read, and the reply are written
-abbrev pub AnswersAndTells : Bool → ℕ → List ℕ → Arrival → Step → Change → Type 0 → Change → Bool
-    → Result StatusCode Fault → Type 0
-AnswersAndTells refuses now words came region log still writer sealed result =
-    (answer : AnswerFields) × Answers refuses region.before now words came (Ok answer) region.after
+abbrev pub AnswersAndTells : TermsFields → ℕ → List ℕ → Arrival → Step → Change → Type 0 → Change
+    → Bool → Result StatusCode Fault → Type 0
+AnswersAndTells terms now words came region log still writer sealed result =
+    (answer : AnswerFields) × Answers terms region.before now words came (Ok answer) region.after
     × IsTold answer log writer sealed result × UsesLog answer still result
     × IfSome (fact_by region.before now words came) IsRecorded
 
 -- how serving an arrival may end, unless it is a bundle to log; if memory runs out, nothing is
 -- written
-abbrev pub Replies : Bool → ℕ → List ℕ → Arrival → Step → Change → Type 0 → Change → Bool
+abbrev pub Replies : TermsFields → ℕ → List ℕ → Arrival → Step → Change → Type 0 → Change → Bool
     → Result StatusCode Fault → Type 0
-Replies refuses now words came region log still writer sealed (Ok status) =
-    AnswersAndTells refuses now words came region log still writer sealed (Ok status)
-Replies refuses now words came region log still writer sealed (Err Read) = ⊥
-Replies refuses now words came region log still writer sealed (Err Write) =
-    AnswersAndTells refuses now words came region log still writer sealed (Err Write)
-Replies refuses now words came region log still writer sealed (Err Log) =
-    AnswersAndTells refuses now words came region log still writer sealed (Err Log)
-Replies refuses now words came region log still writer sealed (Err Memory) =
-    (e : AllocError) × Answers refuses region.before now words came (Err e) region.after
+Replies terms now words came region log still writer sealed (Ok status) =
+    AnswersAndTells terms now words came region log still writer sealed (Ok status)
+Replies terms now words came region log still writer sealed (Err Read) = ⊥
+Replies terms now words came region log still writer sealed (Err Write) =
+    AnswersAndTells terms now words came region log still writer sealed (Err Write)
+Replies terms now words came region log still writer sealed (Err Log) =
+    AnswersAndTells terms now words came region log still writer sealed (Err Log)
+Replies terms now words came region log still writer sealed (Err Memory) =
+    (e : AllocError) × Answers terms region.before now words came (Err e) region.after
     × WritesNothing log still writer sealed
 
 -- how serving an arrival may end, with the pushed bundle if taken bundles are logged
-abbrev pub RepliesTo : Option (List ℕ) → Bool → ℕ → List ℕ → Arrival → Step → Change → Type 0
+abbrev pub RepliesTo : Option (List ℕ) → TermsFields → ℕ → List ℕ → Arrival → Step → Change → Type 0
     → Change → Bool → Result StatusCode Fault → Type 0
-RepliesTo None refuses now words came region log still writer sealed result =
-    Replies refuses now words came region log still writer sealed result
-RepliesTo (Some bytes) refuses now words came region log still writer sealed result =
-    TakesAndLogs refuses now bytes region.before region.after log still writer sealed result
+RepliesTo None terms now words came region log still writer sealed result =
+    Replies terms now words came region log still writer sealed result
+RepliesTo (Some bytes) terms now words came region log still writer sealed result =
+    TakesAndLogs terms now bytes region.before region.after log still writer sealed result
 
 -- some arrival that the client may send, which isn't silence, is answered and the reply is written
 abbrev pub IsAnswered : Asked → Step → Change → Type 0 → Change → Bool → Result StatusCode Fault
     → Type 0
 IsAnswered asked region log still writer sealed result =
     (came : Arrival) × Arrives asked.reach asked.known came × (came ≢ Silence)
-    × RepliesTo (bundle_to_log asked.log_taken came) asked.refuses_ahead asked.now asked.words came
+    × RepliesTo (bundle_to_log asked.log_taken came) asked.terms asked.now asked.words came
     region log still writer sealed result
 
 -- Memory ran out, and nothing is written. If taken bundles are logged, either nothing was changed,
 -- or a bundle was pushed and the log has it if its facts may be new.
 abbrev pub RunsOut : Bool → Asked → Step → Change → Type 0 → Change → Bool → Type 0
 RunsOut false asked region log still writer sealed =
-    IsShort asked.reach asked.refuses_ahead asked.now asked.known region.before region.after
+    IsShort asked.reach asked.terms asked.now asked.known region.before region.after
     × WritesNothing log still writer sealed
 RunsOut true asked region log still writer sealed =
     IsUntouched region log still writer sealed
     ⊎ ((sent : List ℕ) × Arrives asked.reach asked.known (Exchange (Push sent))
-    × TakesAndLogs asked.refuses_ahead asked.now sent region.before region.after log still writer
+    × TakesAndLogs asked.terms asked.now sent region.before region.after log still writer
     sealed (Err Memory))
 
 -- what a connection to an edge that isn't sealed does, by its result

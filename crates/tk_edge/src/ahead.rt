@@ -1,14 +1,15 @@
-//! Reads pushed bundles: `read_pushed` refuses one whose horizon is later than the moment, if the
-//! edge refuses such bundles.
+//! Reads pushed bundles: `read_pushed` refuses one by the terms of a push.
 
 use tk_region::TakeError;
 
-/// The reason why a pushed bundle is not taken in (own). `HorizonAhead` is tested after `Malformed`
-/// and before `OwnNumber` and `Conflict`.
+/// The reason why a pushed bundle is not taken in (own). `HorizonAhead` and `OutOfRange` are tested
+/// in this order, after `Malformed` and before `OwnNumber` and `Conflict`.
 #[derive(Clone, Copy)]
 pub enum PushError {
     /// The bundle's horizon is later than the moment, and the edge refuses such bundles.
     HorizonAhead,
+    /// An item of the bundle is under a number that the edge does not accept.
+    OutOfRange,
     /// The reason why the region does not take the bundle in.
     Take(TakeError),
 }
@@ -17,24 +18,28 @@ ghost use Rattle.std.specs.Prelude.{◌≡◌};
 ghost use Rattle.tk_edge.specs.Ahead as spec;
 ghost use Rattle.tk_region.specs.Taking.{unread};
 
+use crate::terms::{PushTerms, is_out_of_range};
 use std::alloc::Global;
 use tk_bundle::Bundle;
 use tk_format::ReadError;
 use tk_handle::Moment;
 
-// Reads a pushed bundle, and refuses it if it is ahead of the moment and such bundles are refused.
+// Reads a pushed bundle, and refuses it if the terms do at the moment.
 pub(crate) fn read_pushed(
     alloc: Global,
-    refuses_ahead: bool,
+    terms: &PushTerms,
     now: Moment,
     bytes: &[u8],
 ) -> Result<Bundle, PushError>
-    ensures { spec.ReadsPushed refuses_ahead now bytes.now result }
+    ensures { spec.ReadsPushed terms.now now bytes.now result }
 {
     match Bundle::read(alloc, bytes) {
         Ok(sent) => {
-            if refuses_ahead && is_ahead(now, &sent) {
+            if terms.refuses_ahead && is_ahead(now, &sent) {
                 return Err(PushError::HorizonAhead);
+            }
+            if is_out_of_range(terms, &sent) {
+                return Err(PushError::OutOfRange);
             }
             Ok(sent)
         }

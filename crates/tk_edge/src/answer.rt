@@ -42,24 +42,25 @@ use crate::exchange::answer_exchange;
 use crate::hear::Arrival;
 use crate::refusal::Refusal;
 use crate::render::render;
+use crate::terms::PushTerms;
 use std::alloc::{AllocError, Global};
 use tk_fact::Fact;
 use tk_handle::Moment;
 use tk_message::{Reply, Request, Told};
 use tk_region::{Prepared, Region};
 
-// Replies to an arrival. `refuses_ahead` is whether pushed bundles that are ahead are refused,
-// `now` is the current moment, and `words` are the random words for new handles. If memory runs
-// out, the region is unchanged, except that the first facts of a pushed bundle may be in.
+// Replies to an arrival. `terms` are the terms of a push, `now` is the current moment, and `words`
+// are the random words for new handles. If memory runs out, the region is unchanged, except that
+// the first facts of a pushed bundle may be in.
 pub(crate) fn answer_arrival(
     alloc: Global,
     region: &mut Region,
-    refuses_ahead: bool,
+    terms: &PushTerms,
     now: Moment,
     words: &[u64; 6],
     came: &Arrival,
 ) -> Result<Answer, AllocError>
-    ensures answers { Answers refuses_ahead region.old now words.now came.now result region.new }
+    ensures answers { Answers terms.now region.old now words.now came.now result region.new }
 
     // The record of the fact, if one was made, can be read.
     ensures recorded { OnOk result
@@ -69,9 +70,7 @@ pub(crate) fn answer_arrival(
         Arrival::Silence => Ok(silent(alloc)),
         Arrival::Refused(why) => refuse(alloc, *why),
         Arrival::Request(request) => answer_request(alloc, region, now, words, request),
-        Arrival::Exchange(exchange) => {
-            answer_exchange(alloc, region, refuses_ahead, now, exchange)
-        }
+        Arrival::Exchange(exchange) => answer_exchange(alloc, region, terms, now, exchange),
     }
 }
 

@@ -13,12 +13,11 @@ use tk_region::Region;
 /// bundles.
 ///
 /// An edge is sealed once its log has failed, because facts that it made later might be lost.
-/// Contracts see the region, whether pushed bundles that are ahead are refused, and whether the
-/// edge is sealed.
+/// Contracts see the region, the terms of a push, and whether the edge is sealed.
 #[derive(Drop)]
 pub struct Edge {
     region: Region,
-    refuses_ahead: bool,
+    terms: PushTerms,
     sealed: bool,
 }
 
@@ -31,7 +30,7 @@ impl Model for Edge {
 
     ghost view = { λ e. record {
       region = e.region;
-      refuses_ahead = e.refuses_ahead;
+      terms = e.terms;
       sealed = e.sealed;
     } };
 }
@@ -65,6 +64,7 @@ use crate::reach::Reach;
 use crate::refusal::Refusal;
 use crate::serving::{serve_arrival, serve_front_open, turn_away};
 use crate::tell::Fault;
+use crate::terms::PushTerms;
 use std::alloc::{AllocError, Global};
 use tk_handle::Moment;
 use tk_message::StatusCode;
@@ -72,19 +72,19 @@ use tk_message::StatusCode;
 impl Edge {
     /// Returns an edge that isn't sealed, over this region.
     ///
-    /// If `refuses_ahead` is true, a pushed bundle whose horizon is later than the moment of the
-    /// request is refused: the reply is 409 `horizon_ahead`, nothing is logged, and the region is
-    /// unchanged. If `refuses_ahead` is false, the region takes such a bundle in as any other.
-    pub fn new(region: Region, refuses_ahead: bool) -> Edge
+    /// A pushed bundle that the terms refuse is not taken in: the reply is 409 `horizon_ahead` or
+    /// `out_of_range`, nothing is logged, and the region is unchanged. The region takes each other
+    /// bundle in, or refuses it.
+    pub fn new(region: Region, terms: PushTerms) -> Edge
         ensures { result ≡ record {
           region = region;
-          refuses_ahead = refuses_ahead;
+          terms = terms;
           sealed = false;
         } }
     {
         Edge {
             region,
-            refuses_ahead,
+            terms,
             sealed: false,
         }
     }
@@ -101,7 +101,7 @@ impl Edge {
         ensures* writes_back { sem 𝓛 (Lends edge_row region_row self.entry result
             (λ region. record {
               region = region;
-              refuses_ahead = self.entry.now.refuses_ahead;
+              terms = self.entry.now.terms;
               sealed = self.entry.now.sealed;
             })) }
         ensures value { result.now ≡ self.old.region }
@@ -144,15 +144,15 @@ impl Edge {
     ) -> Result<Answer, AllocError>
         ensures answers { self.old.sealed ≡ false
             → OnOk result ((came : AnyArrival) × IsArrival reach bytes.now came
-            × Answers self.old.refuses_ahead self.old.region now words.now came result
+            × Answers self.old.terms self.old.region now words.now came result
             self.new.region) }
         ensures away { self.old.sealed ≡ true
             → IfOk result (λ answer. answer ≡ refused_by Refusal.Sealed) }
         ensures untouched { self.old.sealed ≡ true → self.new ≡ self.old }
         ensures sealed { self.new.sealed ≡ self.old.sealed }
-        ensures refuses_ahead { self.new.refuses_ahead ≡ self.old.refuses_ahead }
+        ensures terms { self.new.terms ≡ self.old.terms }
         ensures err { OnErr result
-            (IsShort reach self.old.refuses_ahead now (Some bytes.now) self.old.region
+            (IsShort reach self.old.terms now (Some bytes.now) self.old.region
             self.new.region) }
     {
         if self.sealed {
@@ -162,7 +162,7 @@ impl Edge {
         answer_arrival(
             alloc,
             &mut self.region,
-            self.refuses_ahead,
+            &self.terms,
             now,
             words,
             &came,
@@ -207,12 +207,12 @@ impl Edge {
         now: Moment,
         words: &[u64; 6],
     ) -> Result<Option<(Served, Taken)>, Fault>
-        ensures refuses_ahead { self.new.refuses_ahead ≡ self.old.refuses_ahead }
+        ensures terms { self.new.terms ≡ self.old.terms }
 
         ensures served { self.old.sealed ≡ false → IsFrontServed
             (record {
               reach = reach;
-              refuses_ahead = self.old.refuses_ahead;
+              terms = self.old.terms;
               log_taken = log_taken;
               known = None;
               now = now;
@@ -242,7 +242,7 @@ impl Edge {
             alloc,
             reach,
             &mut self.region,
-            self.refuses_ahead,
+            &self.terms,
             &mut self.sealed,
             bytes,
             is_over,

@@ -40,6 +40,7 @@ use crate::ahead::PushError;
 use crate::answer::{Answer, answer_with};
 use crate::pull::read_wanted;
 use crate::push::take_pushed;
+use crate::terms::PushTerms;
 use std::alloc::{AllocError, Global};
 use tk_format::ReadError;
 use tk_handle::Moment;
@@ -61,21 +62,21 @@ impl Sent {
     }
 }
 
-// Replies to another region. A pushed bundle that is ahead of the moment is refused, if
-// `refuses_ahead` is true. If memory runs out, the first facts of a pushed bundle may be in.
+// Replies to another region. A pushed bundle is refused if the terms refuse it at the moment. If
+// memory runs out, the first facts of a pushed bundle may be in.
 pub(crate) fn answer_exchange(
     alloc: Global,
     region: &mut Region,
-    refuses_ahead: bool,
+    terms: &PushTerms,
     now: Moment,
     exchange: &Exchange,
 ) -> Result<Answer, AllocError>
-    ensures { spec.Exchanges refuses_ahead now region.old exchange.now result region.new }
+    ensures { spec.Exchanges terms.now now region.old exchange.now result region.new }
 {
     match exchange {
         Exchange::Vector => tell_vector(alloc, region),
         Exchange::Pull(sent) => send_page(alloc, region, sent.bytes()),
-        Exchange::Push(sent) => take_bundle(alloc, region, refuses_ahead, now, sent.bytes()),
+        Exchange::Push(sent) => take_bundle(alloc, region, terms, now, sent.bytes()),
     }
 }
 
@@ -139,6 +140,7 @@ fn refusal_code(error: PushError) -> Option<ErrorCode>
     match error {
         PushError::Take(TakeError::Malformed) => Some(ErrorCode::Malformed),
         PushError::HorizonAhead => Some(ErrorCode::HorizonAhead),
+        PushError::OutOfRange => Some(ErrorCode::OutOfRange),
         PushError::Take(TakeError::OwnNumber) => Some(ErrorCode::OwnNumber),
         PushError::Take(TakeError::Conflict) => Some(ErrorCode::Conflict),
         PushError::Take(TakeError::Memory) => None,
@@ -149,13 +151,13 @@ fn refusal_code(error: PushError) -> Option<ErrorCode>
 fn take_bundle(
     alloc: Global,
     region: &mut Region,
-    refuses_ahead: bool,
+    terms: &PushTerms,
     now: Moment,
     bytes: &[u8],
 ) -> Result<Answer, AllocError>
-    ensures { spec.TakesAndTells refuses_ahead now region.old bytes.now result region.new }
+    ensures { spec.TakesAndTells terms.now now region.old bytes.now result region.new }
 {
-    let taken = take_pushed(alloc, region, refuses_ahead, now, bytes);
+    let taken = take_pushed(alloc, region, terms, now, bytes);
     let reply = taken_answer(alloc, taken)?;
     answer_with(alloc, &reply, None)
 }

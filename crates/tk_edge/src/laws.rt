@@ -1,7 +1,8 @@
-//! Laws of the definitions: the meaning of a stream is unique, and a bundle that is refused because
-//! it is ahead is a lost one.
+//! Laws of the definitions: the meaning of a stream is unique, and a bundle that the terms of a
+//! push refuse is a lost one.
 
-ghost use Rattle.tk_edge.specs.Laws.{HasOneMeaning, HearsAll, RefusedIsLost, TakesAsRegion};
+ghost use Rattle.tk_edge.specs.Laws.{AcceptsAll, HasOneMeaning, HearsAll, RefusedIsLost};
+ghost use Rattle.tk_edge.specs.Laws.{TakesAsRegion};
 
 /// States that a stream has at most one meaning. The call does nothing at run time.
 pub fn one_meaning()
@@ -14,14 +15,19 @@ pub fn hears_all()
     ensures { HearsAll }
 {}
 
-/// States that a pushed bundle that is refused because its horizon is later than the moment is a
-/// lost one: the region is unchanged. The call does nothing at run time.
+/// States that a pushed bundle that the terms refuse is a lost one: the result is why, unless
+/// memory ran out, and the region is unchanged. The call does nothing at run time.
 pub fn refused_is_lost()
     ensures { RefusedIsLost }
 {}
 
-/// States that an edge that refuses no bundle because of its horizon takes each bundle in, or
-/// refuses it, as its region does. The call does nothing at run time.
+/// States that an edge takes a bundle that the terms don't refuse in, or refuses it, as its region
+/// does. The call does nothing at run time.
 pub fn takes_as_region()
     ensures { TakesAsRegion }
+{}
+
+/// States that the terms that accept all refuse no bundle. The call does nothing at run time.
+pub fn accepts_all()
+    ensures { AcceptsAll }
 {}

@@ -15,7 +15,8 @@
 //! - [`Arrival`]: what a stream means. An [`Exchange`] is with another region.
 //! - [`hear_front`]: what the [`Front`] of the bytes that have come means: an arrival, or more is
 //!   needed.
-//! - `ahead` reads a pushed bundle, and may refuse one whose horizon is later than the moment.
+//! - [`PushTerms`]: which pushed bundles are refused, whatever the region would do with them.
+//! - `ahead` reads a pushed bundle, and refuses one by the terms.
 //! - `answer` makes the reply to an arrival, and `render` its bytes.
 //! - `again` gives the reply to a refresh that is repeated.
 //! - `tell` writes the record of a fact and only then the reply, or returns a [`Fault`].
@@ -53,6 +54,7 @@ mod render;
 mod serving;
 mod staying;
 mod tell;
+mod terms;
 
 pub use ahead::PushError;
 pub use answer::Answer;
@@ -62,10 +64,11 @@ pub use edge::{Edge, Served};
 pub use exchange::{Exchange, Sent};
 pub use front::{Front, HEAD_LIMIT, Taken, hear_front};
 pub use hear::Arrival;
-pub use laws::{hears_all, one_meaning, refused_is_lost, takes_as_region};
+pub use laws::{accepts_all, hears_all, one_meaning, refused_is_lost, takes_as_region};
 pub use open_reply::keep_open;
 pub use path::Path;
 pub use put::{Discard, put_whole};
 pub use reach::Reach;
 pub use refusal::Refusal;
 pub use tell::Fault;
+pub use terms::{PushTerms, RegionRange};

@@ -20,6 +20,7 @@ use crate::exchange::{Exchange, taken_answer};
 use crate::hear::Arrival;
 use crate::put::put_whole;
 use crate::tell::{Fault, write_record};
+use crate::terms::PushTerms;
 use std::alloc::Global;
 use tk_bundle::Bundle;
 use tk_handle::Moment;
@@ -39,18 +40,17 @@ pub(crate) fn bundle_to_log<'a>(log_taken: bool, came: &'a Arrival) -> Option<&'
     }
 }
 
-// Takes a pushed bundle in. The bundle is refused if it is ahead of the moment and such bundles are
-// refused.
+// Takes a pushed bundle in, unless the terms refuse it at the moment.
 pub(crate) fn take_pushed(
     alloc: Global,
     region: &mut Region,
-    refuses_ahead: bool,
+    terms: &PushTerms,
     now: Moment,
     bytes: &[u8],
 ) -> Result<u16, PushError>
-    ensures { Pushes refuses_ahead now region.old bytes.now result region.new }
+    ensures { Pushes terms.now now region.old bytes.now result region.new }
 {
-    match read_pushed(alloc, refuses_ahead, now, bytes) {
+    match read_pushed(alloc, terms, now, bytes) {
         Ok(sent) => lifted(region.take_bundle(sent)),
         Err(error) => Err(error),
     }
@@ -66,18 +66,18 @@ pub(crate) fn take_and_log<L: Sink, W: Sink>(
     sealed: &mut bool,
     log: &mut L,
     writer: &mut W,
-    refuses_ahead: bool,
+    terms: &PushTerms,
     now: Moment,
     bytes: &[u8],
 ) -> Result<StatusCode, Fault>
     requires { sealed.old ≡ false }
-    ensures replies { spec.TakesAndLogs refuses_ahead now bytes.now region.old region.new
+    ensures replies { spec.TakesAndLogs terms.now now bytes.now region.old region.new
         (record { before = L.holds log.old; after = L.holds log.new }) (log.new ≡ log.old)
         (record { before = W.holds writer.old; after = W.holds writer.new }) sealed.new result }
     ensures faults { IsFaultOfDevice result (L.failed log.old) (L.failed log.new)
         (W.failed writer.old) (W.failed writer.new) }
 {
-    let Pushed { taken, news } = take_with_news(alloc, region, refuses_ahead, now, bytes);
+    let Pushed { taken, news } = take_with_news(alloc, region, terms, now, bytes);
     if log_news(log, &news).is_err() {
         *sealed = true;
         return Err(Fault::Log);
@@ -96,15 +96,15 @@ struct Pushed {
 fn take_with_news(
     alloc: Global,
     region: &mut Region,
-    refuses_ahead: bool,
+    terms: &PushTerms,
     now: Moment,
     bytes: &[u8],
 ) -> Pushed
-    ensures pushes { Pushes refuses_ahead now region.old bytes.now result.taken region.new }
+    ensures pushes { Pushes terms.now now region.old bytes.now result.taken region.new }
     ensures news { spec.IsNews region.old bytes.now result.taken
         (option_map (λ kept. kept.items) result.news) region.new }
 {
-    match read_pushed(alloc, refuses_ahead, now, bytes) {
+    match read_pushed(alloc, terms, now, bytes) {
         Ok(sent) => take_read(alloc, region, sent),
         Err(error) => Pushed {
             taken: Err(error),

@@ -20,6 +20,7 @@ use crate::put::put_whole;
 use crate::reach::Reach;
 use crate::refusal::Refusal;
 use crate::tell::{Fault, tell};
+use crate::terms::PushTerms;
 use std::alloc::Global;
 use tk_handle::Moment;
 use tk_message::StatusCode;
@@ -30,7 +31,7 @@ pub(crate) fn serve_front_open<L: Sink, W: Sink>(
     alloc: Global,
     reach: Reach,
     region: &mut Region,
-    refuses_ahead: bool,
+    terms: &PushTerms,
     sealed: &mut bool,
     bytes: &[u8],
     is_over: bool,
@@ -44,7 +45,7 @@ pub(crate) fn serve_front_open<L: Sink, W: Sink>(
     ensures served { IsFrontServed
         (record {
           reach = reach;
-          refuses_ahead = refuses_ahead;
+          terms = terms.now;
           log_taken = log_taken;
           known = None;
           now = now;
@@ -64,7 +65,7 @@ pub(crate) fn serve_front_open<L: Sink, W: Sink>(
             match serve_arrival(
                 alloc,
                 region,
-                refuses_ahead,
+                terms,
                 sealed,
                 log,
                 log_taken,
@@ -85,7 +86,7 @@ pub(crate) fn serve_front_open<L: Sink, W: Sink>(
 pub(crate) fn serve_arrival<L: Sink, W: Sink>(
     alloc: Global,
     region: &mut Region,
-    refuses_ahead: bool,
+    terms: &PushTerms,
     sealed: &mut bool,
     log: &mut L,
     log_taken: bool,
@@ -99,7 +100,7 @@ pub(crate) fn serve_arrival<L: Sink, W: Sink>(
         → IsServed
         (record {
           reach = reach;
-          refuses_ahead = refuses_ahead;
+          terms = terms.now;
           log_taken = log_taken;
           known = known;
           now = now;
@@ -119,7 +120,7 @@ pub(crate) fn serve_arrival<L: Sink, W: Sink>(
     match reply(
         alloc,
         region,
-        refuses_ahead,
+        terms,
         sealed,
         log,
         log_taken,
@@ -145,7 +146,7 @@ fn is_silent(came: &Arrival) -> bool
 fn reply<L: Sink, W: Sink>(
     alloc: Global,
     region: &mut Region,
-    refuses_ahead: bool,
+    terms: &PushTerms,
     sealed: &mut bool,
     log: &mut L,
     log_taken: bool,
@@ -155,7 +156,7 @@ fn reply<L: Sink, W: Sink>(
     came: &Arrival,
 ) -> Result<StatusCode, Fault>
     requires { sealed.old ≡ false }
-    ensures replies { RepliesTo (bundle_to_log log_taken came.now) refuses_ahead now words.now
+    ensures replies { RepliesTo (bundle_to_log log_taken came.now) terms.now now words.now
         came.now (record { before = region.old; after = region.new })
         (record { before = L.holds log.old; after = L.holds log.new }) (log.new ≡ log.old)
         (record { before = W.holds writer.old; after = W.holds writer.new }) sealed.new result }
@@ -169,14 +170,14 @@ fn reply<L: Sink, W: Sink>(
             sealed,
             log,
             writer,
-            refuses_ahead,
+            terms,
             now,
             bytes,
         ),
         None => answer_and_tell(
             alloc,
             region,
-            refuses_ahead,
+            terms,
             sealed,
             log,
             writer,
@@ -191,7 +192,7 @@ fn reply<L: Sink, W: Sink>(
 fn answer_and_tell<L: Sink, W: Sink>(
     alloc: Global,
     region: &mut Region,
-    refuses_ahead: bool,
+    terms: &PushTerms,
     sealed: &mut bool,
     log: &mut L,
     writer: &mut W,
@@ -200,14 +201,14 @@ fn answer_and_tell<L: Sink, W: Sink>(
     came: &Arrival,
 ) -> Result<StatusCode, Fault>
     requires { sealed.old ≡ false }
-    ensures replies { Replies refuses_ahead now words.now came.now
+    ensures replies { Replies terms.now now words.now came.now
         (record { before = region.old; after = region.new })
         (record { before = L.holds log.old; after = L.holds log.new }) (log.new ≡ log.old)
         (record { before = W.holds writer.old; after = W.holds writer.new }) sealed.new result }
     ensures faults { IsFaultOfDevice result (L.failed log.old) (L.failed log.new)
         (W.failed writer.old) (W.failed writer.new) }
 {
-    let Ok(answer) = answer_arrival(alloc, region, refuses_ahead, now, words, came) else {
+    let Ok(answer) = answer_arrival(alloc, region, terms, now, words, came) else {
         return Err(Fault::Memory);
     };
     tell(&answer, sealed, log, writer)

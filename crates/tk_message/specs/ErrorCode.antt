@@ -1,4 +1,4 @@
--- The codes of errors (RFC 6749, 4.1.2.1 and 5.2). `not_found` is own, as are the last eight: they
+-- The codes of errors (RFC 6749, 4.1.2.1 and 5.2). `not_found` is own, as are the last nine: they
 -- are for requests that can't be read and for what regions exchange.
 --   error_row      the status and the name of an error
 --   error_status   the status of an error
@@ -23,6 +23,7 @@ use Rattle.tk_message.specs.declared.error_code.ErrorCode.TheVariants.{
   TooLarge,
   Malformed,
   HorizonAhead,
+  OutOfRange,
   OwnNumber,
   Conflict,
 }
@@ -45,6 +46,7 @@ error_row LengthRequired = (status.LengthRequired, codes "length_required")
 error_row TooLarge = (status.ContentTooLarge, codes "too_large")
 error_row Malformed = (status.BadRequest, codes "malformed")
 error_row HorizonAhead = (status.Conflict, codes "horizon_ahead")
+error_row OutOfRange = (status.Conflict, codes "out_of_range")
 error_row OwnNumber = (status.Conflict, codes "own_number")
 error_row Conflict = (status.Conflict, codes "conflict")
 

@@ -38,6 +38,9 @@ pub enum ErrorCode {
     Malformed,
     /// A bundle has a horizon that is later than the moment (own; RFC 9110, 15.5.10).
     HorizonAhead,
+    /// A bundle has a fact or a mark under a number that the region doesn't take (own; RFC 9110,
+    /// 15.5.10).
+    OutOfRange,
     /// A bundle has a fact under the region's own number that the region did not make (own; RFC
     /// 9110, 15.5.10).
     OwnNumber,
@@ -66,6 +69,7 @@ impl ErrorCode {
             ErrorCode::TooLarge => "too_large",
             ErrorCode::Malformed => "malformed",
             ErrorCode::HorizonAhead => "horizon_ahead",
+            ErrorCode::OutOfRange => "out_of_range",
             ErrorCode::OwnNumber => "own_number",
             ErrorCode::Conflict => "conflict",
         }
@@ -90,9 +94,10 @@ impl ErrorCode {
             ErrorCode::MethodNotAllowed => StatusCode::MethodNotAllowed,
             ErrorCode::LengthRequired => StatusCode::LengthRequired,
             ErrorCode::TooLarge => StatusCode::ContentTooLarge,
-            ErrorCode::HorizonAhead | ErrorCode::OwnNumber | ErrorCode::Conflict => {
-                StatusCode::Conflict
-            }
+            ErrorCode::HorizonAhead
+            | ErrorCode::OutOfRange
+            | ErrorCode::OwnNumber
+            | ErrorCode::Conflict => StatusCode::Conflict,
         }
     }
 }

@@ -11,7 +11,7 @@ mod serving;
 mod talks;
 
 use std::alloc::Global;
-use tk_edge::{Edge, Reach};
+use tk_edge::{Edge, PushTerms, Reach};
 use tk_handle::{Moment, RegionNumber};
 use tk_message::StatusCode;
 use tk_region::{Region, Settings};
@@ -20,7 +20,7 @@ use tk_region::{Region, Settings};
 fn new_edge(alloc: Global) -> Option<Edge> {
     let settings = Settings::new(60, 3_600, 86_400, 2_592_000, 1_000_000)?;
     let number = RegionNumber::new(1)?;
-    Some(Edge::new(Region::new(alloc, number, settings), false))
+    Some(Edge::new(Region::new(alloc, number, settings), PushTerms::accept_all(alloc)))
 }
 
 // Returns whether the bytes get this reply without devices, and make no record.

@@ -21,6 +21,7 @@ use Rattle.tk_region.specs.RegionFields.{RegionFields, with_made}
 use Rattle.tk_region.specs.SettingsFields.{SettingsFields}
 use Rattle.tk_region.specs.Step.{IsNextFact}
 use Rattle.tk_edge.specs.Answers.{answer_by, fact_by, AnswersBy}
+use Rattle.tk_edge.specs.Terms.{TermsFields, accept_all}
 use Rattle.tk_edge.specs.Told.{AnswerFields}
 use Rattle.tk_edge.specs.EdgeFields.{EdgeFields}
 use Rattle.tk_edge.specs.Arrivals.{Answers, IsShort}
@@ -118,7 +119,7 @@ module _ (settings : SettingsFields) (rs : List EdgeFields) (bs : List BundleFie
   pub absent_at : IsGap nat_cmp (entries_of rs) r i → map.get (world settings rs bs).regions r ≡ None
   absent_at gap = get_at_gap nat_cmp_total (entries_of rs) sorted r i gap
 
-  module _ (gap : IsGap nat_cmp (entries_of rs) r i) (p : EdgeFields) (is : p ≡ record { region = record { number = r; settings = settings; facts = empty_store }; refuses_ahead = false; sealed = false }) where
+  module _ (gap : IsGap nat_cmp (entries_of rs) r i) (p : EdgeFields) (is : p ≡ record { region = record { number = r; settings = settings; facts = empty_store }; terms = accept_all; sealed = false }) where
     -- the entries after a region that knows nothing is inserted
     opened_entries : (new : List EdgeFields) → new ≡ insert rs i p → entries_of new ≡ insert (entries_of rs) i (r, empty_store)
     opened_entries new h = ap entries_of h ∙ entries_insert rs i p ∙ ap (λ x. insert (entries_of rs) i (entry_of x)) is
@@ -201,34 +202,34 @@ carried_number {F = F} way p q asked o a = by o a
     by (Err fault) (inr (heard, hears, m)) = made heard m
 
 -- if no path of `/sync/` is served, an arrival is heard
-heard_answer : (refuses : Bool) (r new : RegionFields) (asked : AskedFields) (seen : AnswerFields)
-    → ((came : Arrival) × IsArrival Admin asked.bytes came × Answers refuses r asked.now asked.words came (Ok seen) new)
+heard_answer : (terms : TermsFields) (r new : RegionFields) (asked : AskedFields) (seen : AnswerFields)
+    → ((came : Arrival) × IsArrival Admin asked.bytes came × Answers terms r asked.now asked.words came (Ok seen) new)
     → (heard : Arrival) × IsHeard asked.bytes heard × AnswersBy r (answer_by r asked.now asked.words heard) (fact_by r asked.now asked.words heard) (Ok seen) new
-heard_answer refuses r new asked seen (came, is, told) =
-    (came, is, answers_alone refuses r asked.now asked.words came (Ok seen) new (all_heard Admin asked.bytes came is) told)
+heard_answer terms r new asked seen (came, is, told) =
+    (came, is, answers_alone terms r asked.now asked.words came (Ok seen) new (all_heard Admin asked.bytes came is) told)
 
 -- if no path of `/sync/` is served, running out of memory leaves the region unchanged
-pub untouched : (p q : EdgeFields) (now : ℕ) (bytes : List ℕ) → q.sealed ≡ p.sealed → q.refuses_ahead ≡ p.refuses_ahead
-    → IsShort Admin p.refuses_ahead now (Some bytes) p.region q.region → q ≡ p
+pub untouched : (p q : EdgeFields) (now : ℕ) (bytes : List ℕ) → q.sealed ≡ p.sealed → q.terms ≡ p.terms
+    → IsShort Admin p.terms now (Some bytes) p.region q.region → q ≡ p
 untouched p q now bytes sealed ahead (inl same) =
-    ap (λ (r : RegionFields). record { region = r; refuses_ahead = q.refuses_ahead; sealed = q.sealed }) same
-    ∙ ap (λ b. record { region = p.region; refuses_ahead = b; sealed = q.sealed }) ahead
-    ∙ ap (λ b. record { region = p.region; refuses_ahead = p.refuses_ahead; sealed = b }) sealed
+    ap (λ (r : RegionFields). record { region = r; terms = q.terms; sealed = q.sealed }) same
+    ∙ ap (λ b. record { region = p.region; terms = b; sealed = q.sealed }) ahead
+    ∙ ap (λ b. record { region = p.region; terms = p.terms; sealed = b }) sealed
 untouched p q now bytes sealed ahead (inr (sent, arrives, taken, took)) = absurd (clash arrives.0)
   where
     clash : Admin ≡ All → ⊥
     clash e = cc
 
 -- the answer of an edge, by what contracts see of it
-pub answered_part : (p q : EdgeFields) (asked : AskedFields) (told seen : AnswerFields) → told ≡ seen → q.sealed ≡ p.sealed → q.refuses_ahead ≡ p.refuses_ahead
-    → ((came : Arrival) × IsArrival Admin asked.bytes came × Answers p.refuses_ahead p.region asked.now asked.words came (Ok seen) q.region)
+pub answered_part : (p q : EdgeFields) (asked : AskedFields) (told seen : AnswerFields) → told ≡ seen → q.sealed ≡ p.sealed → q.terms ≡ p.terms
+    → ((came : Arrival) × IsArrival Admin asked.bytes came × Answers p.terms p.region asked.now asked.words came (Ok seen) q.region)
     → (heard : Arrival) × IsHeard asked.bytes heard × IsReplied (answer_by p.region asked.now asked.words heard) told.status told.bytes × Makes p asked heard q
 answered_part p q asked told seen is sealed ahead came =
-    let a = heard_answer p.refuses_ahead p.region q.region asked seen came in (
+    let a = heard_answer p.terms p.region q.region asked seen came in (
       a.0,
       a.1,
       (ap (λ (x : AnswerFields). x.status) (is ∙ a.2.0), ap (λ (x : AnswerFields). x.bytes) (is ∙ a.2.0)),
-      record { gains = a.2.1; next = a.2.2; sealed = sealed; refuses_ahead = ahead },
+      record { gains = a.2.1; next = a.2.2; sealed = sealed; terms = ahead },
     )
 
 pub taken_number : (p q : EdgeFields) (b : BundleFields) (o : Outcome) → TakesBundle p.region b o q.region → q.sealed ≡ p.sealed → (q.region.number ≡ p.region.number) × IsAsOpen p q

@@ -18,6 +18,7 @@ use Rattle.tk_handle.proofs.SortedEntriesLaws.{searched}
 use Rattle.tk_store.specs.StoreFields.{StoreFields}
 use Rattle.std.proofs.lemmas.List.{get_or-map, map-set, length-map}
 use Rattle.tk_edge.specs.EdgeFields.{EdgeFields}
+use Rattle.tk_edge.specs.Terms.{accept_all}
 use Rattle.tk_message.specs.Choices.{profile_choices}
 use Rattle.tk_region.specs.SettingsFields.{SettingsFields}
 use Rattle.tk_world.specs.Regions.{entry_of, entries_of, IsOpen, HaveSettings}
@@ -42,7 +43,7 @@ entries_insert (r ∷ rs) (suc i) q = ap (λ es. entry_of r ∷ es) (entries_ins
 
 -- a region with this entry
 abbrev region_of : ℕ × StoreFields → EdgeFields
-region_of e = record { region = record { number = e.0; settings = record { code = 0; access = 0; refresh = 0; family = 0; cap = 0; choices = profile_choices }; facts = e.1 }; refuses_ahead = false; sealed = false }
+region_of e = record { region = record { number = e.0; settings = record { code = 0; access = 0; refresh = 0; family = 0; cap = 0; choices = profile_choices }; facts = e.1 }; terms = accept_all; sealed = false }
 
 get_entry : (rs : List EdgeFields) (i : ℕ) (d : EdgeFields) → get_or (entries_of rs) i (entry_of d) ≡ entry_of (get_or rs i d)
 get_entry [] i d = refl

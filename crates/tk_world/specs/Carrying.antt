@@ -40,7 +40,7 @@ pub record Makes (old : EdgeFields) (asked : AskedFields) (heard : Arrival)
   pub gains : Gains old.region (fact_by old.region asked.now asked.words heard) new.region
   pub next : IfSome (fact_by old.region asked.now asked.words heard) (IsNextFact old.region)
   pub sealed : new.sealed ≡ old.sealed
-  pub refuses_ahead : new.refuses_ahead ≡ old.refuses_ahead
+  pub terms : new.terms ≡ old.terms
 
 -- the reply shows the answer to what was heard; if memory runs out, the edge is unchanged
 abbrev pub Answers : Way → EdgeFields → AskedFields → Outcome → EdgeFields → Type 0

@@ -3,7 +3,7 @@
 use crate::bundle::MadeBundle;
 use std::alloc::Global;
 use std::marker::Model;
-use tk_edge::Edge;
+use tk_edge::{Edge, PushTerms};
 use tk_region::{Region, Settings};
 
 /// Regions under their numbers, with the bundles that they made. A bundle may reach any region, in
@@ -247,7 +247,7 @@ impl World {
             Ok(_) => Outcome::NumberTaken,
             Err(at) => {
                 let region = Region::new(self.alloc, number, self.settings);
-                let edge = Edge::new(region, false);
+                let edge = Edge::new(region, PushTerms::accept_all(self.alloc));
                 open_region(&mut self.regions, at, edge)
             }
         }

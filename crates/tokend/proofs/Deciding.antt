@@ -26,6 +26,7 @@ use Rattle.tk_edge.specs.OpenReply.{IsOpenReply}
 use Rattle.tk_edge.specs.FrontServed.{IsFrontServed, IsFrontTurnedAway, IsServedBy, asked_by}
 use Rattle.tk_edge.specs.Pushes.{IsBegun, LogsAndTells, TellsTaken, bundle_to_log}
 use Rattle.tk_edge.specs.Served.{Asked, IsServed, IsTurnedAway, RepliesTo, RunsOut, Step, WritesNothing}
+use Rattle.tk_edge.specs.Terms.{TermsFields}
 use Rattle.tk_edge.specs.Told.{AnswerFields, Change, IsTold}
 use Rattle.tk_edge.specs.declared.ahead.PushError.{PushError}
 use Rattle.tk_edge.specs.declared.hear.Arrival.{Arrival}
@@ -118,14 +119,14 @@ module _ (a n c w : List ℕ) (still : Type 0) (sealed : Bool) where
   logs_behind logged taken (Err Read) h = (tells_behind taken (Err Read) h.2, appends_behind a n _ h.0)
   logs_behind logged taken (Err Memory) h = (tells_behind taken (Err Memory) h.2, appends_behind a n _ h.0)
 
-  replied_behind : (sent : Option (List ℕ)) (refuses : Bool) (now : ℕ) (words : List ℕ) (came : Arrival) (region : Step) (result : Result StatusCode Fault)
-      → RepliesTo sent refuses now words came region (memory a n) still (memory c w) sealed result → Both
-  replied_behind (Some bytes) refuses now words came region result h = logs_behind h.2 h.0 result h.4
-  replied_behind None refuses now words came region (Ok status) h = told_behind h.0 (Ok status) h.2
-  replied_behind None refuses now words came region (Err Log) h = told_behind h.0 (Err Log) h.2
-  replied_behind None refuses now words came region (Err Write) h = told_behind h.0 (Err Write) h.2
-  replied_behind None refuses now words came region (Err Read) h = absurd h
-  replied_behind None refuses now words came region (Err Memory) h = nothing_behind h.2
+  replied_behind : (sent : Option (List ℕ)) (terms : TermsFields) (now : ℕ) (words : List ℕ) (came : Arrival) (region : Step) (result : Result StatusCode Fault)
+      → RepliesTo sent terms now words came region (memory a n) still (memory c w) sealed result → Both
+  replied_behind (Some bytes) terms now words came region result h = logs_behind h.2 h.0 result h.4
+  replied_behind None terms now words came region (Ok status) h = told_behind h.0 (Ok status) h.2
+  replied_behind None terms now words came region (Err Log) h = told_behind h.0 (Err Log) h.2
+  replied_behind None terms now words came region (Err Write) h = told_behind h.0 (Err Write) h.2
+  replied_behind None terms now words came region (Err Read) h = absurd h
+  replied_behind None terms now words came region (Err Memory) h = nothing_behind h.2
 
   out_behind : (b : Bool) (asked : Asked) (region : Step) → RunsOut b asked region (memory a n) still (memory c w) sealed → Both
   out_behind false asked region h = nothing_behind h.1
@@ -133,10 +134,10 @@ module _ (a n c w : List ℕ) (still : Type 0) (sealed : Bool) where
   out_behind true asked region (inr h) = logs_behind h.2.2 h.2.0 (Err Memory) h.2.4
 
   served_behind : (asked : Asked) (region : Step) (result : Result Served Fault) → IsServed asked region (memory a n) still (memory c w) sealed result → Both
-  served_behind asked region (Ok (Done status)) h = replied_behind (bundle_to_log asked.log_taken h.0) asked.refuses_ahead asked.now asked.words h.0 region (Ok status) h.3
+  served_behind asked region (Ok (Done status)) h = replied_behind (bundle_to_log asked.log_taken h.0) asked.terms asked.now asked.words h.0 region (Ok status) h.3
   served_behind asked region (Ok Nothing) h = nothing_behind h.1.1
-  served_behind asked region (Err Log) h = replied_behind (bundle_to_log asked.log_taken h.0) asked.refuses_ahead asked.now asked.words h.0 region (Err Log) h.3
-  served_behind asked region (Err Write) h = replied_behind (bundle_to_log asked.log_taken h.0) asked.refuses_ahead asked.now asked.words h.0 region (Err Write) h.3
+  served_behind asked region (Err Log) h = replied_behind (bundle_to_log asked.log_taken h.0) asked.terms asked.now asked.words h.0 region (Err Log) h.3
+  served_behind asked region (Err Write) h = replied_behind (bundle_to_log asked.log_taken h.0) asked.terms asked.now asked.words h.0 region (Err Write) h.3
   served_behind asked region (Err Read) h = nothing_behind h.1
   served_behind asked region (Err Memory) h = out_behind asked.log_taken asked region h
 
@@ -179,15 +180,15 @@ module _ (a n c w : List ℕ) (still : Type 0) (sealed : Bool) where
     logs_apart l taken (Err Read) h = absurd h.2
     logs_apart l taken (Err Memory) h = (appends_apart a n logged _ is_log h.0, λ none. unused (h.1 none), tells_apart taken (Err Memory) h.2, h.3)
 
-    replied_apart : (sent : Option (List ℕ)) (refuses : Bool) (now : ℕ) (words : List ℕ) (came : Arrival) (region : Step) (result : Result StatusCode Fault)
-        → RepliesTo sent refuses now words came region (memory a n) still (memory c w) sealed result
-        → RepliesTo sent refuses now words came region (gains logged) (logged ≡ []) (gains reply) sealed result
-    replied_apart (Some bytes) refuses now words came region result h = (h.0, h.1, h.2, h.3, logs_apart h.2 h.0 result h.4)
-    replied_apart None refuses now words came region (Ok status) h = (h.0, h.1, told_apart h.0 (Ok status) h.2, uses_less still (logged ≡ []) h.0 (Ok status) unused h.3, h.4)
-    replied_apart None refuses now words came region (Err Log) h = (h.0, h.1, told_apart h.0 (Err Log) h.2, uses_less still (logged ≡ []) h.0 (Err Log) unused h.3, h.4)
-    replied_apart None refuses now words came region (Err Write) h = (h.0, h.1, told_apart h.0 (Err Write) h.2, uses_less still (logged ≡ []) h.0 (Err Write) unused h.3, h.4)
-    replied_apart None refuses now words came region (Err Read) h = absurd h
-    replied_apart None refuses now words came region (Err Memory) h = (h.0, h.1, nothing_apart h.2)
+    replied_apart : (sent : Option (List ℕ)) (terms : TermsFields) (now : ℕ) (words : List ℕ) (came : Arrival) (region : Step) (result : Result StatusCode Fault)
+        → RepliesTo sent terms now words came region (memory a n) still (memory c w) sealed result
+        → RepliesTo sent terms now words came region (gains logged) (logged ≡ []) (gains reply) sealed result
+    replied_apart (Some bytes) terms now words came region result h = (h.0, h.1, h.2, h.3, logs_apart h.2 h.0 result h.4)
+    replied_apart None terms now words came region (Ok status) h = (h.0, h.1, told_apart h.0 (Ok status) h.2, uses_less still (logged ≡ []) h.0 (Ok status) unused h.3, h.4)
+    replied_apart None terms now words came region (Err Log) h = (h.0, h.1, told_apart h.0 (Err Log) h.2, uses_less still (logged ≡ []) h.0 (Err Log) unused h.3, h.4)
+    replied_apart None terms now words came region (Err Write) h = (h.0, h.1, told_apart h.0 (Err Write) h.2, uses_less still (logged ≡ []) h.0 (Err Write) unused h.3, h.4)
+    replied_apart None terms now words came region (Err Read) h = absurd h
+    replied_apart None terms now words came region (Err Memory) h = (h.0, h.1, nothing_apart h.2)
 
     out_apart : (b : Bool) (asked : Asked) (region : Step) → RunsOut b asked region (memory a n) still (memory c w) sealed
         → RunsOut b asked region (gains logged) (logged ≡ []) (gains reply) sealed
@@ -197,10 +198,10 @@ module _ (a n c w : List ℕ) (still : Type 0) (sealed : Bool) where
 
     served_apart : (asked : Asked) (region : Step) (result : Result Served Fault) → IsServed asked region (memory a n) still (memory c w) sealed result
         → IsServed asked region (gains logged) (logged ≡ []) (gains reply) sealed result
-    served_apart asked region (Ok (Done status)) h = (h.0, h.1, h.2, replied_apart (bundle_to_log asked.log_taken h.0) asked.refuses_ahead asked.now asked.words h.0 region (Ok status) h.3)
+    served_apart asked region (Ok (Done status)) h = (h.0, h.1, h.2, replied_apart (bundle_to_log asked.log_taken h.0) asked.terms asked.now asked.words h.0 region (Ok status) h.3)
     served_apart asked region (Ok Nothing) h = (h.0, (h.1.0, nothing_apart h.1.1))
-    served_apart asked region (Err Log) h = (h.0, h.1, h.2, replied_apart (bundle_to_log asked.log_taken h.0) asked.refuses_ahead asked.now asked.words h.0 region (Err Log) h.3)
-    served_apart asked region (Err Write) h = (h.0, h.1, h.2, replied_apart (bundle_to_log asked.log_taken h.0) asked.refuses_ahead asked.now asked.words h.0 region (Err Write) h.3)
+    served_apart asked region (Err Log) h = (h.0, h.1, h.2, replied_apart (bundle_to_log asked.log_taken h.0) asked.terms asked.now asked.words h.0 region (Err Log) h.3)
+    served_apart asked region (Err Write) h = (h.0, h.1, h.2, replied_apart (bundle_to_log asked.log_taken h.0) asked.terms asked.now asked.words h.0 region (Err Write) h.3)
     served_apart asked region (Err Read) h = (h.0, nothing_apart h.1)
     served_apart asked region (Err Memory) h = out_apart asked.log_taken asked region h
 
@@ -217,10 +218,10 @@ module _ (a n c w : List ℕ) (still : Type 0) (sealed : Bool) where
 clash : true ≡ false → ⊥
 clash e = cc
 
-same_edge : (old new : EdgeFields) → new.region ≡ old.region → new.refuses_ahead ≡ old.refuses_ahead → new.sealed ≡ old.sealed → new ≡ old
-same_edge old new region refuses sealed = λ i. record { region = region i; refuses_ahead = refuses i; sealed = sealed i }
+same_edge : (old new : EdgeFields) → new.region ≡ old.region → new.terms ≡ old.terms → new.sealed ≡ old.sealed → new ≡ old
+same_edge old new region terms sealed = λ i. record { region = region i; terms = terms i; sealed = sealed i }
 
-module _ (asking : Asking) (old new : EdgeFields) (a n c w : List ℕ) (still : Type 0) (unchanged : still → n ≡ a) (refuses : new.refuses_ahead ≡ old.refuses_ahead) where
+module _ (asking : Asking) (old new : EdgeFields) (a n c w : List ℕ) (still : Type 0) (unchanged : still → n ≡ a) (terms : new.terms ≡ old.terms) where
   abbrev Decided : Result (Option (Served × Taken)) Fault → Type 0
   Decided result = (reply : List ℕ) × (logged : List ℕ) × (w ≡ c ++ reply) × (n ≡ a ++ logged) × FrontDecides asking old result reply logged new
 
@@ -240,7 +241,7 @@ module _ (asking : Asking) (old new : EdgeFields) (a n c w : List ℕ) (still : 
         served = λ _ tail follows. served_apart a n c w still new.sealed b.1.0 b.0.0 b.1.1 b.0.1 (λ s. same_apart a n b.1.0 b.1.1 (unchanged s))
             (asked_by (asked_of asking old) asking.bytes tail) (record { before = old.region; after = new.region }) end (h tail follows);
         shut = λ sealed. absurd (clash (sym sealed ∙ unsealed));
-        refuses_ahead = refuses;
+        terms = terms;
       }
 
   unsealed_front : (result : Result (Option (Served × Taken)) Fault) → old.sealed ≡ false → Fronts result → Decided result
@@ -249,7 +250,7 @@ module _ (asking : Asking) (old new : EdgeFields) (a n c w : List ℕ) (still : 
     [],
     h.1.1.1 ∙ sym (append-nil c),
     h.1.1.0 ∙ sym (append-nil a),
-    (unsealed, h.0, same_edge old new h.1.0 refuses (h.1.1.2 ∙ sym unsealed), refl, refl),
+    (unsealed, h.0, same_edge old new h.1.0 terms (h.1.1.2 ∙ sym unsealed), refl, refl),
   )
   unsealed_front (Ok (Some end)) unsealed h =
       let b = both (Ok end.0) h.1 in (b.0.0, b.1.0, b.0.1, b.1.1, ((λ _. h.0, λ sealed. absurd (clash (sym sealed ∙ unsealed))), decided (Ok end.0) unsealed h.1))
@@ -263,7 +264,7 @@ module _ (asking : Asking) (old new : EdgeFields) (a n c w : List ℕ) (still : 
       record {
         served = λ unsealed. absurd (clash (sym shut ∙ unsealed));
         shut = λ _. (same.0, refl, inl (away_apart a n c w still new.sealed [] b.0 (unchanged same.1 ∙ sym (append-nil a)) b.1 (λ _. refl) end h));
-        refuses_ahead = refuses;
+        terms = terms;
       }
 
   shut_front : (result : Result (Option (Served × Taken)) Fault) → old.sealed ≡ true → (new ≡ old) × still → IsFrontTurnedAway asking.bytes (memory c w) result → Decided result
@@ -296,12 +297,12 @@ unread_by : (asking : Asking) (edge : EdgeFields) (fault : Fault) → IsUnread f
 unread_by asking edge Read h = record {
   served = λ unsealed tail follows. (refl, (refl, refl, unsealed, refl));
   shut = λ _. (refl, refl, inr tt);
-  refuses_ahead = refl;
+  terms = refl;
 }
 unread_by asking edge Memory h = record {
   served = λ unsealed tail follows. out_of_memory asking.log_taken (asked_by (asked_of asking edge) asking.bytes tail) edge unsealed;
   shut = λ _. (refl, refl, inl refl);
-  refuses_ahead = refl;
+  terms = refl;
 }
 unread_by asking edge Write h = absurd h
 unread_by asking edge Log h = absurd h
@@ -320,7 +321,7 @@ parted words log_taken edge = (
   record {
     served = λ unsealed tail follows. (λ bytes is. none_comes bytes tail (follows refl) is, (refl, (refl, refl, unsealed, refl)));
     shut = λ _. (refl, refl, inr tt);
-    refuses_ahead = refl;
+    terms = refl;
   },
   tt,
   tt,

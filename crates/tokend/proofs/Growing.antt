@@ -4,7 +4,7 @@
 --   made_grows    a fact is made
 --   taken_grows   a bundle is taken in, refused or cut short
 --   pushed_grows  taken_grows, for a bundle that the edge may refuse
-use Rattle.std.proofs.Common.{◌≡◌, ◌≤◌, ℕ, Bool, true, false, max, List, take, Option, Some, None, Result, Ok, Err, IfSome, inl, inr, refl, sym, ap, subst, ◌∙◌, arith}
+use Rattle.std.proofs.Common.{◌≡◌, ◌≤◌, ℕ, max, List, take, Option, Some, None, Result, Ok, Err, IfSome, inl, inr, refl, sym, ap, subst, ◌∙◌, arith}
 use Rattle.std.specs.FinMap as map
 use Rattle.tk_format.specs.Format.{whole}
 use Rattle.tk_handle.specs.declared.dot.Dot.{Dot}
@@ -24,10 +24,11 @@ use Rattle.tk_region.specs.Taking.{AgreesWith, TakesIn, items_taken, raised}
 use Rattle.tk_region.specs.declared.take.TakeError.{TakeError}
 use Rattle.tk_region.specs.declared.take.TakeError.TheVariants as refusal
 use Rattle.tk_region.proofs.CapLaws.{next_unknown}
-use Rattle.tk_edge.specs.Ahead.{is_refused}
+use Rattle.tk_edge.specs.Ahead.{refused}
 use Rattle.tk_edge.specs.Exchanges.{Pushes, PushesBy, TakesBundle}
+use Rattle.tk_edge.specs.Terms.{TermsFields}
 use Rattle.tk_edge.specs.declared.ahead.PushError.{PushError}
-use Rattle.tk_edge.specs.declared.ahead.PushError.TheVariants.{HorizonAhead, Take}
+use Rattle.tk_edge.specs.declared.ahead.PushError.TheVariants.{HorizonAhead, OutOfRange, Take}
 use Rattle.tokend.specs.Growing.{Grows}
 
 -- ---- stores
@@ -99,13 +100,18 @@ taken_grows old new bytes taken h = record { number = h.number; settings = h.set
     by_bundle (Some b) (Ok n) k = joined b b.items k.1 k.2.0
 
 -- a pushed bundle that the edge refuses, or that goes to the region
-pub pushed_grows : (refuses : Bool) (now : ℕ) (old new : RegionFields) (bytes : List ℕ) (taken : Result ℕ PushError) → Pushes refuses now old bytes taken new → Grows old new
-pushed_grows refuses now old new bytes taken h = by (is_refused refuses now (whole bundle bytes)) taken h
+pub pushed_grows : (terms : TermsFields) (now : ℕ) (old new : RegionFields) (bytes : List ℕ) (taken : Result ℕ PushError) → Pushes terms now old bytes taken new → Grows old new
+pushed_grows terms now old new bytes taken h = by (refused terms now (whole bundle bytes)) taken h
   where
-    by : (r : Bool) (t : Result ℕ PushError) → PushesBy r old bytes t new → Grows old new
-    by true (Err HorizonAhead) h = grows_same old new h
-    by true (Err (Take refusal.Memory)) h = grows_same old new h
-    by true t h = absurd h
-    by false (Ok n) h = taken_grows old new bytes (Ok n) h
-    by false (Err (Take error)) h = taken_grows old new bytes (Err error) h
-    by false (Err HorizonAhead) h = absurd h
+    by : (r : Option PushError) (t : Result ℕ PushError) → PushesBy r old bytes t new → Grows old new
+    by (Some why) (Err HorizonAhead) h = grows_same old new h.1
+    by (Some why) (Err OutOfRange) h = grows_same old new h.1
+    by (Some why) (Err (Take refusal.Memory)) h = grows_same old new h
+    by (Some why) (Err (Take refusal.Malformed)) h = grows_same old new h.1
+    by (Some why) (Err (Take refusal.OwnNumber)) h = grows_same old new h.1
+    by (Some why) (Err (Take refusal.Conflict)) h = grows_same old new h.1
+    by (Some why) (Ok n) h = absurd h
+    by None (Ok n) h = taken_grows old new bytes (Ok n) h
+    by None (Err (Take error)) h = taken_grows old new bytes (Err error) h
+    by None (Err HorizonAhead) h = absurd h
+    by None (Err OutOfRange) h = absurd h

@@ -44,11 +44,12 @@ use Rattle.tk_region.proofs.FitsLaws.{fits_differ}
 use Rattle.tk_edge.specs.Answers.{IsRecorded, answer_by, fact_by}
 use Rattle.tk_edge.specs.Arrivals.{Answers}
 use Rattle.tk_edge.specs.EdgeFields.{EdgeFields}
-use Rattle.tk_edge.specs.Ahead.{is_refused, lifted}
+use Rattle.tk_edge.specs.Ahead.{refused, lifted}
 use Rattle.tk_edge.specs.Exchanges.{IsTakenReply, Pushes, PushesBy, TakesBundle}
 use Rattle.tk_edge.specs.FrontServed.{asked_by}
 use Rattle.tk_edge.specs.Pushes.{IsNews, bundle_to_log, kept_of, logged_of}
 use Rattle.tk_edge.specs.Served.{Asked, IsServed, RepliesTo, RunsOut}
+use Rattle.tk_edge.specs.Terms.{TermsFields}
 use Rattle.tk_edge.specs.Told.{AnswerFields, Change, record_in}
 use Rattle.tk_edge.specs.declared.edge.Served.{Served}
 use Rattle.tk_edge.specs.declared.edge.Served.TheVariants.{Nothing, Done}
@@ -192,14 +193,14 @@ module _ (end : Result Served Fault) (before after : Option (List ℕ)) (old new
   logged_as : (answer told : AnswerFields) → answer ≡ told → Appends before after (record_in answer.logged) → Appends before after (record_in told.logged)
   logged_as answer told is more = subst (λ (a : AnswerFields). Appends before after (record_in a.logged)) is more
 
-  answered : (refuses : Bool) (now : ℕ) (words : List ℕ) (came : Arrival) (answer : AnswerFields) → bundle_to_log true came ≡ None → Answers refuses old now words came (Ok answer) new
+  answered : (terms : TermsFields) (now : ℕ) (words : List ℕ) (came : Arrival) (answer : AnswerFields) → bundle_to_log true came ≡ None → Answers terms old now words came (Ok answer) new
       → Appends before after (record_in answer.logged) → IfSome (fact_by old now words came) IsRecorded → Grows end before after F G
-  answered refuses now words (Exchange Vector) answer none h more fits = still (logged_as answer _ h.0.3 more) h.1
-  answered refuses now words (Exchange (Pull sent)) answer none h more fits = still (logged_as answer _ h.0 more) h.1
-  answered refuses now words (Exchange (Push sent)) answer none h more fits = absurd (cc)
-  answered refuses now words Silence answer none h more fits = gains_none (logged_as answer _ h.0 more) h.1
-  answered refuses now words (Refused why) answer none h more fits = gains_none (logged_as answer _ h.0 more) h.1
-  answered refuses now words (Request request) answer none h more fits =
+  answered terms now words (Exchange Vector) answer none h more fits = still (logged_as answer _ h.0.3 more) h.1
+  answered terms now words (Exchange (Pull sent)) answer none h more fits = still (logged_as answer _ h.0 more) h.1
+  answered terms now words (Exchange (Push sent)) answer none h more fits = absurd (cc)
+  answered terms now words Silence answer none h more fits = gains_none (logged_as answer _ h.0 more) h.1
+  answered terms now words (Refused why) answer none h more fits = gains_none (logged_as answer _ h.0 more) h.1
+  answered terms now words (Request request) answer none h more fits =
       recorded (prepared_of old now words request).fact
       (subst (λ o. Appends before after (record_in o)) (logged_is old now words request) (logged_as answer (answer_by old now words (Request request)) h.0 more)) h.1 h.2 fits
 
@@ -290,11 +291,11 @@ module _ (end : Result Served Fault) (before after : Option (List ℕ)) (old new
     taken_in (Err Conflict) short same k = inl (same, same_store k.2)
     taken_in (Err Malformed) short same k = absurd k
 
-  pushed : (refuses : Bool) (now : ℕ) (bytes : List ℕ) (taken : Result ℕ PushError) (logged : Option (List ℕ)) → (taken ≡ short_push → IsCalm end → ⊥) → Pushes refuses now old bytes taken new
+  pushed : (terms : TermsFields) (now : ℕ) (bytes : List ℕ) (taken : Result ℕ PushError) (logged : Option (List ℕ)) → (taken ≡ short_push → IsCalm end → ⊥) → Pushes terms now old bytes taken new
       → IsNews old bytes taken logged new → Appends before after (logged_of logged) → Grows end before after F G
-  pushed refuses now bytes taken logged short takes (inl none) more = still (subst (λ o. Appends before after (logged_of o)) none.0 more) none.1
-  pushed refuses now bytes taken logged short takes (inr read) more =
-      by (is_refused refuses now (whole bundle bytes)) taken short takes (subst (λ o. Appends before after (logged_of o)) read.1.news more)
+  pushed terms now bytes taken logged short takes (inl none) more = still (subst (λ o. Appends before after (logged_of o)) none.0 more) none.1
+  pushed terms now bytes taken logged short takes (inr read) more =
+      by (refused terms now (whole bundle bytes)) taken short takes (subst (λ o. Appends before after (logged_of o)) read.1.news more)
     where
       b : BundleFields
       b = read.0
@@ -307,15 +308,20 @@ module _ (end : Result Served Fault) (before after : Option (List ℕ)) (old new
       sent t short takes more =
           taken_in b read.1.fits read.1.readable t short more (subst (λ o. TakesIn F (next_in (place_in old)) o t G) whole_is takes.takes)
 
-      by : (r : Bool) (t : Result ℕ PushError) → (t ≡ short_push → IsCalm end → ⊥) → PushesBy r old bytes t new → Appends before after (logged_of (kept_of t (news_record F b)))
+      by : (r : Option PushError) (t : Result ℕ PushError) → (t ≡ short_push → IsCalm end → ⊥) → PushesBy r old bytes t new → Appends before after (logged_of (kept_of t (news_record F b)))
           → Grows end before after F G
-      by true (Err push.HorizonAhead) short same more = still more same
-      by true (Err (push.Take Take.Memory)) short same more =
+      by (Some why) (Err push.HorizonAhead) short same more = still more same.1
+      by (Some why) (Err push.OutOfRange) short same more = still more same.1
+      by (Some why) (Err (push.Take Malformed)) short same more = still more same.1
+      by (Some why) (Err (push.Take OwnNumber)) short same more = still more same.1
+      by (Some why) (Err (push.Take Conflict)) short same more = still more same.1
+      by (Some why) (Err (push.Take Take.Memory)) short same more =
           taken_in b read.1.fits read.1.readable (Err Take.Memory) short more (inl (ap (λ (r : RegionFields). r.facts) same))
-      by true t short same more = absurd same
-      by false (Ok n) short takes more = sent (Ok n) short takes more
-      by false (Err (push.Take error)) short takes more = sent (Err error) short takes more
-      by false (Err push.HorizonAhead) short takes more = absurd takes
+      by (Some why) (Ok n) short same more = absurd same
+      by None (Ok n) short takes more = sent (Ok n) short takes more
+      by None (Err (push.Take error)) short takes more = sent (Err error) short takes more
+      by None (Err push.HorizonAhead) short takes more = absurd takes
+      by None (Err push.OutOfRange) short takes more = absurd takes
 
 not_short : (end : Result Served Fault) (taken : Result ℕ PushError) (reply : ReplyFields) → IsTakenReply taken reply → taken ≡ short_push → IsCalm end → ⊥
 not_short end taken reply told is calm = subst (λ t. IsTakenReply t reply) is told
@@ -325,16 +331,16 @@ module _ (before after : Option (List ℕ)) (old new : RegionFields) (asked : As
   log = record { before = before; after = after }
 
   replied : (end : Result Served Fault) (sent : Option (List ℕ)) (came : Arrival) (result : Result StatusCode Fault) → bundle_to_log true came ≡ sent → result ≢ Err Log → result ≢ Err Memory
-      → RepliesTo sent asked.refuses_ahead asked.now asked.words came (record { before = old; after = new }) log quiet writer false result → Grows end before after old.facts new.facts
-  replied end None came (Ok status) is not_log not_memory h = answered end before after old new asked.refuses_ahead asked.now asked.words came h.0 is h.1 h.2.1 h.4
-  replied end None came (Err Write) is not_log not_memory h = answered end before after old new asked.refuses_ahead asked.now asked.words came h.0 is h.1 h.2.0 h.4
+      → RepliesTo sent asked.terms asked.now asked.words came (record { before = old; after = new }) log quiet writer false result → Grows end before after old.facts new.facts
+  replied end None came (Ok status) is not_log not_memory h = answered end before after old new asked.terms asked.now asked.words came h.0 is h.1 h.2.1 h.4
+  replied end None came (Err Write) is not_log not_memory h = answered end before after old new asked.terms asked.now asked.words came h.0 is h.1 h.2.0 h.4
   replied end None came (Err Read) is not_log not_memory h = absurd h
   replied end None came (Err Log) is not_log not_memory h = absurd (not_log refl)
   replied end None came (Err Memory) is not_log not_memory h = absurd (not_memory refl)
   replied end (Some bytes) came (Ok status) is not_log not_memory h =
-      pushed end before after old new asked.refuses_ahead asked.now bytes h.0 h.2 (not_short end h.0 h.4.2.0 h.4.2.1) h.1 h.3 h.4.0
+      pushed end before after old new asked.terms asked.now bytes h.0 h.2 (not_short end h.0 h.4.2.0 h.4.2.1) h.1 h.3 h.4.0
   replied end (Some bytes) came (Err Write) is not_log not_memory h =
-      pushed end before after old new asked.refuses_ahead asked.now bytes h.0 h.2 (not_short end h.0 h.4.2.0 h.4.2.1) h.1 h.3 h.4.0
+      pushed end before after old new asked.terms asked.now bytes h.0 h.2 (not_short end h.0 h.4.2.0 h.4.2.1) h.1 h.3 h.4.0
   replied end (Some bytes) came (Err Read) is not_log not_memory h = absurd h.4.2
   replied end (Some bytes) came (Err Log) is not_log not_memory h = absurd (not_log refl)
   replied end (Some bytes) came (Err Memory) is not_log not_memory h = absurd (not_memory refl)
@@ -342,18 +348,18 @@ module _ (before after : Option (List ℕ)) (old new : RegionFields) (asked : As
   ran_out : (b : Bool) → b ≡ true → RunsOut b asked (record { before = old; after = new }) log quiet writer false → Grows (Err Memory) before after old.facts new.facts
   ran_out false is h = absurd (cc)
   ran_out true is (inl same) = still (Err Memory) before after old new (keeps_nothing before after same.1.0) same.0
-  ran_out true is (inr h) = pushed (Err Memory) before after old new asked.refuses_ahead asked.now h.0 h.2.0 h.2.2 (λ e calm. calm) h.2.1 h.2.3 h.2.4.0
+  ran_out true is (inr h) = pushed (Err Memory) before after old new asked.terms asked.now h.0 h.2.0 h.2.2 (λ e calm. calm) h.2.1 h.2.3 h.2.4.0
 
   unsealed_log : (sent : Option (List ℕ)) (came : Arrival)
-      → RepliesTo sent asked.refuses_ahead asked.now asked.words came (record { before = old; after = new }) log quiet writer false (Err Log) → ⊥
+      → RepliesTo sent asked.terms asked.now asked.words came (record { before = old; after = new }) log quiet writer false (Err Log) → ⊥
   unsealed_log None came h = sealed_clash h.2.2
   unsealed_log (Some bytes) came h = sealed_clash h.4.2
 
   as_logged : (came : Arrival) (result : Result StatusCode Fault)
-      → RepliesTo (bundle_to_log asked.log_taken came) asked.refuses_ahead asked.now asked.words came (record { before = old; after = new }) log quiet writer false result
-      → RepliesTo (bundle_to_log true came) asked.refuses_ahead asked.now asked.words came (record { before = old; after = new }) log quiet writer false result
+      → RepliesTo (bundle_to_log asked.log_taken came) asked.terms asked.now asked.words came (record { before = old; after = new }) log quiet writer false result
+      → RepliesTo (bundle_to_log true came) asked.terms asked.now asked.words came (record { before = old; after = new }) log quiet writer false result
   as_logged came result h =
-      subst (λ b. RepliesTo (bundle_to_log b came) asked.refuses_ahead asked.now asked.words came (record { before = old; after = new }) log quiet writer false result) logs h
+      subst (λ b. RepliesTo (bundle_to_log b came) asked.terms asked.now asked.words came (record { before = old; after = new }) log quiet writer false result) logs h
 
   served : (result : Result Served Fault) → IsServed asked (record { before = old; after = new }) log quiet writer false result → Grows result before after old.facts new.facts
   served (Ok (Done status)) h = replied (Ok (Done status)) (bundle_to_log true h.0) h.0 (Ok status) refl (ok_fault status Log) (ok_fault status Memory) (as_logged h.0 (Ok status) h.3)
@@ -669,7 +675,7 @@ skip_above (Some Skipped) below = refl
 
 log_from : (olds : List BundleFields) (region : RegionFields) (log : List ℕ) (h : HasLogged olds region log) → Grew h.turns [] log h.start.facts region.facts
 log_from olds region log h =
-    through h.words (record { edge = edge_of h.refuses h.start; log = Some []; faults = h.faults }) h.turns (record { edge = edge_of h.refuses region; log = Some log; faults = h.told }) [] log h.served refl refl refl refl
+    through h.words (record { edge = edge_of h.terms h.start; log = Some []; faults = h.faults }) h.turns (record { edge = edge_of h.terms region; log = Some log; faults = h.told }) [] log h.served refl refl refl refl
 
 -- the bundles of the log are those by which it grew
 log_is : (log : List ℕ) (news bundles : List BundleFields) → AreLogged log news → AreBundles bundles → log ≡ log_bytes bundles → bundles ≡ news
@@ -795,7 +801,7 @@ loads_all olds region log h calm news logged bytes are new loaded empty fresh re
     known =
         let above = each_below h.first olds h.full h.fit h.loaded in
         let grown = slots_trans h.full.facts.slots h.start.facts.slots region.facts.slots (pruned_below h.moment h.count h.full h.start h.pruned)
-        (turns_grow h.words true (record { edge = edge_of h.refuses h.start; log = Some []; faults = h.faults }) h.turns (record { edge = edge_of h.refuses region; log = Some log; faults = h.told }) h.served).facts.slots in
+        (turns_grow h.words true (record { edge = edge_of h.terms h.start; log = Some []; faults = h.faults }) h.turns (record { edge = edge_of h.terms region; log = Some log; faults = h.told }) h.served).facts.slots in
         each_both region.facts.slots olds news (each_more h.full.facts.slots region.facts.slots olds grown above.each) (news_through.known calm)
 
     behind : (rest : List ℕ) → (front : TakesFront new bytes rest loaded) → Parted front.bundles (olds ++ news) rest are.rest

@@ -8,12 +8,14 @@ use Rattle.tk_store.specs.StoreFields.{empty_store}
 use Rattle.tk_bundle.specs.BundleFields.{BundleFields}
 use Rattle.tk_region.specs.RegionFields.{RegionFields}
 use Rattle.tk_edge.specs.EdgeFields.{EdgeFields}
+use Rattle.tk_edge.specs.Terms.{TermsFields}
 use Rattle.tokend.specs.Decisions.{Ending, IsDecisionBy}
 use Rattle.tokend.specs.Draw.{past_six, six}
 use Rattle.tokend.specs.Repeats.{Repetition}
 use Rattle.tokend.specs.KeptLog.{AreLogged, AreOld, HasLogged, IsLog, IsTorn, KnowsLogs, ServiceLogs}
 use Rattle.tokend.specs.Loading.{AreBundles, Loads, TakesEach, TakesFront}
 use Rattle.tokend.specs.ServiceRun.{with_region}
+use Rattle.tokend.specs.Ranges.{terms_of}
 use Rattle.tokend.specs.Starting.{IsEmptyLog, IsToldAs, LoadsFile, LoadsOld, PrunesOld, edge_of}
 use Rattle.tokend.specs.Telling.{Writing}
 use Rattle.tokend.specs.Turns.{AreDecisions, AreTurns, Endings, IsKept, IsLost, IsTurn, Running, ServesLogged, keeps_in, past_each}
@@ -58,30 +60,30 @@ from_old kept None old new dropped h = ([], tt, h.1, refl)
 from_old kept (Some name) old new dropped h = from_file (kept (string_bytes name)) (string_bytes name) old new dropped h
 
 decision_refuses : (again : Option Repetition) (words : List ℕ) (log_taken : Bool) (old : EdgeFields) (end : Ending) (logged : List ℕ) (new : EdgeFields) → IsDecisionBy again words log_taken old end logged new
-    → new.refuses_ahead ≡ old.refuses_ahead
-decision_refuses None words log_taken old end logged new h = h.4.refuses_ahead
-decision_refuses (Some it) words log_taken old end logged new h = ap (λ (e : EdgeFields). e.refuses_ahead) h.0
+    → new.terms ≡ old.terms
+decision_refuses None words log_taken old end logged new h = h.4.terms
+decision_refuses (Some it) words log_taken old end logged new h = ap (λ (e : EdgeFields). e.terms) h.0
 
 decisions_refuse : (words : ChaCha) (log_taken : Bool) (old : EdgeFields) (ends : Endings) (records : List ℕ) (new : EdgeFields) → AreDecisions words log_taken old ends records new
-    → new.refuses_ahead ≡ old.refuses_ahead
-decisions_refuse words log_taken old [] records new h = ap (λ (e : EdgeFields). e.refuses_ahead) h.0
+    → new.terms ≡ old.terms
+decisions_refuse words log_taken old [] records new h = ap (λ (e : EdgeFields). e.terms) h.0
 decisions_refuse words log_taken old (end ∷ ends) records new h = decisions_refuse (past_six words) log_taken h.0 ends h.2 new h.5 ∙ decision_refuses end.again (six words) log_taken old end h.1 h.0 h.3
 
-turn_refuses : (words : ChaCha) (log_taken : Bool) (old : Running) (ends : Endings) (new : Running) → IsTurn words log_taken old ends new → new.edge.refuses_ahead ≡ old.edge.refuses_ahead
+turn_refuses : (words : ChaCha) (log_taken : Bool) (old : Running) (ends : Endings) (new : Running) → IsTurn words log_taken old ends new → new.edge.terms ≡ old.edge.terms
 turn_refuses words log_taken old ends new h = of h.log ∙ decisions_refuse words log_taken old.edge ends h.records h.edge h.decided
   where
-    of : IsKept old h.edge h.records h.told new ⊎ IsLost old h.edge h.records h.told new → new.edge.refuses_ahead ≡ h.edge.refuses_ahead
-    of (inl kept) = ap (λ (e : EdgeFields). e.refuses_ahead) kept.edge
-    of (inr lost) = ap (λ (e : EdgeFields). e.refuses_ahead) lost.edge
+    of : IsKept old h.edge h.records h.told new ⊎ IsLost old h.edge h.records h.told new → new.edge.terms ≡ h.edge.terms
+    of (inl kept) = ap (λ (e : EdgeFields). e.terms) kept.edge
+    of (inr lost) = ap (λ (e : EdgeFields). e.terms) lost.edge
 
 refusing_stays : (words : ChaCha) (log_taken : Bool) (old : Running) (turns : List Endings) (new : Running) → AreTurns words log_taken old turns new
-    → new.edge.refuses_ahead ≡ old.edge.refuses_ahead
-refusing_stays words log_taken old [] new same = ap (λ (r : Running). r.edge.refuses_ahead) same
+    → new.edge.terms ≡ old.edge.terms
+refusing_stays words log_taken old [] new same = ap (λ (r : Running). r.edge.terms) same
 refusing_stays words log_taken old (ends ∷ turns) new h =
-    refusing_stays (past_each words ends) log_taken h.1 turns new h.4 ∙ ap (λ (e : EdgeFields). e.refuses_ahead) (edge_stays h.0 h.1 h.3) ∙ turn_refuses words log_taken old ends h.0 h.2
+    refusing_stays (past_each words ends) log_taken h.1 turns new h.4 ∙ ap (λ (e : EdgeFields). e.terms) (edge_stays h.0 h.1 h.3) ∙ turn_refuses words log_taken old ends h.0 h.2
 
-as_edge : (refuses : Bool) (edge : EdgeFields) → edge.refuses_ahead ≡ refuses → edge.sealed ≡ false → edge ≡ edge_of refuses edge.region
-as_edge refuses edge ahead sealed = λ i. record { region = edge.region; refuses_ahead = ahead i; sealed = sealed i }
+as_edge : (terms : TermsFields) (edge : EdgeFields) → edge.terms ≡ terms → edge.sealed ≡ false → edge ≡ edge_of terms edge.region
+as_edge terms edge ahead sealed = λ i. record { region = edge.region; terms = ahead i; sealed = sealed i }
 
 known_empty : (o : Option (List ℕ)) (bytes : List ℕ) → o ≡ Some bytes → IsEmptyLog o → o ≡ Some []
 known_empty None bytes is empty = absurd (cc)
@@ -93,17 +95,17 @@ module _ {L : Type 0} (kept : List ℕ → Option (List ℕ)) (holds : L → Opt
   Written name olds start end faults = (bytes : List ℕ) × IsLog holds opens name bytes
       × ((logged : HasLogged olds end bytes) × (logged.start ≡ start) × (logged.faults ≡ faults.before) × (logged.told ≡ faults.after))
 
-  written : {A : Type 0} (name : Option (String A)) (refuses keeps has_inner : Bool) (repeat : ℕ) (words : ChaCha) (requests : Option ℕ) (first full start : RegionFields) (moment count : Option ℕ) (end : EdgeFields) (faults : Writing) (olds : List BundleFields)
+  written : {A : Type 0} (name : Option (String A)) (terms : TermsFields) (keeps has_inner : Bool) (repeat : ℕ) (words : ChaCha) (requests : Option ℕ) (first full start : RegionFields) (moment count : Option ℕ) (end : EdgeFields) (faults : Writing) (olds : List BundleFields)
       → first.facts ≡ empty_store → AreBundles olds → TakesEach first olds full → PrunesOld moment full (Ok count) start → IsSome name → KnowsLogs holds → end.sealed ≡ false
-      → ServesLogged holds opens name words requests keeps repeat has_inner true (record { start = edge_of refuses start; end = end; faults = faults }) → Written name olds start end.region faults
-  written None refuses keeps has_inner repeat words requests first full start moment count end faults olds empty fit brought prunes some knows unsealed h = absurd (cc)
-  written (Some name) refuses keeps has_inner repeat words requests first full start moment count end faults olds empty fit brought prunes some knows unsealed h =
+      → ServesLogged holds opens name words requests keeps repeat has_inner true (record { start = edge_of terms start; end = end; faults = faults }) → Written name olds start end.region faults
+  written None terms keeps has_inner repeat words requests first full start moment count end faults olds empty fit brought prunes some knows unsealed h = absurd (cc)
+  written (Some name) terms keeps has_inner repeat words requests first full start moment count end faults olds empty fit brought prunes some knows unsealed h =
       let opened = h.0 in
       let closed = h.1 in
       let connections = h.4 in
       let bytes = knows closed in
       let before = known_empty (holds opened) (knows opened).0 (knows opened).1 h.3 in
-      let ends_at = as_edge refuses end (refusing_stays words true _ connections.0 _ connections.5) unsealed in (
+      let ends_at = as_edge terms end (refusing_stays words true _ connections.0 _ connections.5) unsealed in (
         bytes.0,
         (opened, closed, h.2, before, bytes.1),
         (
@@ -117,14 +119,14 @@ module _ {L : Type 0} (kept : List ℕ → Option (List ℕ)) (holds : L → Opt
             count = count;
             start = start;
             pruned = prunes;
-            refuses = refuses;
+            terms = terms;
             words = words;
             faults = faults.before;
             turns = connections.0;
             told = faults.after;
-            served = subst (λ (e : EdgeFields). AreTurns words true (record { edge = edge_of refuses start; log = Some []; faults = faults.before }) connections.0 (record { edge = e; log = Some bytes.0; faults = faults.after })) ends_at
-                (subst (λ o. AreTurns words true (record { edge = edge_of refuses start; log = Some []; faults = faults.before }) connections.0 (record { edge = end; log = o; faults = faults.after })) bytes.1
-                (subst (λ o. AreTurns words true (record { edge = edge_of refuses start; log = o; faults = faults.before }) connections.0 (record { edge = end; log = holds closed; faults = faults.after })) before connections.5));
+            served = subst (λ (e : EdgeFields). AreTurns words true (record { edge = edge_of terms start; log = Some []; faults = faults.before }) connections.0 (record { edge = e; log = Some bytes.0; faults = faults.after })) ends_at
+                (subst (λ o. AreTurns words true (record { edge = edge_of terms start; log = Some []; faults = faults.before }) connections.0 (record { edge = end; log = o; faults = faults.after })) bytes.1
+                (subst (λ o. AreTurns words true (record { edge = edge_of terms start; log = o; faults = faults.before }) connections.0 (record { edge = end; log = holds closed; faults = faults.after })) before connections.5));
           },
           refl,
           refl,
@@ -137,9 +139,9 @@ module _ {L : Type 0} (kept : List ℕ → Option (List ℕ)) (holds : L → Opt
       let run = ran.run in
       let edge_is = ran.start.0 in
       let old = from_old kept service.load ran.edge.region run.region run.dropped run.loaded in
-      let started : with_region (with_region ran.edge run.region) run.opened.region ≡ edge_of service.refuses_ahead run.opened.region = ap (λ (e : EdgeFields). with_region (with_region e run.region) run.opened.region) edge_is in
-      let w = written service.log service.refuses_ahead (keeps_in service.keep) (is_some service.at.inner) (unwrap_or service.repeat 0) ran.words service.requests ran.edge.region run.region run.opened.region service.prune run.opened.pruned run.opened.end faults old.0
+      let started : with_region (with_region ran.edge run.region) run.opened.region ≡ edge_of (terms_of service) run.opened.region = ap (λ (e : EdgeFields). with_region (with_region e run.region) run.opened.region) edge_is in
+      let w = written service.log (terms_of service) (keeps_in service.keep) (is_some service.at.inner) (unwrap_or service.repeat 0) ran.words service.requests ran.edge.region run.region run.opened.region service.prune run.opened.pruned run.opened.end faults old.0
       (ap (λ (e : EdgeFields). e.region.facts) edge_is) old.1 old.2 run.opened.prunes some knows unsealed
-      (subst (λ t. ServesLogged holds opens service.log ran.words service.requests (keeps_in service.keep) (unwrap_or service.repeat 0) (is_some service.at.inner) t (record { start = edge_of service.refuses_ahead run.opened.region; end = run.opened.end; faults = faults })) taken
+      (subst (λ t. ServesLogged holds opens service.log ran.words service.requests (keeps_in service.keep) (unwrap_or service.repeat 0) (is_some service.at.inner) t (record { start = edge_of (terms_of service) run.opened.region; end = run.opened.end; faults = faults })) taken
       (subst (λ (e : EdgeFields). ServesLogged holds opens service.log ran.words service.requests (keeps_in service.keep) (unwrap_or service.repeat 0) (is_some service.at.inner) service.log_taken (record { start = e; end = run.opened.end; faults = faults })) started run.opened.served)) in
       record { olds = old.0; bytes = w.0; old = old.3; log = w.1; logged = w.2.0; begun = w.2.1; told = (w.2.2, w.2.3) }

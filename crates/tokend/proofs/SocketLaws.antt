@@ -29,7 +29,7 @@ use Rattle.tokend.proofs.Connecting.{served_less}
 abbrev known_as : Asked → List ℕ → Asked
 known_as asked bytes = record {
   reach = asked.reach;
-  refuses_ahead = asked.refuses_ahead;
+  terms = asked.terms;
   log_taken = asked.log_taken;
   known = Some bytes;
   now = asked.now;
@@ -44,11 +44,11 @@ served_bytes asked bytes region still writer sealed end h =
 
 -- the connection as its edge sees it
 abbrev asked_at : ℕ → List ℕ → EdgeFields → Asked
-asked_at now words old = record { reach = Admin; refuses_ahead = old.refuses_ahead; log_taken = false; known = None; now = now; words = words }
+asked_at now words old = record { reach = Admin; terms = old.terms; log_taken = false; known = None; now = now; words = words }
 
 module _ (now : ℕ) (words bytes : List ℕ) (old new : EdgeFields) (still : Type 0) (writer : Change) (result : Result (Option (Served × Taken)) Fault)
     (h : old.sealed ≡ false → IsFrontServed (asked_at now words old) bytes true (record { before = old.region; after = new.region }) unlogged still writer new.sealed result)
-    (shut : old.sealed ≡ true → new ≡ old) (refuses : new.refuses_ahead ≡ old.refuses_ahead) where
+    (shut : old.sealed ≡ true → new ≡ old) (terms : new.terms ≡ old.terms) where
   abbrev Fronts : Result (Option (Served × Taken)) Fault → Type 0
   Fronts r = IsFrontServed (asked_at now words old) bytes true (record { before = old.region; after = new.region }) unlogged still writer new.sealed r
 
@@ -60,7 +60,7 @@ module _ (now : ℕ) (words bytes : List ℕ) (old new : EdgeFields) (still : Ty
   connection end by = record {
     served = λ unsealed. (writer, served_bytes (asked_at now words old) bytes (record { before = old.region; after = new.region }) still writer new.sealed end (by unsealed));
     shut = shut;
-    refuses_ahead = refuses;
+    terms = terms;
   }
 
   of : (r : Result (Option (Served × Taken)) Fault) → (old.sealed ≡ false → Fronts r) → IsConnection now words bytes old new (end_of r)
@@ -68,7 +68,7 @@ module _ (now : ℕ) (words bytes : List ℕ) (old new : EdgeFields) (still : Ty
   of (Ok None) f = record {
     served = λ unsealed. absurd (clash (f unsealed).0.unended);
     shut = shut;
-    refuses_ahead = refuses;
+    terms = terms;
   }
   of (Err fault) f = connection (Err fault) f
 
@@ -82,16 +82,16 @@ module _ (asked : AskedFields) (old new : EdgeFields) (unsealed : old.sealed ≡
 
   -- what arrives at an edge that exchanges no facts is heard, and its answer was made
   made : (P : AnswerFields → Type 0) (known : Option (List ℕ)) (came : Arrival) → Arrives Admin known came → came ≢ Silence → (answer : AnswerFields)
-      → Answers old.refuses_ahead old.region asked.now asked.words came (Ok answer) new.region → P answer → new.sealed ≡ false → new.refuses_ahead ≡ old.refuses_ahead → IsMade P
+      → Answers old.terms old.region asked.now asked.words came (Ok answer) new.region → P answer → new.sealed ≡ false → new.terms ≡ old.terms → IsMade P
   made P known came may spoke answer answers holds sealed ahead =
-      let by = answers_alone old.refuses_ahead old.region asked.now asked.words came (Ok answer) new.region may.0 answers in (
+      let by = answers_alone old.terms old.region asked.now asked.words came (Ok answer) new.region may.0 answers in (
         came,
         spoke,
         subst P by.0 holds,
-        record { gains = by.1; next = by.2; sealed = sealed ∙ sym unsealed; refuses_ahead = ahead },
+        record { gains = by.1; next = by.2; sealed = sealed ∙ sym unsealed; terms = ahead },
       )
 
   pub connection_answers : (bytes : List ℕ) (status : StatusCode) → IsConnection asked.now asked.words bytes old new (Ok (Done status)) → IsMade (λ answer. status ≡ answer.status)
   connection_answers bytes status h =
       let a = (h.served unsealed).1 in
-      made (λ answer. status ≡ answer.status) (Some bytes) a.0 a.1 a.2 a.3.0 a.3.1 a.3.2.0 a.3.2.3 h.refuses_ahead
+      made (λ answer. status ≡ answer.status) (Some bytes) a.0 a.1 a.2 a.3.0 a.3.1 a.3.2.0 a.3.2.3 h.terms

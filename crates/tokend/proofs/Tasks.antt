@@ -20,8 +20,9 @@ use Rattle.clap.specs.declared.error.Error.{Error}
 use Rattle.clap.specs.declared.error.kind.ErrorKind.TheVariants as kind
 use Rattle.tk_handle.specs.Ranges.{greatest_region}
 use Rattle.tk_region.specs.SettingsFields.{greatest_code, greatest_access, greatest_refresh, greatest_family, greatest_cap}
-use Rattle.tokend.specs.CommandLine.{HasAddress, HasCheck, HasFlag, HasNumber, HasNumbers, HasService, IsNoAddress, greatest_connections, greatest_port, is_given, refusal_named, tokend_app}
+use Rattle.tokend.specs.CommandLine.{HasAddress, HasCheck, HasFlag, HasNumber, HasNumbers, HasService, IsNoAddress, IsNoPushes, greatest_connections, greatest_port, is_given, refusal_named, tokend_app}
 use Rattle.tokend.specs.Choices.{IsNoChoice}
+use Rattle.tokend.specs.Ranges.{accepted_named, range_named}
 use Rattle.tokend.specs.Task.{Asks, IsFactsTask, IsNoCheck, IsNoService, IsNoTask, IsRefusalOf, IsTask, has_misnamed, is_unplaced, is_unplaced_in, lacks_log, misnames_word, missing_kind}
 use Rattle.tokend.specs.declared.address.Address.{Address}
 use Rattle.tokend.specs.declared.address.Address.TheVariants.{Port, Socket}
@@ -311,9 +312,22 @@ without_seed rows none service h =
     let both : None ≡ Some (string_bytes service.seed) = sym none ∙ h.seed in
     absurd (cc)
 
-pub without_refusal : (rows : List Row) → None ≡ refusal_named (first_of (codes "ahead") rows) → IsNoService rows
-without_refusal rows none service h =
-    let both : None ≡ Some service.refuses_ahead = none ∙ h.ahead in
+pub without_pushes : (rows : List Row) → IsNoPushes rows → IsNoService rows
+without_pushes rows none service h = none service.pushes h.pushes
+
+pub without_refusal : (rows : List Row) → None ≡ refusal_named (first_of (codes "ahead") rows) → IsNoPushes rows
+without_refusal rows none pushes h =
+    let both : None ≡ Some pushes.refuses_ahead = none ∙ h.ahead in
+    absurd (cc)
+
+pub without_range : (rows : List Row) → None ≡ range_named (first_of (codes "region") rows) (first_of (codes "range") rows) → IsNoPushes rows
+without_range rows none pushes h =
+    let both : None ≡ Some pushes.range = none ∙ h.range in
+    absurd (cc)
+
+pub without_accepted : (rows : List Row) → None ≡ accepted_named (first_of (codes "accept") rows) → IsNoPushes rows
+without_accepted rows none pushes h =
+    let both : None ≡ Some pushes.accepted.items = none ∙ h.accepted in
     absurd (cc)
 
 pub without_choices : (rows : List Row) → IsNoChoice rows → IsNoService rows

@@ -13,6 +13,7 @@
 --   is_misnamed     `--ahead` has neither of its two values
 --   HasAddresses    clap's matches have these sockets
 --   HasNumbers      clap's matches have these five settings
+--   HasPushes       clap's matches have these options of pushes
 --   HasService      clap's matches have this service
 --   HasSources      clap's matches have these sources of facts
 --   HasCheck        clap's matches have this check
@@ -71,6 +72,7 @@ use Rattle.clap.specs.declared.builder.action.ArgAction.TheVariants as action
 use Rattle.clap.specs.declared.builder.value_parser.ValueParser.TheVariants as parser
 use Rattle.tk_message.specs.Choices.{profile_choices}
 use Rattle.tokend.specs.Choices.{HasChoices}
+use Rattle.tokend.specs.Ranges.{accepted_named, range_named}
 use Rattle.tokend.specs.declared.address.Address.{Address}
 use Rattle.tokend.specs.declared.address.Address.TheVariants.{Port, Socket}
 use Rattle.tokend.specs.declared.address.Addresses.{Addresses}
@@ -80,6 +82,7 @@ use Rattle.tokend.specs.declared.options.Check.{Check}
 use Rattle.tokend.specs.declared.options.Numbers.{Numbers}
 use Rattle.tokend.specs.declared.options.Service.{Service}
 use Rattle.tokend.specs.declared.options.Sources.{Sources}
+use Rattle.tokend.specs.declared.pushes.PushOptions.{PushOptions}
 
 -- the greatest port
 abbrev pub greatest_port : ℕ
@@ -170,10 +173,11 @@ loopback_app = with_rules (new_app (codes "loopback")) setting_rules
 
 -- the options of a service: the region's number and the seed, which are required; the port, the
 -- socket and the inner one, the log, whether it gets bundles taken in, the old log, the moment of a
--- prune, what is done with bundles that are ahead, who may revoke tokens that are not seen, what is
--- done if a consent is given again, the kinds of redirection URIs, who sees refresh tokens, what is
--- required of challenges, how many connections are open at once, how many are served, and how long
--- they are kept
+-- prune, what is done with bundles that are ahead, the numbers of the site and of all sites, who may
+-- revoke tokens that are not seen, what is done if a consent is given again, the kinds of
+-- redirection URIs, who sees refresh tokens, what is required of challenges, how many connections
+-- are open at once, how many are served, how long they are kept, and for how long a refresh may be
+-- repeated
 abbrev pub service_rules : List Rule
 service_rules =
     range_rule (codes "region") 1 greatest_region true
@@ -186,6 +190,8 @@ service_rules =
     ∷ file_rule (codes "load") false
     ∷ range_rule (codes "prune") 0 greatest_moment false
     ∷ word_rule (codes "ahead") (codes "taken")
+    ∷ file_rule (codes "range") false
+    ∷ file_rule (codes "accept") false
     ∷ word_rule (codes "revoke-unseen") (codes "any")
     ∷ word_rule (codes "consent") (codes "new")
     ∷ file_rule (codes "redirects") false
@@ -297,9 +303,20 @@ pub record HasAddresses (rows : List Row) (at : Addresses) : Type 0 where
   pub outer : HasAddress rows at.outer
   pub inner : HasText rows (codes "inner") at.inner
 
+-- the rows have these options of pushes: whether bundles that are ahead are refused, and the
+-- numbers of the site and of all sites
+pub record HasPushes (rows : List Row) (p : PushOptions) : Type 0 where
+  pub ahead : refusal_named (first_of (codes "ahead") rows) ≡ Some p.refuses_ahead
+  pub range : range_named (first_of (codes "region") rows) (first_of (codes "range") rows)
+      ≡ Some p.range
+  pub accepted : accepted_named (first_of (codes "accept") rows) ≡ Some p.accepted.items
+
+-- one of these options has none of its values
+abbrev pub IsNoPushes : List Row → Type 0
+IsNoPushes rows = (pushes : PushOptions) → ¬ (HasPushes rows pushes)
+
 -- the rows have this service: the settings, each number in its range, the names of files, whether
--- the log gets bundles taken in, for which there is a log, whether bundles that are ahead are
--- refused, and the choices
+-- the log gets bundles taken in, for which there is a log, what is taken of a push, and the choices
 pub record HasService (rows : List Row) (s : Service) : Type 0 where
   pub numbers : HasNumbers rows s.numbers
   pub region : HasNumber rows (codes "region") 1 greatest_region s.region
@@ -321,7 +338,7 @@ pub record HasService (rows : List Row) (s : Service) : Type 0 where
       → ¬ (HasNumber rows (codes "prune") 0 greatest_moment n))
   pub log_taken : HasFlag rows (codes "log-taken") s.log_taken
   pub logged : s.log_taken ≡ true → IsSome s.log
-  pub ahead : refusal_named (first_of (codes "ahead") rows) ≡ Some s.refuses_ahead
+  pub pushes : HasPushes rows s.pushes
   pub choices : HasChoices rows s.choices
 
 -- the rows have these names of sources

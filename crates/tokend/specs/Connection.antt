@@ -28,7 +28,7 @@ pub record IsConnection (now : ℕ) (words bytes : List ℕ) (old new : EdgeFiel
   pub served : old.sealed ≡ false
       → (reply : Change) × IsServed (record {
         reach = Admin;
-        refuses_ahead = old.refuses_ahead;
+        terms = old.terms;
         log_taken = false;
         known = Some bytes;
         now = now;
@@ -36,4 +36,4 @@ pub record IsConnection (now : ℕ) (words bytes : List ℕ) (old new : EdgeFiel
       })
       (record { before = old.region; after = new.region }) unlogged ⊤ reply new.sealed result
   pub shut : old.sealed ≡ true → new ≡ old
-  pub refuses_ahead : new.refuses_ahead ≡ old.refuses_ahead
+  pub terms : new.terms ≡ old.terms

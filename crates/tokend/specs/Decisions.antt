@@ -55,7 +55,7 @@ pub record Asking : Type 0 where
 abbrev pub asked_of : Asking → EdgeFields → Asked
 asked_of asking edge = record {
   reach = asking.reach;
-  refuses_ahead = edge.refuses_ahead;
+  terms = edge.terms;
   log_taken = asking.log_taken;
   known = None;
   now = asking.now;
@@ -78,7 +78,7 @@ pub record IsDecided (asking : Asking) (old : EdgeFields) (end : Result Served F
       (gains reply) new.sealed end
   pub shut : old.sealed ≡ true
       → (new ≡ old) × (logged ≡ []) × (IsTurnedAway (gains reply) end ⊎ IsUnheard end)
-  pub refuses_ahead : new.refuses_ahead ≡ old.refuses_ahead
+  pub terms : new.terms ≡ old.terms
 
 -- what was taken of the bytes that have come: those of one request and no more, or all by a sealed
 -- edge, whose connections end

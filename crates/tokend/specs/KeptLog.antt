@@ -21,6 +21,7 @@ use Rattle.tk_store.specs.StoreFields.{empty_store, held_facts}
 use Rattle.tk_bundle.specs.BundleFields.{BundleFields}
 use Rattle.tk_bundle.specs.Front.{IsCut}
 use Rattle.tk_region.specs.RegionFields.{RegionFields}
+use Rattle.tk_edge.specs.Terms.{TermsFields}
 use Rattle.tk_edge.specs.declared.edge.Served.{Served}
 use Rattle.tk_edge.specs.declared.tell.Fault.{Fault}
 use Rattle.tk_edge.specs.declared.tell.Fault.TheVariants as fault
@@ -75,14 +76,14 @@ pub record HasLogged (olds : List BundleFields) (region : RegionFields) (log : L
     pub count : Option ℕ
     pub start : RegionFields
     pub pruned : PrunesOld moment full (Ok count) start
-    pub refuses : Bool
+    pub terms : TermsFields
     pub words : ChaCha
     pub faults : Writer
     pub turns : List Endings
     pub told : Writer
     pub served : AreTurns words true
-        (record { edge = edge_of refuses start; log = Some []; faults = faults }) turns
-        (record { edge = edge_of refuses region; log = Some log; faults = told })
+        (record { edge = edge_of terms start; log = Some []; faults = faults }) turns
+        (record { edge = edge_of terms region; log = Some log; faults = told })
 
 -- What a region held, another holds or has skipped. What it skipped since its start, the other has
 -- skipped. Its horizon is that of its start, or isn't later than the other's.

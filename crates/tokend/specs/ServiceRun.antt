@@ -20,7 +20,7 @@ abbrev pub with_region : EdgeFields → RegionFields → EdgeFields
 with_region edge region =
     record {
       region = region;
-      refuses_ahead = edge.refuses_ahead;
+      terms = edge.terms;
       sealed = edge.sealed;
     }
 

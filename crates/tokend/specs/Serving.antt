@@ -197,7 +197,7 @@ abbrev pub IsServiceFault : Service → Fault → Type 0
 IsServiceFault service CannotListen = ⊤
 IsServiceFault service SharedFolder = ⊤
 IsServiceFault service SocketInUse = ⊤
-IsServiceFault service PruneAhead = (service.refuses_ahead ≡ true) × IsSome service.prune
+IsServiceFault service PruneAhead = (service.pushes.refuses_ahead ≡ true) × IsSome service.prune
 IsServiceFault service Output = ⊤
 IsServiceFault service fault = IsFileFault service fault
 

@@ -33,8 +33,10 @@ use Rattle.rand_chacha.specs.ChaCha.{ChaCha, key_of}
 use Rattle.tk_ledger.specs.Retention.{Prunes}
 use Rattle.tk_region.specs.RegionFields.{RegionFields}
 use Rattle.tk_edge.specs.EdgeFields.{EdgeFields}
+use Rattle.tk_edge.specs.Terms.{TermsFields}
 use Rattle.tokend.specs.CommandLine.{chosen_settings}
 use Rattle.tokend.specs.Loading.{Loads}
+use Rattle.tokend.specs.Ranges.{terms_of}
 use Rattle.tokend.specs.Status.{IsUnread}
 use Rattle.tokend.specs.declared.fault.Fault.{Fault}
 use Rattle.tokend.specs.declared.fault.Fault.TheVariants as fault
@@ -47,15 +49,13 @@ abbrev pub first_region : Service → RegionFields
 first_region service =
     record { number = service.region; settings = chosen_settings service; facts = empty_store }
 
--- an edge over which regions exchange facts, and that isn't sealed; the flag is whether it refuses
--- pushed bundles that are ahead
-abbrev pub edge_of : Bool → RegionFields → EdgeFields
-edge_of refuses region =
-    record { region = region; refuses_ahead = refuses; sealed = false }
+-- an edge over which regions exchange facts, by the terms of a push, and that isn't sealed
+abbrev pub edge_of : TermsFields → RegionFields → EdgeFields
+edge_of terms region = record { region = region; terms = terms; sealed = false }
 
 -- the edge of the service's region, without facts
 abbrev pub first_edge : Service → EdgeFields
-first_edge service = edge_of service.refuses_ahead (first_region service)
+first_edge service = edge_of (terms_of service) (first_region service)
 
 -- the generator at its first word: the seed is its key, and the region's number its stream
 abbrev pub first_words : List ℕ → ℕ → ChaCha

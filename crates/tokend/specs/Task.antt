@@ -32,6 +32,7 @@ use Rattle.tokend.specs.CommandLine.{is_given, is_misnamed, tokend_app}
 use Rattle.tokend.specs.Challenges.{are_rules_misnamed}
 use Rattle.tokend.specs.Choices.{is_consent_misnamed, is_refresh_seen_misnamed, is_unseen_misnamed}
 use Rattle.tokend.specs.Kinds.{are_misnamed}
+use Rattle.tokend.specs.Ranges.{is_accept_misnamed, is_range_misnamed}
 use Rattle.tokend.specs.declared.fault.Fault.{Fault}
 use Rattle.tokend.specs.declared.fault.Fault.TheVariants.{Memory, Words}
 use Rattle.tokend.specs.declared.options.Check.{Check as CheckValue}
@@ -118,10 +119,12 @@ abbrev pub lacks_option : Option (Text × List Row) → Bool
 lacks_option found = lacks_log found || is_unplaced found
 
 -- the value of `--ahead`, `--revoke-unseen`, `--consent` or `--refresh-seen` is none of its words,
--- or `--redirects` or `--challenge` has another word
+-- or `--redirects` or `--challenge` has another word, or `--range` or `--accept` another number
 abbrev pub has_misnamed : List Row → Bool
 has_misnamed rows =
     is_misnamed (first_of (codes "ahead") rows)
+    || is_range_misnamed (first_of (codes "region") rows) (first_of (codes "range") rows)
+    || is_accept_misnamed (first_of (codes "accept") rows)
     || is_unseen_misnamed (first_of (codes "revoke-unseen") rows)
     || is_consent_misnamed (first_of (codes "consent") rows)
     || are_misnamed (first_of (codes "redirects") rows)

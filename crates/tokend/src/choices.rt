@@ -11,6 +11,7 @@ ghost use Rattle.tokend.specs.Task.{has_misnamed, misnames_word};
 use crate::ahead::is_ahead_misnamed;
 use crate::challenges::{are_rules_misnamed, read_rules};
 use crate::kinds::{are_kinds_misnamed, read_redirects};
+use crate::ranges::{is_accept_misnamed, is_range_misnamed};
 use clap::ArgMatches;
 use tk_message::{Choices, ConsentReuse, RefreshSeen, UnseenRevocation};
 
@@ -30,6 +31,12 @@ fn misnamed_in(matches: &ArgMatches<'_>) -> Option<&'static str>
 {
     if is_ahead_misnamed(matches) {
         return Some("--ahead takes 'taken' or 'refused'");
+    }
+    if is_range_misnamed(matches) {
+        return Some("--range takes FIRST-LAST, of 1 to 65535, with the number of --region");
+    }
+    if is_accept_misnamed(matches) {
+        return Some("--accept takes FIRST-LAST, of 1 to 65535, with commas between");
     }
     if is_unseen_misnamed(matches) {
         return Some("--revoke-unseen takes 'any', 'authenticated' or 'none'");

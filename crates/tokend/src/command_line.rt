@@ -163,7 +163,7 @@ fn serve_command<'a>(alloc: Global) -> Result<Command<'a>, AllocError>
     let serve = Command::new(alloc, "serve").about(
         "Serves requests over HTTP, those of many connections at once",
     );
-    let choices: [Choice<'a>; 19] = [
+    let choices: [Choice<'a>; 21] = [
         ("region", Takes::Range(1, Service::GREATEST_REGION, true),
             "The number of the region that is served, 1 to 65535, like no other's and never used again [required]"),
         ("port", Takes::Range(0, Address::GREATEST_PORT, false),
@@ -184,6 +184,10 @@ fn serve_command<'a>(alloc: Global) -> Result<Command<'a>, AllocError>
             "Skips all facts of families that are over at this moment, in seconds since 1970, 0 to 253402300799 [default: none]"),
         ("ahead", Takes::Word("taken"),
             "Whether a pushed bundle whose horizon is later than the clock is taken or refused"),
+        ("range", Takes::List,
+            "The numbers of this site, FIRST-LAST; a push of facts under those above its own is refused [default: none]"),
+        ("accept", Takes::List,
+            "The numbers of all sites, FIRST-LAST with commas between; a push of facts under others is refused [default: 1-65535]"),
         ("revoke-unseen", Takes::Word("any"),
             "Who may revoke a token of another region before it is known here: any, authenticated or none"),
         ("consent", Takes::Word("new"),

@@ -65,6 +65,8 @@ mod losses;
 mod options;
 mod program;
 pub mod promises;
+mod pushes;
+mod ranges;
 mod records;
 mod repeating;
 mod repeats;

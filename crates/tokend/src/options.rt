@@ -22,9 +22,9 @@ ghost use Rattle.tokend.specs.Task.{kind_missing, lacks_log, missing_kind};
 ghost use Rattle.tokend.specs.declared.options.Numbers.{Numbers as NumbersValue};
 
 use crate::address::{Addresses, is_unplaced, read_addresses};
-use crate::ahead::read_refusal;
 use crate::choices::{misnamed_word, read_choices};
 use crate::command_line::tokend_command;
+use crate::pushes::{PushOptions, read_pushes};
 use crate::sources::read_facts;
 use clap::error::ErrorKind;
 use clap::{ArgMatches, Command, Error};
@@ -110,8 +110,8 @@ pub struct Service {
     pub load: Option<String>,
     /// The moment up to which the region is pruned once the old log is loaded, if any.
     pub prune: Option<u64>,
-    /// Whether a pushed bundle is refused if its horizon is later than the moment of the request.
-    pub refuses_ahead: bool,
+    /// What is taken of a push.
+    pub pushes: PushOptions,
     /// What the region does if the profile leaves a choice.
     pub choices: Choices,
 }
@@ -290,7 +290,7 @@ fn read_service(alloc: Global, matches: &ArgMatches<'_>) -> Result<Option<Servic
     let Some(connections) = number(matches, "connections", 1, Service::GREATEST_CONNECTIONS) else {
         return Ok(None);
     };
-    let Some(refuses_ahead) = read_refusal(matches) else {
+    let Some(pushes) = read_pushes(alloc, matches)? else {
         return Ok(None);
     };
     let Some(choices) = read_choices(matches) else {
@@ -322,7 +322,7 @@ fn read_service(alloc: Global, matches: &ArgMatches<'_>) -> Result<Option<Servic
         log_taken,
         load,
         prune,
-        refuses_ahead,
+        pushes,
         choices,
     }))
 }

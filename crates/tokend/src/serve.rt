@@ -64,7 +64,7 @@ where
         (O.contents output.old) (O.contents output.new)) }
     ensures silent { OnErr result (faults.new ≡ faults.old) }
 {
-    if service.refuses_ahead && is_ahead(rt, service.prune) {
+    if service.pushes.refuses_ahead && is_ahead(rt, service.prune) {
         return Err(Fault::PruneAhead);
     }
     match begin(rt.alloc(), folder, service) {

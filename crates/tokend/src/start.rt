@@ -38,11 +38,16 @@ pub(crate) fn begin<I: Read + Drop, L: Sink, D: Folder<I, L>>(
             let number = RegionNumber::new(service.region).unwrap();
             let settings = service.numbers.settings().with_choices(service.choices);
             let region = Region::new(alloc, number, settings);
-            let (edge, words) = (
-                Edge::new(region, service.refuses_ahead),
-                generator(seed, number),
-            );
-            Ok(Server::new(alloc, edge, words))
+            match service.terms() {
+                Ok(terms) => {
+                    let (edge, words) = (Edge::new(region, terms), generator(seed, number));
+                    Ok(Server::new(alloc, edge, words))
+                }
+                Err(_) => {
+                    drop(region);
+                    Err(Fault::Memory)
+                }
+            }
         }
         Err(fault) => Err(fault),
     }

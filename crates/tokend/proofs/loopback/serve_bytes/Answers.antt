@@ -8,4 +8,4 @@ returns-clause-connection c =
     let s = c.serve_front-served in
     subst (IsConnection c.args.now c.args.words.now c.args.bytes.now c.args.edge.now s.new.self) (sym c.end_of.ensures)
     (front_connection c.args.now c.args.words.now c.args.bytes.now c.args.edge.now s.new.self _ (record { before = Some c.new-writer.result.inner.items; after = Some s.new.writer.inner.items }) s.result
-    s.ensures.served (λ e. (s.ensures.untouched e).0) s.ensures.refuses_ahead)
+    s.ensures.served (λ e. (s.ensures.untouched e).0) s.ensures.terms)

@@ -1,6 +1,6 @@
 use Rattle.std.proofs.Common.{rules}
 use Rattle.clap.specs.Words.{found_of, rows_of}
-use Rattle.tokend.proofs.Tasks.{without_address, without_choices, without_connections, without_refusal, without_region, without_settings}
+use Rattle.tokend.proofs.Tasks.{without_address, without_choices, without_connections, without_pushes, without_region, without_settings}
 use Rattle.tokend.proofs.options.read_service.Goals as goal
 
 pub returns-clause-service : goal.returns-clause-service
@@ -22,7 +22,7 @@ returns-clause-service c = record {
   unpruned = search rules;
   log_taken = search rules;
   logged = search rules;
-  ahead = search rules;
+  pushes = search rules;
   choices = search rules;
 }
 
@@ -35,8 +35,8 @@ returns-in_default-number-clause-none c = without_region (rows_of (found_of c.ar
 pub returns-in_default-number-2-clause-none : goal.returns-in_default-number-2-clause-none
 returns-in_default-number-2-clause-none c = without_connections (rows_of (found_of c.args.matches.now)) c.in_default-number-2.ensures.none
 
-pub returns-in_default-read_refusal-clause-none : goal.returns-in_default-read_refusal-clause-none
-returns-in_default-read_refusal-clause-none c = without_refusal (rows_of (found_of c.args.matches.now)) (search rules)
+pub returns-in_default-read_pushes-clause-none : goal.returns-in_default-read_pushes-clause-none
+returns-in_default-read_pushes-clause-none c = without_pushes (rows_of (found_of c.args.matches.now)) c.in_default-read_pushes.ensures.none
 
 pub returns-in_default-read_choices-clause-none : goal.returns-in_default-read_choices-clause-none
 returns-in_default-read_choices-clause-none c = without_choices (rows_of (found_of c.args.matches.now)) c.in_default-read_choices.ensures.none

@@ -17,7 +17,7 @@ returns-clause-served g c = λ unsealed.
     subst (λ (e : EdgeFields). IsFrontServed
     (record {
       reach = c.args.reach;
-      refuses_ahead = e.refuses_ahead;
+      terms = e.terms;
       log_taken = c.args.log_taken;
       known = None;
       now = c.args.now;

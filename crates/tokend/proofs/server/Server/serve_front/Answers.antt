@@ -23,6 +23,6 @@ returns-clause-decides c =
       over = c.args.is_over;
     })
     edge served.new.self c.new-record.result.inner.items served.new.log.inner.items c.new-reply.result.inner.items served.new.writer.inner.items
-    (served.new.log ≡ c.new-record.result) (ap (λ r. r.inner.items)) served.ensures.refuses_ahead
+    (served.new.log ≡ c.new-record.result) (ap (λ r. r.inner.items)) served.ensures.terms
     served.result (rw c.reach.ensures at served.ensures.served) served.ensures.turned_away served.ensures.untouched in
     (d.0, d.1, d.2 ∙ ap (λ l. l ++ d.0) replies, d.3 ∙ ap (λ l. l ++ d.1) records, d.4)

@@ -1,0 +1,9 @@
+use Rattle.std.proofs.Common.{lit<, rules}
+use borrow.Author.Tests.{tests}
+use Rattle.std.proofs.lemmas.Iterator.Search.{all_from_yields_List}
+use Rattle.std.proofs.lemmas.Iterator.Splits.{YieldsList-from_str_split}
+use Rattle.tokend.specs.Ranges.{is_range}
+use Rattle.tokend.proofs.ranges.are_ranges.Goals as goal
+
+pub returns : goal.returns
+returns c = all_from_yields_List is_range _ _ _ c.all.ensures.ran (YieldsList-from_str_split 0x2c c.args.text.now (lit< tt) c.split.ensures.text c.split.ensures.has_more c.split.ensures.pattern) (λ x b q k. search (rules, tests))
