@@ -1,25 +1,21 @@
-//! Decisions of authorisation and administration requests: the replies, and the facts that they
-//! make.
+//! Decisions of authorisation and administration requests: the replies, and the facts made.
 //!
 //! `decide_authorize` (RFC 6749, 4.1.1 to 4.1.2.1; RFC 7636, 4.3 and 4.4) decides a request to
-//! `/authorize`. First the request is judged, by the facts and the parameters alone:
-//!
-//! - A `Refusal` is an error in place. The browser is not redirected.
-//! - A `Denial` is an error at the client's redirection URI.
-//! - An `Approval` is what a code is issued for.
-//!
-//! Then the judgement becomes the reply, and the fact if a code is issued. The front end reports
-//! which subject has signed in, and asks the subject for consent.
+//! `/authorize`. First it judges the request, by the facts and the parameters alone: a `Refusal` is
+//! an error in place, a `Denial` one at the client's redirection URI, and an `Approval` is what a
+//! code is issued for. Then the judgement becomes the reply, and the fact if a code is issued.
 //!
 //! `decide_admin` (own) decides a request to an endpoint under `/admin/`: clients are added, shown
 //! and retired, consents are given and withdrawn, subjects are signed out everywhere. An
-//! `AdminRefusal` is the first case of the endpoint that held. The deployment must see to who may
-//! send these requests.
+//! `AdminRefusal` is the first case of the endpoint that held.
+//!
+//! Who has signed in, and what the subject consents to, is reported by the front end. Who may send
+//! requests to `/admin/` is left to the deployment.
 //!
 //! In reading order: `Refusal`, `Denial`, `challenge`, `Asked`, `Approval`, `Judged`,
 //! `decide_authorize`; then `AdminRefusal`, `registration`, `clients`, `consents`, `sign_outs`,
-//! `Administered`, `chosen`, `decide_admin`. The definitions are in `specs/`: for authorisation one
-//! file for each of these names, for administration `Administered`, `Chosen` and `Administration`.
+//! `Administered`, `chosen`, `decide_admin`. The definitions are in `specs/`, by these names; those
+//! of administration are in `Administered`, `Chosen` and `Administration`.
 #![tactic(auto)]
 
 mod admin_refusal;

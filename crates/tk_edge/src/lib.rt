@@ -1,33 +1,24 @@
 //! From the bytes of a request to the bytes of its reply, with the log written before the reply.
 //!
-//! An [`Edge`] is a region behind its connections. A connection brings HTTP/1.1 requests, one after
-//! the other, and takes a reply to each. The meaning of a request depends on its bytes alone, not
-//! on the pieces in which they come. An edge reads no device: it takes the bytes that have come.
+//! An [`Edge`] is a region behind its connections. [`Edge::answer`] handles a whole stream, and
+//! [`Edge::serve_front`] the bytes that have come over a connection, as often as more do. The
+//! meaning of a request depends on its bytes alone, not on the pieces in which they come. An edge
+//! reads no socket, no clock and no random words: all come as arguments.
 //!
 //! In reading order:
 //!
-//! - [`Sink`]: a device that takes bytes, and counts its failures. [`Counted`] makes one of std's
-//!   writers, and [`Discard`] drops what it takes.
-//! - `field`: the fields of a head.
-//! - [`Reach`]: which paths are served over a connection.
-//! - [`Path`] and `judge`: which service a head requests, or the [`Refusal`] of it, by ordered
-//!   cases.
-//! - [`Arrival`]: what a stream means. An [`Exchange`] is with another region.
-//! - [`hear_front`]: what the [`Front`] of the bytes that have come means: an arrival, or more is
-//!   needed.
-//! - [`PushTerms`]: which pushed bundles are refused, whatever the region would do with them.
-//! - `ahead` reads a pushed bundle, and refuses one by the terms.
-//! - `answer` makes the reply to an arrival, and `render` its bytes.
-//! - `again` gives the reply to a refresh that is repeated.
-//! - `tell` writes the record of a fact and only then the reply, or returns a [`Fault`].
-//! - `push` takes a pushed bundle in and logs it before the reply, if bundles are logged.
-//! - `serving`: serves an arrival, and the front of bytes.
-//! - [`Edge`]: [`Edge::answer`] over a whole stream, and [`Edge::serve_front`] over the bytes that
-//!   have come, as often as more do.
+//! - [`Sink`], [`Counted`], [`Discard`]: devices that take bytes, and count their failures.
+//! - [`Reach`], [`Path`], `field`, `judge`: what a head requests, or its [`Refusal`].
+//! - [`hear_front`], [`Front`]: an [`Arrival`], or more bytes are needed. An [`Exchange`] is with
+//!   another region, and [`PushTerms`] say which pushes are refused.
+//! - `answer`, `ahead`, `exchange`: the reply to an arrival. `render` makes its bytes.
+//! - `again`: the reply to a refresh that is repeated.
+//! - `tell`, `push`: log the record, and only then write the reply, or return a [`Fault`].
+//! - `serving`, [`Edge`], [`keep_open`].
 //!
-//! The definitions are in `specs/`: `Judged` has the cases, `Heard` the meaning of a stream,
-//! `Answers` and `Exchanges` the replies, `Pushes` the log of bundles, `Served` what one connection
-//! does, and `Fronts` and `FrontServed` what the front of its bytes means and does.
+//! The definitions are in `specs/`: `Judged`, `Heard` and `Fronts` say what bytes mean, `Answers`,
+//! `Exchanges` and `Pushes` what is replied and logged, `Served` and `FrontServed` what serving
+//! does.
 #![tactic(auto)]
 
 mod again;

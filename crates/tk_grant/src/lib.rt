@@ -8,12 +8,13 @@
 //! - A `Grant` is what tokens are minted for.
 //!
 //! Then the judgement becomes the reply, and the fact if one is made. Both grants go through one
-//! `Gate`: whether the code or refresh token that was sent can be redeemed.
+//! `Gate`: whether the code or refresh token that was sent can be redeemed. The crate adds no fact
+//! and draws no random words: the region does the one, and the other come with each request.
 //!
 //! In reading order: `Refusal`, `Gate`, `Grant`, `Judged`, `redeem`, `rotate`, `decide_token`,
-//! `grants_alike`, `grants_within`. The definitions are in `specs/`: `Refusal`, `Gate`, `Redeemed`,
-//! `Rotated`, `Judged`, `Granted`, `Within`.
-//! `SoundGate` and `SoundJudged` define what makes each fact pass its check.
+//! `repeat_of`, `grants_alike`, `grants_within`, `repeats_reply`. The definitions are in `specs/`:
+//! `Refusal`, `Gate`, `Redeemed`, `Rotated`, `Judged`, `Granted`, `Repeat`, `Within`. `SoundGate` and `SoundJudged` define what makes each
+//! fact pass its check.
 #![tactic(auto)]
 
 mod gate;

@@ -1,22 +1,20 @@
 //! Messages: requests, the clients that send them, and replies.
 //!
 //! - A `Request` goes to an `Endpoint`, with the parameters and credentials of tk_params.
-//! - `authenticate` returns the client that credentials prove. `find_caller` returns the client
-//!   that sends a request. `scope_asked` returns the scope that a request asks for.
-//! - A `Reply` is a `StatusCode`, perhaps a place to redirect to, and a `Payload`.
-//! - An `ErrorCode` has a name and a status.
-//! - `Told` is what a JSON reply says. No other crate makes JSON: `Told::reply` writes every one,
-//!   and each body is defined in `specs/Bodies.antt`.
-//! - A `Decision` is a reply, and the fact that the request makes, if any.
-//! - A `Place` is the dot of that fact, how long tokens live, and the `Choices` of the region.
+//!   `find_caller` returns the client that sends it, by `authenticate`, and `scope_asked` the scope
+//!   that it asks for.
+//! - A `Reply` has a `StatusCode`, perhaps a place to redirect to, and a `Payload`. An `ErrorCode`
+//!   has a name and a status. `Told` is what a JSON reply says: `Told::reply` writes every one.
+//! - A `Decision` is a reply, and the fact that the request makes, if any. A `Place` is the dot of
+//!   that fact, how long tokens live, and the `Choices` of the region.
 //!
-//! The crates above decide what a request gets, and in which order its errors are sought.
+//! The crates above decide what a request gets, and in which order its errors are sought. tk_edge
+//! reads requests and writes replies as HTTP. No other crate makes JSON.
 //!
 //! In reading order: `Endpoint`, `Request`, `Auth`, `Caller`, `scope_asked`, `StatusCode`,
 //! `ErrorCode`, `Reply`, `Told`, `Lives`, `Choices`, `Place`, `Decision`. The definitions are in
-//! `specs/`, by the name of the file: `RequestFields`, `Authentication`, `Caller`, `ScopeAsked`,
-//! `StatusCode`, `ErrorCode`, `Bodies`, `ReplyFields`, `Reply`, `Told`, `Choices`, `Place`,
-//! `Decision`.
+//! `specs/`, by these names. Those of the credentials are in `Authentication`, of requests in
+//! `RequestFields`, and of the bodies in `Bodies`.
 #![tactic(auto)]
 
 mod authentication;

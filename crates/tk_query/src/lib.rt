@@ -9,10 +9,11 @@
 //! this region has not seen is one of the region's `Choices`. The outcome is a `Revocation`: a
 //! `Refusal`, an `Idle` if nothing is left to revoke, the fact, or `Later`.
 //!
+//! Whether a token is active is tk_ledger's to say, by its `status`. The crate adds no fact.
+//!
 //! In reading order: `Refusal`, `Introspected`, `decide_introspect`, `Idle`, `Revocation`,
 //! `decide_revoke`, `says_active`, `queries_alike`. The definitions are in `specs/`, by the name of
-//! the file.
-//! `Caller` has the names of the parameters that both endpoints know.
+//! the file. `Caller` has the names of the parameters that both endpoints know.
 #![tactic(auto)]
 
 mod caller;

@@ -5,21 +5,16 @@
 //! horizon on answers as the definition over them, whatever it skipped by pruning. Bundles may be
 //! lost, repeated, late or out of order.
 //!
-//! An event is a line that `Event::read_line` reads, and an outcome a line that `print_outcomes`
-//! writes.
-//!
 //! In reading order:
 //!
 //! - `Event`, `Outcome`, `World`: what happens to a world. `Carrier`: how requests reach its
 //!   regions. Inside, `region` hands bundles to one region, and has it prune.
-//! - `line`: the lines of events. `request_line` makes their requests, `fields` reads their numbers
-//!   and texts.
-//! - `print`: the lines of outcomes. `reply_parts` finds what they show of a reply.
+//! - `line`, `request_line`, `fields`: `Event::read_line` reads an event, a line.
+//! - `print`, `reply_parts`: `print_outcomes` writes outcomes as lines.
 //!
-//! tk_put writes the lines, tk_edge replies to the bytes of a request, and tk_region takes a bundle
-//! in. The definitions are in `specs/`: `Acts` has what events do to the regions' stores, `State`
-//! and `World` have steps and runs over all facts, and `WorldStands` ties the two. The crate reads
-//! no clock and draws no random words: each event brings them.
+//! The definitions are in `specs/`: `Acts` has what events do to the regions' stores, `State` and
+//! `World` have steps and runs over all facts, and `WorldStands` ties the two. The crate reads no
+//! clock and draws no random words: each event brings them. It opens no socket: a `Carrier` may.
 #![tactic(auto)]
 
 mod bundle;
