@@ -159,14 +159,7 @@ impl Edge {
             return refuse(alloc, Refusal::Sealed);
         }
         let came = hear_whole(alloc, reach, bytes)?;
-        answer_arrival(
-            alloc,
-            &mut self.region,
-            &self.terms,
-            now,
-            words,
-            &came,
-        )
+        answer_arrival(alloc, &mut self.region, &self.terms, now, words, &came)
     }
 
     /// Serves the request at the front of the bytes that have come over a connection, if that

@@ -63,16 +63,7 @@ pub(crate) fn serve_front_open<L: Sink, W: Sink>(
         Ok(Front::More) => Ok(None),
         Ok(Front::Came(came, taken)) => {
             match serve_arrival(
-                alloc,
-                region,
-                terms,
-                sealed,
-                log,
-                log_taken,
-                writer,
-                now,
-                words,
-                came,
+                alloc, region, terms, sealed, log, log_taken, writer, now, words, came,
             ) {
                 Ok(served) => Ok(Some((served, taken))),
                 Err(fault) => Err(fault),
@@ -118,16 +109,7 @@ pub(crate) fn serve_arrival<L: Sink, W: Sink>(
         return Ok(Served::Nothing);
     }
     match reply(
-        alloc,
-        region,
-        terms,
-        sealed,
-        log,
-        log_taken,
-        writer,
-        now,
-        words,
-        &came,
+        alloc, region, terms, sealed, log, log_taken, writer, now, words, &came,
     ) {
         Ok(status) => Ok(Served::Done(status)),
         Err(fault) => Err(fault),
@@ -164,27 +146,8 @@ fn reply<L: Sink, W: Sink>(
         (W.failed writer.old) (W.failed writer.new) }
 {
     match bundle_to_log(log_taken, came) {
-        Some(bytes) => take_and_log(
-            alloc,
-            region,
-            sealed,
-            log,
-            writer,
-            terms,
-            now,
-            bytes,
-        ),
-        None => answer_and_tell(
-            alloc,
-            region,
-            terms,
-            sealed,
-            log,
-            writer,
-            now,
-            words,
-            came,
-        ),
+        Some(bytes) => take_and_log(alloc, region, sealed, log, writer, terms, now, bytes),
+        None => answer_and_tell(alloc, region, terms, sealed, log, writer, now, words, came),
     }
 }
 

@@ -13,8 +13,8 @@
 //!
 //! In reading order: `Refusal`, `Gate`, `Grant`, `Judged`, `redeem`, `rotate`, `decide_token`,
 //! `repeat_of`, `grants_alike`, `grants_within`, `repeats_reply`. The definitions are in `specs/`:
-//! `Refusal`, `Gate`, `Redeemed`, `Rotated`, `Judged`, `Granted`, `Repeat`, `Within`. `SoundGate` and `SoundJudged` define what makes each
-//! fact pass its check.
+//! `Refusal`, `Gate`, `Redeemed`, `Rotated`, `Judged`, `Granted`, `Repeat`, `Within`. `SoundGate`
+//! and `SoundJudged` define what makes each fact pass its check.
 #![tactic(auto)]
 
 mod gate;

@@ -103,10 +103,10 @@ AreAmong some all = (it : Refreshed) → IsIn it some → IsIn it all
 
 -- Requests repeated what may be repeated, and what is kept is of that or was granted by them.
 pub record AreRepeated (old : RepeatsFields) (endings : Endings) (new : RepeatsFields) : Type 0
-    where
-  pub seconds : new.seconds ≡ old.seconds
-  pub each : AreRepeats old.seconds old.kept endings
-  pub kept : AreAmong new.kept (all_granted old.kept endings)
+  where
+    pub seconds : new.seconds ≡ old.seconds
+    pub each : AreRepeats old.seconds old.kept endings
+    pub kept : AreAmong new.kept (all_granted old.kept endings)
 
 -- the generator after the words of these requests
 abbrev pub past_each : ChaCha → Endings → ChaCha

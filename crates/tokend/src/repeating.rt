@@ -162,7 +162,12 @@ impl Server {
     }
 
     /// Gives the reply to a refresh again. `taken` is what its request took of the bytes.
-    pub(crate) fn reply_again(&mut self, reply: &[u8], taken: Taken, replies: &mut Vec<u8>) -> Outcome
+    pub(crate) fn reply_again(
+        &mut self,
+        reply: &[u8],
+        taken: Taken,
+        replies: &mut Vec<u8>,
+    ) -> Outcome
         requires { 0 < self.old.left }
         ensures { spec.GivesAgain self.old taken reply.now result replies.old.items replies.new.items
             self.new }
