@@ -20,7 +20,10 @@ use tk_region::{Region, Settings};
 fn new_edge(alloc: Global) -> Option<Edge> {
     let settings = Settings::new(60, 3_600, 86_400, 2_592_000, 1_000_000)?;
     let number = RegionNumber::new(1)?;
-    Some(Edge::new(Region::new(alloc, number, settings), PushTerms::accept_all(alloc)))
+    Some(Edge::new(
+        Region::new(alloc, number, settings),
+        PushTerms::accept_all(alloc),
+    ))
 }
 
 // Returns whether the bytes get this reply without devices, and make no record.
