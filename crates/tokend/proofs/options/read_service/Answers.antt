@@ -35,8 +35,8 @@ returns-in_default-number-clause-none c = without_region (rows_of (found_of c.ar
 pub returns-in_default-number-2-clause-none : goal.returns-in_default-number-2-clause-none
 returns-in_default-number-2-clause-none c = without_connections (rows_of (found_of c.args.matches.now)) c.in_default-number-2.ensures.none
 
-pub returns-in_default-read_pushes-clause-none : goal.returns-in_default-read_pushes-clause-none
-returns-in_default-read_pushes-clause-none c = without_pushes (rows_of (found_of c.args.matches.now)) c.in_default-read_pushes.ensures.none
+pub returns-in_default-3-clause-none : goal.returns-in_default-3-clause-none
+returns-in_default-3-clause-none c = without_pushes (rows_of (found_of c.args.matches.now)) (search rules)
 
 pub returns-in_default-read_choices-clause-none : goal.returns-in_default-read_choices-clause-none
 returns-in_default-read_choices-clause-none c = without_choices (rows_of (found_of c.args.matches.now)) c.in_default-read_choices.ensures.none

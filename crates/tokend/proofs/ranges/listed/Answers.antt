@@ -18,5 +18,5 @@ loop-word-preserved c =
 
 pub returns : goal.returns
 returns c =
-    let all = YieldsList-end (YieldsList-from_str_split 0x2c c.args.text.now (lit< tt) c.split-word-items.ensures.text c.split-word-items.ensures.has_more c.split-word-items.ensures.pattern) c.loop-word.yielded _ c.loop-word.yielded_by _ _ c.in-None.is c.next.ensures.steps in
-    c.loop-word.invariant ∙ ap ranges_in (sym all.0)
+    let all = YieldsList-end (YieldsList-from_str_split 0x2c c.args.text.now (lit< tt) (cc) (cc) (cc)) c.loop-word.yielded _ c.loop-word.yielded_by _ _ c.in-None.is c.next.ensures.steps in
+    c.loop-word.invariant ∙ ap ranges_in all.0
