@@ -1,13 +1,29 @@
 """carried: which facts are carried where, and what is found in the wrong place."""
+import os
 import time
 import urllib.parse
+from pathlib import Path
 
 from lib.facts import client, clients, mark
 from lib.waiting import free_port, until
 from machine import CellsCase
+from tables import read_table
+
+
+FIRST_RUN = 95  # of each site: facts of its earlier numbers are taken
 
 
 class Carries(CellsCase):
+    def up(self, *names):
+        for name in names:
+            folder = os.path.join(self.state, name)
+            if not os.path.isdir(folder):
+                os.mkdir(folder, 0o700)
+                first = read_table(Path(self.path)).site(name).numbers[0]
+                with open(os.path.join(folder, "number"), "w", encoding="ascii") as file:
+                    file.write("%d\n" % (first // 100 * 100 + FIRST_RUN - 1))
+        super().up(*names)
+
     def test_a_cell_keeps_its_facts_and_has_the_directorys(self):
         self.up("dir1", "a1", "a2", "b1")
         for name, region in ("dir1", 90), ("a1", 190), ("b1", 390):
@@ -113,7 +129,7 @@ class Carries(CellsCase):
         status, output, errors = self.cells("add-client", "kind=public", "scope=read",
                                             "redirects=https://a.test/")
         self.assertEqual((status, output), (1, ""))  # nobody carries
-        self.assertIn("c500-1 is added; not yet known at dir1 a1 a2 b1", errors)
+        self.assertIn("c595-1 is added; not yet known at dir1 a1 a2 b1", errors)
 
     def test_a_client_that_the_directory_refuses(self):
         self.up("dir1")

@@ -1,4 +1,5 @@
 """fronting: sites behind HAProxy, as examples/scale-out has it, without spread."""
+import json
 import re
 import threading
 import unittest
@@ -144,7 +145,9 @@ class Fronts(Case):
             it.join()
         self.assertEqual(set(replies), {200})
         self.assertEqual(set(self.front.by()[-20:]), {"two/one"})
-        self.assertEqual(self.refresh(refresh)[0], 200)
+        status, *_, said = self.refresh(refresh)
+        self.assertEqual(status, 200)
+        self.assertEqual(self.refresh(json.loads(said)["refresh_token"])[0], 200)
         self.assertEqual(self.refresh(refresh)[0], 400)
         self.assertFalse(self.is_active(access))
         self.again(self.sites["two"], self.sites["one"])
