@@ -8,8 +8,6 @@ use Rattle.std.proofs.Common.{◌≡◌, ◌≢◌, ◌⊎◌, inl, inr, ℕ, Bo
 use Rattle.std.specs.Io.KnownBytes.{Appends}
 use Rattle.tk_put.specs.Put.{AppendsFront}
 use Rattle.tk_message.specs.declared.status_code.StatusCode.{StatusCode}
-use Rattle.tk_format.specs.Format.{whole}
-use Rattle.tk_bundle.specs.Bundle.{bundle}
 use Rattle.tk_bundle.specs.BundleFields.{Items}
 use Rattle.tk_region.specs.declared.take.TakeError.{TakeError}
 use Rattle.tk_region.specs.declared.take.TakeError.TheVariants as take

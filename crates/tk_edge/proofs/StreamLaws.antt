@@ -27,7 +27,7 @@ use Rattle.tk_format.specs.declared.numeral.Numeral.{Numeral}
 use Rattle.tk_format.specs.declared.numeral.Numeral.TheVariants as numeral
 use Rattle.tk_params.specs.Params.{Pairs}
 use Rattle.tk_edge.specs.declared.hear.Arrival.{Arrival}
-use Rattle.tk_edge.specs.declared.hear.Arrival.TheVariants.{Silence, Request}
+use Rattle.tk_edge.specs.declared.hear.Arrival.TheVariants.{Silence}
 use Rattle.tk_edge.specs.declared.hear.Arrival.TheVariants as arrival
 use Rattle.tk_edge.specs.declared.judge.Judged.{Judged}
 use Rattle.tk_edge.specs.declared.judge.Judged.TheVariants.{Refused, Query, Vector, Body}

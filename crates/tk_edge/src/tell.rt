@@ -16,8 +16,8 @@ pub enum Fault {
     /// The request couldn't be read. No edge returns it, because an edge reads no device: who reads
     /// the bytes of connections reports by it those that it couldn't read.
     Read,
-    /// The reply couldn't be written whole. The fact is added, and its record is in the log, as is a
-    /// bundle that was to be logged.
+    /// The reply couldn't be written whole. The fact is added, and its record is in the log, as is
+    /// a bundle that was to be logged.
     Write,
     /// The record, or a bundle that was to be logged, couldn't be written whole. The facts are
     /// added, the client got no reply, and the edge is sealed.

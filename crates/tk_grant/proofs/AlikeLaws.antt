@@ -1,7 +1,7 @@
 -- Token requests are decided alike by two stores whose statuses are answered alike. Key results:
 --   lost_gate      a lost token is refused as an invalid grant
 --   grants_alike   the decisions
-use Rattle.std.proofs.Common.{◌≡◌, ◌≢◌, ◌⊎◌, inl, inr, ℕ, ◌≤◌, Bool, true, false, ◌==◌, cond, if◌then◌else◌, List, codes, Option, None, Some, refl, sym, ap, subst, ◌∙◌}
+use Rattle.std.proofs.Common.{◌≡◌, ◌≢◌, inl, inr, ℕ, Bool, true, false, ◌==◌, cond, List, codes, Option, None, Some, refl, sym, ap, ◌∙◌}
 use Rattle.std.proofs.lemmas.Bool.{true≢false}
 use Rattle.std.specs.Str.{bytes_eq}
 use Rattle.tk_handle.specs.Handle.{handle_in}
@@ -25,12 +25,11 @@ use Rattle.tk_message.specs.Decision.{refused}
 use Rattle.tk_message.specs.RequestFields.{RequestFields}
 use Rattle.tk_message.specs.declared.caller.Caller.{Caller}
 use Rattle.tk_message.specs.declared.caller.Caller.TheVariants as caller
-use Rattle.tk_message.specs.declared.decision.Decision.{Decision}
 use Rattle.tk_message.specs.declared.error_code.ErrorCode.TheVariants.{InvalidGrant}
 use Rattle.tk_message.specs.declared.place.Place.{Place}
 use Rattle.tk_grant.specs.Gate.{gate_by_state, gate_by_client, gate_by_status, gate_by_handle, gate_by_text, gate_of}
 use Rattle.tk_grant.specs.Granted.{granted_by, grant_of}
-use Rattle.tk_grant.specs.Judged.{judged_by_type, judged_by_caller, judged_of, known_names}
+use Rattle.tk_grant.specs.Judged.{judged_by_type, judged_by_caller, known_names}
 use Rattle.tk_grant.specs.Redeemed.{redeemed_of}
 use Rattle.tk_grant.specs.Refusal.{refusal_code}
 use Rattle.tk_grant.specs.Rotated.{rotated_of}

@@ -1,23 +1,21 @@
 -- A refresh that is repeated gets the reply of its grant. Key result:
 --   same_among      comparing each borrowed name is comparing their texts
 --   repeats_reply   the reply, of which `expires_in` alone differs
-use Rattle.std.proofs.Common.{◌≡◌, ℕ, ◌-◌, ◌&&◌, Bool, true, false, List, [], ◌∷◌, map, Option, Some, None, inl, inr, refl, sym, ap, subst, ◌∙◌}
+use Rattle.std.proofs.Common.{◌≡◌, ℕ, ◌-◌, ◌&&◌, List, [], ◌∷◌, map, Option, Some, None, inl, inr, refl, sym, ap, subst, ◌∙◌}
 use Rattle.std.proofs.lemmas.Bool.{cases_Bool, cond-true, cond-false}
 use Rattle.std.specs.Borrow.{Bor}
 use Rattle.std.specs.FinMap as fin
 use Rattle.std.specs.List.{list_all}
 use Rattle.std.specs.Option.{option_and_then}
-use Rattle.tk_handle.specs.declared.dot.Dot.{Dot}
 use Rattle.tk_handle.specs.declared.handle.Handle.{Handle}
 use Rattle.tk_handle.specs.declared.kind.Kind.TheVariants as kind
 use Rattle.tk_fact.specs.declared.body.Body.{Body}
 use Rattle.tk_fact.specs.Tokens.{MintedFields, minted_at, minted_of}
 use Rattle.tk_store.specs.FactSet.{FactSet}
-use Rattle.tk_store.specs.StoreFields.{StoreFields, held_facts}
+use Rattle.tk_store.specs.StoreFields.{held_facts}
 use Rattle.tk_store.proofs.PutLaws.{none_is_not_some, some_injective}
 use Rattle.tk_ledger.specs.StandingFields.{StandingFields}
 use Rattle.tk_ledger.specs.Status.{status_here}
-use Rattle.tk_ledger.specs.Tokens.{minted_in}
 use Rattle.tk_ledger.specs.declared.status.Status.{Status}
 use Rattle.tk_ledger.specs.declared.status.Status.TheVariants.{Unseen, Wrong, Broken, Known}
 use Rattle.tk_ledger.proofs.HereLaws.{here_known}
@@ -27,15 +25,10 @@ use Rattle.tk_message.specs.Bodies.{token_body}
 use Rattle.tk_message.specs.Place.{next_in}
 use Rattle.tk_message.specs.Reply.{json_reply}
 use Rattle.tk_message.specs.ReplyFields.{ReplyFields}
-use Rattle.tk_message.specs.RequestFields.{RequestFields}
-use Rattle.tk_message.specs.declared.place.Place.{Place}
 use Rattle.tk_message.specs.declared.status_code.StatusCode.TheVariants.{Ok}
 use Rattle.tk_grant.specs.Granted.{access_handle, access_token, granted_by, refresh_handle}
-use Rattle.tk_grant.specs.Judged.{judged_of}
 use Rattle.tk_grant.specs.Laws.{RepeatsReply}
-use Rattle.tk_grant.specs.Repeat.{has_same, have_same, is_live, later_reply, live_as, live_in, repeat_by}
-use Rattle.tk_grant.specs.declared.judged.Grant.{Grant}
-use Rattle.tk_grant.specs.declared.judged.Judged.TheVariants.{Rotates}
+use Rattle.tk_grant.specs.Repeat.{has_same, have_same, is_live, live_as, live_in, repeat_by}
 
 -- comparing each borrowed name is comparing their texts
 pub same_among : (names : List (Bor (List ℕ))) (a b : Pairs) → list_all (λ name. has_same name.now a b) names ≡ have_same (map (λ x. x.now) names) a b

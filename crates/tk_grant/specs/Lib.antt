@@ -7,7 +7,8 @@
 --   Granted       grant_of, the decision of a token request
 --   Repeat        is_again, a refresh that is repeated; repeat_of, the reply to it
 --   Within        IsWithin, a fact whose tokens end with their family at the latest
---   Laws          GrantsAlike, two stores that answer each handle alike; GrantsWithin, the facts made
+--   Laws          GrantsAlike, two stores that answer each handle alike; GrantsWithin, the facts
+--                 made
 --   SoundGate     IsSoundGate, what holds of every gate
 --   SoundJudged   IsSoundJudged, what holds of every judgement
 pub mod Gate

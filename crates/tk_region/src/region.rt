@@ -178,8 +178,8 @@ impl Region {
         prepare(alloc, self.settings.cap(), &place, decision)
     }
 
-    /// Returns the reply to a refresh again: with the two tokens that the fact at this dot minted of
-    /// these random words, if both are live at the moment (own). See [`repeat_of`].
+    /// Returns the reply to a refresh again: with the two tokens that the fact at this dot minted
+    /// of these random words, if both are live at the moment (own). See [`repeat_of`].
     ///
     /// The region does not change. Before the horizon there is no such reply. Returns an error if
     /// memory runs out.
@@ -272,8 +272,8 @@ impl Region {
         take_bundle(next, &mut self.ledger, sent)
     }
 
-    /// Returns the record of a bundle in a log of the region, before the region takes the bundle in:
-    /// the bundle without the facts at skipped dots, which the region drops.
+    /// Returns the record of a bundle in a log of the region, before the region takes the bundle
+    /// in: the bundle without the facts at skipped dots, which the region drops.
     ///
     /// Returns None if the bundle changes nothing: it raises no horizon, has no unknown dot, and no
     /// mark of a fact that is held.

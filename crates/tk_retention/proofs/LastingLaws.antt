@@ -4,7 +4,7 @@
 --   client_view_same, consent_view_same, consent_for_same, signed_out_same, revoked_same
 --                                  clients, consents, sign-outs and revocations
 --   caller_same                    the sender of a request
-use Rattle.std.proofs.Common.{◌≡◌, ◌≢◌, ◌↔◌, inl, inr, ℕ, Bool, true, false, ◌&&◌, not, cond, List, Option, None, Some, is_some, option_map, refl, sym, ap, subst, ◌∙◌}
+use Rattle.std.proofs.Common.{◌≡◌, inl, inr, ℕ, Bool, true, ◌&&◌, not, cond, List, Option, None, Some, is_some, option_map, refl, sym, ap, ◌∙◌}
 use Rattle.std.proofs.lemmas.Bool.{cases_Bool}
 use Rattle.std.specs.Option.{option_and_then}
 use Rattle.std.specs.FinMap as map
@@ -18,17 +18,16 @@ use Rattle.tk_store.specs.Slots.{is_skipped}
 use Rattle.tk_store.specs.StoreFields.{StoreFields, held_facts}
 use Rattle.tk_store.proofs.EntryLaws.{Passing, any_fact-held, any_fact-of}
 use Rattle.tk_store.proofs.PutLaws.{none_is_not_some}
-use Rattle.tk_ledger.specs.Clients.{client_at, added_in, is_retired, retires, is_live_client, consent_at, given_in, is_withdrawn, withdraws, IsWithdrawn, IsConsentOf, IsConsentFor, IsLeastConsent, consent_for}
+use Rattle.tk_ledger.specs.Clients.{client_at, added_in, is_retired, retires, is_live_client, consent_at, given_in, is_withdrawn, withdraws, IsWithdrawn, IsConsentFor, IsLeastConsent, consent_for}
 use Rattle.tk_ledger.specs.SignOuts.{signs_out, is_signed_out}
 use Rattle.tk_ledger.specs.Tokens.{revokes, is_revoked}
-use Rattle.tk_ledger.specs.ViewFields.{ClientFields, ConsentFields}
 use Rattle.tk_ledger.specs.Views.{client_view, consent_view}
 use Rattle.tk_ledger.proofs.ConsentLaws.{least_consent}
 use Rattle.tk_ledger.proofs.KeyLaws.{same_tests}
 use Rattle.tk_ledger.proofs.SpanLaws.{first_is}
-use Rattle.tk_params.specs.Credentials.{CredentialsFields, Presented, Mixed, Unreadable, Presents, presented_in}
+use Rattle.tk_params.specs.Credentials.{Presented, Mixed, Unreadable, Presents, presented_in}
 use Rattle.tk_params.specs.Params.{has_twice}
-use Rattle.tk_message.specs.Authentication.{authenticated, authenticated_at, authenticated_as}
+use Rattle.tk_message.specs.Authentication.{authenticated_at, authenticated_as}
 use Rattle.tk_message.specs.Caller.{caller_by, caller_by_auth, caller_of}
 use Rattle.tk_message.specs.RequestFields.{RequestFields}
 use Rattle.tk_message.specs.declared.caller.Caller.{Caller}

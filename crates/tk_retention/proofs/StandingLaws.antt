@@ -6,7 +6,7 @@
 --   skipped_over                      what is skipped is under a code whose family is over
 --   under_held, mint_held, code_held, ended_held, used_held, dead_held
 --                                     it is held, or the family is over
-use Rattle.std.proofs.Common.{◌≡◌, ◌≢◌, ◌⊎◌, inl, inr, ℕ, ◌≤◌, Bool, true, false, Option, None, Some, List, [], ◌∷◌, refl, sym, ap, subst, ◌∙◌}
+use Rattle.std.proofs.Common.{◌≡◌, ◌≢◌, ◌⊎◌, inl, inr, ℕ, ◌≤◌, true, false, Option, None, Some, List, [], ◌∷◌, refl, sym, ap, subst, ◌∙◌}
 use Rattle.std.proofs.lemmas.Bool.{true≢false, cases_Bool}
 use Rattle.std.specs.Option.{option_and_then}
 use Rattle.std.specs.FinMap as map
@@ -15,7 +15,7 @@ use Rattle.tk_handle.specs.declared.kind.Kind.TheVariants as kind
 use Rattle.tk_handle.specs.declared.token_id.TokenId.{TokenId}
 use Rattle.tk_family.specs.declared.link.Link.{Link}
 use Rattle.tk_family.specs.declared.link.Link.TheVariants.{Code, Redeems, Rotates}
-use Rattle.tk_family.specs.Families.{Links, used_by, named_by, grant_at, IsParent, IsTrail, IsPath, IsUnder, use_of, IsUsed, IsTwice, IsBad, IsDead}
+use Rattle.tk_family.specs.Families.{Links, used_by, named_by, grant_at, IsParent, IsPath, IsUnder, use_of, IsUsed, IsTwice, IsDead}
 use Rattle.tk_family.proofs.FamilyLaws.{IsUnder-one, IsUnder-within, use_of-within}
 use Rattle.tk_fact.specs.Keeping.{kept_for}
 use Rattle.tk_fact.specs.Tokens.{MintedFields, minted_of}
@@ -29,8 +29,8 @@ use Rattle.tk_store.proofs.PutLaws.{none_is_not_some, some_injective}
 use Rattle.tk_store.proofs.SlotLaws.{get_held}
 use Rattle.tk_ledger.specs.Retention.{MaySkip}
 use Rattle.tk_ledger.specs.SignOuts.{IsSignedOut}
-use Rattle.tk_ledger.specs.Tokens.{link_of, links_in, issued_in, issued_at, minted_in, IsRevoked, IsEnded, IsReused, IsOut, IsStopped, IsMarked}
-use Rattle.tk_ledger.proofs.TokenLaws.{links-below, minted-below}
+use Rattle.tk_ledger.specs.Tokens.{link_of, links_in, issued_in, issued_at, minted_in, IsRevoked, IsEnded, IsReused, IsOut, IsMarked}
+use Rattle.tk_ledger.proofs.TokenLaws.{links-below}
 use Rattle.tk_retention.specs.StandsFor.{SlotStands, StandsFor}
 
 -- the family of the code at c is over at the moment

@@ -2,9 +2,9 @@
 -- or both are lost. Key results:
 --   state_same                the state of a token whose family is not over
 --   status_stands             the statuses
-use Rattle.std.proofs.Common.{◌≡◌, ◌≢◌, ◌⊎◌, inl, inr, ℕ, ◌≤◌, ◌<◌, Bool, true, false, ◌&&◌, not, nat_le, cond, if◌then◌else◌, List, Option, None, Some, is_some, refl, sym, ap, subst, ◌∙◌, arith}
+use Rattle.std.proofs.Common.{◌≡◌, ◌≢◌, ◌⊎◌, inl, inr, ℕ, ◌≤◌, ◌<◌, Bool, true, false, ◌&&◌, not, nat_le, cond, if◌then◌else◌, List, Option, None, Some, refl, sym, ap, subst, ◌∙◌, arith}
 use borrow.Author.Tests.{le-leb}
-use Rattle.std.proofs.lemmas.Bool.{cases_Bool, cases_lt, cond-true}
+use Rattle.std.proofs.lemmas.Bool.{cases_lt}
 use Rattle.std.specs.Option.{option_and_then}
 use Rattle.std.specs.Str.{bytes_eq}
 use Rattle.std.specs.FinMap as map
@@ -17,32 +17,30 @@ use Rattle.tk_family.specs.declared.link.Link.{Link}
 use Rattle.tk_family.specs.declared.link.Link.TheVariants.{Code, Redeems, Rotates}
 use Rattle.tk_family.specs.Families.{IsUnder}
 use Rattle.tk_family.proofs.FamilyLaws.{IsUnder-one, IsUnder-within, use_of-within}
-use Rattle.tk_fact.specs.Keeping.{kept_for}
 use Rattle.tk_fact.specs.Tokens.{MintedFields, minted_of}
 use Rattle.tk_fact.specs.declared.body.Body.{Body}
 use Rattle.tk_fact.specs.declared.body.Body.TheVariants as body
 use Rattle.tk_fact.specs.declared.code_issued.CodeIssued as issued
-use Rattle.tk_store.specs.FactSet.{FactSet, IsSubset, any_fact}
+use Rattle.tk_store.specs.FactSet.{FactSet, IsSubset}
 use Rattle.tk_store.specs.Slots.{Slot, Held, Skipped, held_slot, is_skipped, is_skipped_slot}
 use Rattle.tk_store.specs.StoreFields.{StoreFields, held_facts}
-use Rattle.tk_store.proofs.EntryLaws.{Passing, any_fact-held, any_fact-of}
 use Rattle.tk_store.proofs.PutLaws.{none_is_not_some, some_injective}
 use Rattle.tk_store.proofs.SlotLaws.{get_held}
-use Rattle.tk_ledger.specs.Clients.{client_at, added_in, is_retired, retires, is_live_client, consent_at, given_in, gives, is_withdrawn, withdraws, is_consent_of, is_live_consent}
+use Rattle.tk_ledger.specs.Clients.{is_live_client, gives, is_live_consent}
 use Rattle.tk_ledger.specs.StandingFields.{StandingFields}
 use Rattle.tk_ledger.specs.Status.{is_access, generation_of, state_in, standing_in, digest_of, with_digest, minted_as, status_by, status_in, status_here}
-use Rattle.tk_ledger.specs.Tokens.{link_of, links_in, issued_in, issued_at, minted_in, Root, root_in, is_used, is_ended, is_dead, IsMarked}
+use Rattle.tk_ledger.specs.Tokens.{link_of, links_in, issued_in, issued_at, minted_in, Root, root_in, is_used, is_ended, is_dead}
 use Rattle.tk_ledger.specs.declared.status.State.{State}
 use Rattle.tk_ledger.specs.declared.status.State.TheVariants as state
 use Rattle.tk_ledger.specs.declared.status.Status.{Status}
-use Rattle.tk_ledger.specs.declared.status.Status.TheVariants.{Unseen, Wrong, Broken, Known}
+use Rattle.tk_ledger.specs.declared.status.Status.TheVariants.{Broken, Known}
 use Rattle.tk_ledger.proofs.HereLaws.{here_held, here_skipped, here_unknown}
 use Rattle.tk_ledger.proofs.KeyLaws.{same_tests}
 use Rattle.tk_ledger.proofs.TokenLaws.{from_some, links-below, minted-below, root-sound, root-complete, is_dead-sound, is_dead-complete, is_used-sound, is_used-complete, is_ended-sound, is_ended-complete, IsDead-below, IsEnded-below}
 use Rattle.tk_ledger.specs.Alike.{is_closed, IsLost, AnsweredAlike}
 use Rattle.tk_retention.specs.StandsFor.{StandsFor, AreSound}
 use Rattle.tk_retention.proofs.LastingLaws.{live_client_same, consent_same, withdrawn_same}
-use Rattle.tk_retention.proofs.StandingLaws.{IsOver, none_some, kept_linked, all_made, at_skipped, at_held, apart, may_skip, held_made, held_part, lasting_held, skipped_over, under_held, code_held, ended_held, used_held, dead_held, code_under}
+use Rattle.tk_retention.proofs.StandingLaws.{IsOver, none_some, kept_linked, all_made, at_skipped, at_held, may_skip, held_made, held_part, under_held, code_held, ended_held, used_held, dead_held, code_under}
 
 later : (a b c : ℕ) → a ≤ b → b ≤ c → a ≤ c
 later a b c h k = omega (arith, h, k)

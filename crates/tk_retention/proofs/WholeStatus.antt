@@ -1,6 +1,6 @@
 -- The status of a handle by the store of a set of facts. Key results:
 --   whole_status   it is that by the facts
-use Rattle.std.proofs.Common.{◌≡◌, ℕ, Bool, true, false, cond, Option, None, Some, option_map, refl, ap, ◌∙◌}
+use Rattle.std.proofs.Common.{◌≡◌, ℕ, false, cond, Option, None, Some, option_map, refl, ap, ◌∙◌}
 use Rattle.std.specs.FinMap as map
 use Rattle.tk_handle.specs.declared.handle.Handle.{Handle}
 use Rattle.tk_fact.specs.declared.body.Body.{Body}

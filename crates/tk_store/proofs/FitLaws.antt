@@ -1,7 +1,7 @@
 -- Slots of a list that fit what is known are joined to it. Key results:
 --   fit_below    what was known of each dot is still known, or is skipped
 --   fit_first    the first slots of a list that fits, fit
-use Rattle.std.proofs.Common.{◌≡◌, ℕ, zero, suc, List, [], ◌∷◌, take, Option, Some, None, ap, subst, sym}
+use Rattle.std.proofs.Common.{ℕ, zero, suc, List, [], ◌∷◌, take, Option, Some, None, subst, sym}
 use Rattle.std.specs.FinMap as map
 use Rattle.tk_handle.specs.declared.dot.Dot.{Dot}
 use Rattle.tk_store.specs.Slots.{Slot, Slots, Held, Skipped, joined_slot, with_slots}

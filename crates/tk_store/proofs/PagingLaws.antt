@@ -12,7 +12,7 @@ use Rattle.tk_store.specs.FactSet.{dot_of}
 use Rattle.tk_store.specs.Beyond.{is_beyond, beyond}
 use Rattle.tk_store.specs.Walk.{is_above, above}
 use Rattle.tk_store.specs.SlotJoining.{AllBelow}
-use Rattle.tk_store.specs.SlotOrder.{SlotBelow, SlotsBelow}
+use Rattle.tk_store.specs.SlotOrder.{SlotBelow}
 use Rattle.tk_store.specs.Slots.{Slot, Slots}
 use Rattle.tk_store.proofs.SlotOrderLaws.{below_trans}
 use Rattle.tk_store.specs.Paging.{page, last_dot, TookPages, PagingCompletes}

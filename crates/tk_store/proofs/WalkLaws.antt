@@ -14,7 +14,6 @@ use Rattle.tk_fact.specs.declared.body.Body.{Body}
 use Rattle.tk_store.specs.declared.slot.SlotRef.{SlotRef}
 use Rattle.tk_store.specs.declared.slot.SlotRef.TheVariants as ref
 use Rattle.tk_store.specs.Slots.{Slot, Slots, Held, Skipped, held_entries, held_in}
-use Rattle.tk_store.specs.SlotShown.{shown_slot, HasDot}
 use Rattle.tk_store.specs.Table.{IsStep}
 use Rattle.tk_store.specs.Walk.{is_above, above}
 use Rattle.std.proofs.lemmas.Bool.{true≢false}

@@ -4,7 +4,7 @@
 --   whole_beyond                  the dots that a vector does not cover are those of the set
 --   empty_held, known_kept        an empty store, and a call that changes nothing
 --   agree_is, below_is            two whole stores agree, and are ordered, as their sets are
-use Rattle.std.proofs.Common.{◌≡◌, ◌≢◌, ◌↔◌, ◌≤◌, ◌+◌, ℕ, max, ◌==◌, if◌then◌else◌, Bool, true, false, cond, not, nat_le, List, [], ◌∷◌, map, filter, Option, Some, None, IsSome, is_some, option_map, Result, Ok, Err, refl, sym, ap, subst, ◌∙◌, arith}
+use Rattle.std.proofs.Common.{◌≡◌, ◌≢◌, ◌↔◌, ◌≤◌, ◌+◌, ℕ, max, ◌==◌, if◌then◌else◌, Bool, true, false, cond, not, nat_le, List, [], ◌∷◌, map, filter, Option, Some, None, IsSome, is_some, Result, Ok, Err, refl, sym, ap, subst, ◌∙◌}
 use Rattle.std.proofs.lemmas.Bool.{true≢false}
 use Rattle.std.specs.Ordering.{is_lt}
 use Rattle.std.specs.FinMap as sets
@@ -14,20 +14,20 @@ use Rattle.tk_fact.specs.declared.body.Body.{Body}
 use Rattle.tk_vector.specs.VersionVector.{Vector, entry}
 use Rattle.tk_store.specs.Adding.{Adds, AddsTo, HasFact, RefusesFact}
 use Rattle.tk_store.specs.Beyond.{beyond, is_beyond}
-use Rattle.tk_store.specs.FactSet.{FactSet, Agree, IsSubset, dot_of}
-use Rattle.tk_store.specs.Front.{IsFront, IsFrontAt, HeldUpTo, dot_at}
+use Rattle.tk_store.specs.FactSet.{Agree, IsSubset, dot_of}
+use Rattle.tk_store.specs.Front.{IsFront, dot_at}
 use Rattle.tk_store.specs.NextDot.{last_serial, next_serial}
 use Rattle.tk_store.specs.SlotOrder.{SlotBelow, SlotAgrees, StoreBelow, StoresAgree}
-use Rattle.tk_store.specs.Slots.{Slot, Slots, Held, Skipped, held_slot, held_in, held_entries, is_skipped, is_skipped_slot, without_fact}
+use Rattle.tk_store.specs.Slots.{Slot, Held, Skipped, held_slot, held_entries, is_skipped, is_skipped_slot}
 use Rattle.tk_store.specs.StoreFields.{StoreFields, empty_store, held_facts, IsWhole, with_fact}
-use Rattle.tk_store.specs.Walk.{above, is_above}
+use Rattle.tk_store.specs.Walk.{is_above}
 use Rattle.tk_store.specs.declared.store.Added.{Added}
 use Rattle.tk_store.specs.declared.store.Added.TheVariants as added
 use Rattle.tk_store.specs.declared.store.AddError.{AddError}
 use Rattle.tk_store.specs.declared.store.AddError.TheVariants.{Conflict, Memory}
 use Rattle.tk_store.proofs.EntryLaws.{AllIn-entries}
 use Rattle.tk_store.proofs.PutLaws.{by_dot, none_is_not_some, some_injective}
-use Rattle.tk_store.proofs.SlotLaws.{get_held, held_none, held_put, held_without, entries_held, whole_held, whole_free}
+use Rattle.tk_store.proofs.SlotLaws.{get_held, held_none, held_put, entries_held}
 use Rattle.tk_store.specs.FactSet.{AllIn}
 
 -- ---- the slot at a dot

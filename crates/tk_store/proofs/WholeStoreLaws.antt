@@ -1,7 +1,7 @@
 -- The store of a set of facts. Key results:
 --   held_whole_store   it holds these facts
 --   whole_is           a store that skips nothing, with the horizon 0, is that of its facts
-use Rattle.std.proofs.Common.{◌≡◌, ◌&&◌, Bool, true, false, cond, T, List, [], ◌∷◌, map, Option, Some, None, option_map, refl, sym, ap, subst, ◌∙◌}
+use Rattle.std.proofs.Common.{◌≡◌, ◌&&◌, true, false, cond, T, List, [], ◌∷◌, map, Option, Some, None, option_map, refl, sym, ap, subst, ◌∙◌}
 use Rattle.std.proofs.lemmas.Bool.{true≢false}
 use Rattle.std.specs.Ordering.{eq_by_cmp, is_lt}
 use Rattle.std.specs.FinMap as sets
@@ -11,7 +11,7 @@ use Rattle.tk_handle.specs.declared.dot.Dot.{Dot}
 use Rattle.tk_handle.specs.Dot.{dot_cmp, dot_cmp_total, dot_cmp-IsAntisymmetric}
 use Rattle.tk_fact.specs.declared.body.Body.{Body}
 use Rattle.tk_store.specs.FactSet.{FactSet}
-use Rattle.tk_store.specs.Slots.{Slot, Slots, Held, Skipped, held_slot, is_skipped_slot}
+use Rattle.tk_store.specs.Slots.{Slot, Held, Skipped, held_slot, is_skipped_slot}
 use Rattle.tk_store.specs.StoreFields.{StoreFields, held_facts, IsWhole}
 use Rattle.tk_store.specs.WholeStores.{as_slot, whole_store}
 use Rattle.tk_store.proofs.SlotLaws.{get_held}

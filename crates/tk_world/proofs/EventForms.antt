@@ -8,16 +8,14 @@ use Rattle.std.specs.List.{All, AllWithin, HoldsAt, slice_split}
 use Rattle.std.proofs.lemmas.List.{take_rest, get_or-map, length-map}
 use Rattle.std.proofs.lemmas.List.Elements.{All-map, All-from_all_within}
 use Rattle.tk_format.specs.Decimals.{decimal_in}
-use Rattle.tk_format.proofs.DecimalLaws.{decimal_found, no_decimal}
+use Rattle.tk_format.proofs.DecimalLaws.{decimal_found}
 use Rattle.tk_handle.specs.declared.dot.Dot.{Dot}
 use Rattle.tk_handle.specs.Ranges.{IsRegion, IsMoment}
 use Rattle.tk_vector.specs.VersionVector.{Vector}
 use Rattle.tk_vector.specs.VectorText.{IsVectorText, IsNoVectorText}
 use Rattle.tk_world.specs.declared.event.Event.{Event}
 use Rattle.tk_world.specs.declared.event.Event.TheVariants.{Open, Request, Pull, Deliver, Prune}
-use Rattle.std.specs.Prelude.{Vec}
-use Rattle.std.specs.declared.alloc.Global.{Global}
-use Rattle.tk_world.specs.Fields.{is_space, region_in, moment_in, IsCursorText, IsNoCursorText}
+use Rattle.tk_world.specs.Fields.{is_space, region_in, moment_in, IsCursorText}
 use Rattle.tk_world.specs.RequestLine.{asked_of}
 use Rattle.tk_world.specs.Line.{texts, IsPrintable, IsEventForm, IsNoEventForm, IsEventLine, IsNoEventLine}
 use Rattle.tk_world.proofs.NumberTexts.{region_found, moment_found, no_region, no_moment}

@@ -5,7 +5,7 @@
 --   settings_after, world_after       the settings and the world after a write at an index
 --   request_steps                     how a request ends is how its event ends
 --   ended                             what holds of the fields holds of the world
-use Rattle.std.proofs.Common.{◌≡◌, ℕ, T, List, slice_get, get_or, set, Option, Some, None, Result, Ok, Err, Vec, Global, IsSome, IfSome, is_some, Bool, false, inl, inr, refl, sym, ap, subst, ◌∙◌}
+use Rattle.std.proofs.Common.{◌≡◌, ℕ, T, List, slice_get, get_or, set, Option, Some, None, Result, Ok, Err, Vec, Global, IsSome, IfSome, is_some, false, inl, inr, refl, sym, ap, subst, ◌∙◌}
 use Rattle.std.specs.List.{insert}
 use Rattle.std.specs.Ordering.{nat_cmp}
 use Rattle.std.specs.Cmp.{nat_cmp_total}

@@ -1,5 +1,5 @@
--- The state that a world stands for: open regions with all the facts that they made and took in, and
--- the bundles made (own). No fact is ever skipped in it.
+-- The state that a world stands for: open regions with all the facts that they made and took in,
+-- and the bundles made (own). No fact is ever skipped in it.
 --   Kept          the facts that a region made and took in, and its horizon
 --   Sent          the facts of a bundle, and its horizon
 --   State         settings, regions, bundles

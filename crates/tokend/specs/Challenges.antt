@@ -23,8 +23,8 @@ use Rattle.tokend.specs.Kinds.{lists, words_of}
 abbrev pub is_rule : Text → Bool
 is_rule word = bytes_eq word (codes "all") || bytes_eq word (codes "S256")
 
--- the rules: those that are listed, if each word is that of a rule; without the option, those of the
--- profile
+-- the rules: those that are listed, if each word is that of a rule; without the option, those of
+-- the profile
 abbrev pub rules_named : Option Text → Option ChallengeRules
 rules_named None = Some profile_rules
 rules_named (Some text) =

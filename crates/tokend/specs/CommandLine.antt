@@ -173,8 +173,8 @@ loopback_app = with_rules (new_app (codes "loopback")) setting_rules
 
 -- the options of a service: the region's number and the seed, which are required; the port, the
 -- socket and the inner one, the log, whether it gets bundles taken in, the old log, the moment of a
--- prune, what is done with bundles that are ahead, the numbers of the site and of all sites, who may
--- revoke tokens that are not seen, what is done if a consent is given again, the kinds of
+-- prune, what is done with bundles that are ahead, the numbers of the site and of all sites, who
+-- may revoke tokens that are not seen, what is done if a consent is given again, the kinds of
 -- redirection URIs, who sees refresh tokens, what is required of challenges, how many connections
 -- are open at once, how many are served, how long they are kept, and for how long a refresh may be
 -- repeated

@@ -9,8 +9,8 @@
 --   Seals          a server whose log has failed is sealed
 -- Throughout, `words` are the six random words of a request, `log_taken` is whether bundles taken
 -- in are logged, and `end` is how the request ended.
-use Rattle.std.specs.Prelude.{◌≡◌, ◌≢◌, ◌⊎◌, ⊤, ℕ, ◌+◌, ◌&&◌, Bool, true, false, List, [], length, find}
-use Rattle.std.specs.Prelude.{Option, Some, None, Result, Ok, Err, not, if◌then◌else◌}
+use Rattle.std.specs.Prelude.{◌≡◌, ◌≢◌, ◌⊎◌, ⊤, ℕ, ◌+◌, ◌&&◌, Bool, true, false, List, [], length}
+use Rattle.std.specs.Prelude.{find, Option, Some, None, Result, Ok, Err, not, if◌then◌else◌}
 use Rattle.tk_edge.specs.EdgeFields.{EdgeFields}
 use Rattle.tk_edge.specs.Fronts.{HasCome, IsPartial}
 use Rattle.tk_edge.specs.FrontServed.{IsServedBy}
@@ -111,8 +111,8 @@ MayGrant asking old end (Some it) =
     × (it ≡ granted_at refresh asking.now (next_in (place_in old.region)) asking.words)
     × (end ≡ Ok (Done code.Ok))
 
--- what is decided of some bytes that have come, at some moment, with its record; the refresh that is
--- kept of it
+-- what is decided of some bytes that have come, at some moment, with its record; the refresh that
+-- is kept of it
 abbrev pub IsDecisionOf : List ℕ → Bool → EdgeFields → Ending → List ℕ → EdgeFields → Type 0
 IsDecisionOf words log_taken old ending logged new =
     (now : ℕ) × (bytes : List ℕ) × (over : Bool) × (reply : List ℕ)
@@ -146,7 +146,8 @@ abbrev pub IsRepetition : Repetition → EdgeFields → Ending → List ℕ → 
 IsRepetition it old ending logged new =
     (new ≡ old) × (logged ≡ []) × (ending.end ≡ Ok (Done code.Ok)) × (ending.granted ≡ None)
     × ((bytes : List ℕ) × (over : Bool) × (taken : Taken) × (reply : List ℕ)
-    × IsRepeated ending.reach bytes over old it taken reply × (ending.stays ≡ true → taken.stays ≡ true))
+    × IsRepeated ending.reach bytes over old it taken reply
+    × (ending.stays ≡ true → taken.stays ≡ true))
 
 -- what is decided of some bytes, by what they repeat
 abbrev pub IsDecisionBy : Option Repetition → List ℕ → Bool → EdgeFields → Ending → List ℕ
@@ -268,8 +269,8 @@ pub record Waits (old : Server) (bytes : List ℕ) (over : Bool) (replied logged
   pub unreplied : replied ≡ []
   pub unlogged : logged ≡ []
 
--- A server gives the reply to a refresh again, if refreshes may be repeated and it keeps the one that
--- the request repeats. Its edge is unchanged, and nothing is logged.
+-- A server gives the reply to a refresh again, if refreshes may be repeated and it keeps the one
+-- that the request repeats. Its edge is unchanged, and nothing is logged.
 pub record Repeats (old : Server) (bytes : List ℕ) (over : Bool) (outcome : Outcome)
     (replied logged : List ℕ) (new : Server) : Type 0 where
   pub told : old.fault ≡ None

@@ -160,7 +160,8 @@ IsLog {L = L} holds opens (Some name) bytes =
     × (holds opened ≡ Some []) × (holds closed ≡ Some bytes)
 
 -- A service that has run has written a log: the bundles of its old log, the bytes of the log that
--- it opened, and what that log has logged of the connections, with the writer of lines about faults.
+-- it opened, and what that log has logged of the connections, with the writer of lines about
+-- faults.
 pub record HasWritten {L : Type 0} (kept : List ℕ → Option (List ℕ))
     (holds : L → Option (List ℕ)) (opens : List ℕ → L → Type 0) (service : Service)
     (start end : RegionFields) (faults : Writing) : Type 0 where
@@ -173,8 +174,8 @@ pub record HasWritten {L : Type 0} (kept : List ℕ → Option (List ℕ))
   pub told : (logged.faults ≡ faults.before) × (logged.told ≡ faults.after)
 
 -- A service that has run with a log, which gets what is taken in, has written such a log, if its
--- edge isn't sealed at the end and the bytes of logs are known. `kept`, `holds` and `opens` are those
--- of a service's run.
+-- edge isn't sealed at the end and the bytes of logs are known. `kept`, `holds` and `opens` are
+-- those of a service's run.
 abbrev pub ServiceLogs : {L : Type 0} → (List ℕ → Option (List ℕ)) → (L → Option (List ℕ))
     → (List ℕ → L → Type 0) → Type 0
 ServiceLogs kept holds opens =

@@ -82,8 +82,8 @@ BeginsLines words input fault old new =
     ⊎ BeginsToTell words input fault old new)
 
 -- The arguments request a service, and it has run: it was announced, and its connections were
--- served. `kept` has the bytes of the file of a name, if they are known, `holds` those of a log, and
--- `opens` says which log a name opens.
+-- served. `kept` has the bytes of the file of a name, if they are known, `holds` those of a log,
+-- and `opens` says which log a name opens.
 abbrev pub ServesAsked : {L : Type 0} → (List ℕ → Option (List ℕ)) → (L → Option (List ℕ))
     → (List ℕ → L → Type 0) → List Text → Change → Writing → Type 0
 ServesAsked kept holds opens words output faults =
@@ -112,8 +112,9 @@ FailsToRun words input fault =
     × IsScriptFault (by_loopback settings) input fault)
     ⊎ FailsToTell words fault)
 
--- Facts were told, or a service has run, each with what it wrote of faults. Or the lines of a script
--- were written, or the arguments request help or the version: then nothing is written of faults.
+-- Facts were told, or a service has run, each with what it wrote of faults. Or the lines of a
+-- script were written, or the arguments request help or the version: then nothing is written of
+-- faults.
 abbrev pub IsDone : {L : Type 0} → (List ℕ → Option (List ℕ)) → (L → Option (List ℕ))
     → (List ℕ → L → Type 0) → List Text → Option (List ℕ) → Change → Writing → Type 0
 IsDone kept holds opens words input output faults =

@@ -1,7 +1,7 @@
 -- Refreshes that were granted a short time ago, and are repeated (own).
 --   RepeatsFields   for how many seconds a refresh may be repeated, and those that were granted
 --   used_in         the dot of the refresh token that a request sends
---   is_recent       a refresh was granted at most so many seconds ago
+--   is_recent       a refresh was granted a few seconds before a moment
 --   is_repeat       a request repeats a refresh that was granted
 --   kept_with       one more that is kept
 --   forgotten       without the oldest ones that weren't granted lately
@@ -10,8 +10,8 @@
 --   Repetition      a refresh that was repeated, and when
 --   IsRepeated      a refresh is repeated, and gets its reply again
 --   MayRepeat       what was repeated had been granted lately
-use Rattle.std.specs.Prelude.{◌≡◌, ◌≢◌, ◌⊎◌, ⊤, ℕ, ◌-◌, Bool, true, ◌&&◌, nat_le, nat_lt, List, [], ◌∷◌, ◌++◌, length}
-use Rattle.std.specs.Prelude.{drop, codes, Option, Some, None, if◌then◌else◌}
+use Rattle.std.specs.Prelude.{◌≡◌, ◌≢◌, ◌⊎◌, ⊤, ℕ, ◌-◌, Bool, true, ◌&&◌, nat_le, nat_lt, List, []}
+use Rattle.std.specs.Prelude.{◌∷◌, ◌++◌, length, drop, codes, Option, Some, None, if◌then◌else◌}
 use Rattle.std.specs.Option.{option_and_then, option_map}
 use Rattle.tk_handle.specs.declared.dot.Dot.{Dot}
 use Rattle.tk_handle.specs.Handle.{handle_in}
@@ -40,7 +40,7 @@ used_in request =
     option_map (λ h. h.id.dot)
     (option_and_then handle_in (value_of (codes "refresh_token") request.params))
 
--- a refresh was granted at most so many seconds ago
+-- a refresh was granted at most these seconds before a moment
 abbrev pub is_recent : ℕ → ℕ → Refreshed → Bool
 is_recent seconds now it = nat_le it.at now && nat_le (now - it.at) seconds
 
@@ -67,7 +67,7 @@ forgotten seconds now [] = []
 forgotten seconds now (it ∷ kept) =
     if is_recent seconds now it then it ∷ kept else forgotten seconds now kept
 
--- a refresh came at the front of the bytes of a connection, and took so many of them
+-- a refresh came at the front of the bytes of a connection; `taken` says how many it took
 pub record IsRefresh (reach : Reach) (bytes : List ℕ) (over : Bool) (refresh : Refresh)
     (taken : Taken) : Type 0 where
   pub came : HasCome reach bytes over (Request refresh.request) taken
@@ -104,7 +104,7 @@ abbrev pub IsIn : Refreshed → List Refreshed → Type 0
 IsIn it [] = ⊥
 IsIn it (first ∷ kept) = (first ≡ it) ⊎ IsIn it kept
 
--- what was repeated, if anything, had been granted, at most so many seconds ago
+-- what was repeated, if anything, had been granted at most these seconds before
 abbrev pub MayRepeat : ℕ → List Refreshed → Option Repetition → Type 0
 MayRepeat seconds granted None = ⊤
 MayRepeat seconds granted (Some it) =

@@ -75,8 +75,8 @@ IsToldAs name (Err Memory) told = told ≡ Err fault.Memory
 IsToldAs name (Err Read) (Err f) = IsUnread name f
 IsToldAs name (Err Read) (Ok dropped) = ⊥
 
--- the file can't be opened and the region is unchanged, or the log in the file is loaded; `known` is
--- the file's bytes, if they are known
+-- the file can't be opened and the region is unchanged, or the log in the file is loaded; `known`
+-- is the file's bytes, if they are known
 abbrev pub LoadsFile : Option (List ℕ) → List ℕ → RegionFields → Result ℕ Fault → RegionFields
     → Type 0
 LoadsFile known name old told new = (IsToldAs name (Err Read) told × (new ≡ old))

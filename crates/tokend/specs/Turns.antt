@@ -89,8 +89,8 @@ all_granted granted [] = granted
 all_granted granted (ending ∷ endings) =
     all_granted (with_granted ending.granted granted) endings
 
--- each of these requests that repeats a refresh repeats one that was granted before, at most so many
--- seconds ago
+-- each of these requests that repeats a refresh repeats one that was granted before, at most so
+-- many seconds ago
 abbrev pub AreRepeats : ℕ → List Refreshed → Endings → Type 0
 AreRepeats seconds granted [] = ⊤
 AreRepeats seconds granted (ending ∷ endings) =

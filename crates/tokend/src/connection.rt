@@ -24,7 +24,7 @@ const MAX_WRITES: usize = 64;
 /// How long a client is waited for before it counts as idle, in milliseconds.
 const MIN_IDLE_MILLIS: u64 = 100;
 
-/// A connection is large if so many bytes have come that aren't decided.
+/// A connection is large from this number of bytes on that have come and aren't decided.
 const LARGE: usize = 65_536;
 
 /// How far reading or sending went.

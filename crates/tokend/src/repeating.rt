@@ -169,8 +169,8 @@ impl Server {
         replies: &mut Vec<u8>,
     ) -> Outcome
         requires { 0 < self.old.left }
-        ensures { spec.GivesAgain self.old taken reply.now result replies.old.items replies.new.items
-            self.new }
+        ensures { spec.GivesAgain self.old taken reply.now result
+            replies.old.items replies.new.items self.new }
     {
         let mark = replies.len();
         if replies.extend_from_slice(reply).is_err() {

@@ -114,7 +114,7 @@ fn is_repeat(
         && is_again(&refreshed.request, request)
 }
 
-// Returns whether a refresh was granted at most so many seconds ago.
+// Returns whether a refresh was granted at most `seconds` before a moment.
 fn is_recent(seconds: u64, now: Moment, refreshed: &Refreshed) -> bool
     ensures { result ≡ spec.is_recent seconds now refreshed.now }
 {

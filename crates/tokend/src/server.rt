@@ -33,8 +33,8 @@ pub(crate) struct Server {
     pub repeats: Repeats,
 }
 
-ghost use Rattle.std.specs.Prelude.{◌≡◌, ◌+◌, ◌<◌, ◌≤◌, ◌++◌, ℕ, List, Option, None, Ok, length};
-ghost use Rattle.std.specs.Prelude.{IfSome, true};
+ghost use Rattle.std.specs.Prelude.{◌≡◌, ◌+◌, ◌-◌, ◌<◌, ◌≤◌, ◌++◌, ℕ, List, Option, None, Ok};
+ghost use Rattle.std.specs.Prelude.{IfSome, length, true};
 ghost use Rattle.tk_turn.specs.Outcomes.{goes_on, taken_of};
 ghost use Rattle.tokend.specs.Decisions.{ended_if, outcome_by, reach_by};
 ghost use Rattle.tokend.specs.Decisions.{Decides, FrontDecides, IsReplied};
@@ -285,7 +285,7 @@ impl Server {
               log = log;
               faults = writer_of F.holds F.failed faults.new;
             }) }
-        ensures counted { 0 < self.old.left → self.new.left < self.old.left }
+        ensures counted { self.new.left ≡ self.old.left - 1 }
     {
         if self.left > 0 {
             draw(&mut self.words);
@@ -294,10 +294,11 @@ impl Server {
         }
     }
 
-    /// Counts so many connections that ended before their requests were whole.
+    /// Counts each of some connections that ended before its request was whole, if any is left to
+    /// be served.
     pub(crate) fn miss_each<F: Sink>(&mut self, count: u64, fault: EdgeFault, faults: &mut F)
         requires { IsUnread fault }
-        ensures { (log : Option (List ℕ)) → Goes
+        ensures goes { (log : Option (List ℕ)) → Goes
             (record {
               server = self.old;
               log = log;
@@ -308,18 +309,20 @@ impl Server {
               log = log;
               faults = writer_of F.holds F.failed faults.new;
             }) }
+        ensures counted { self.new.left ≡ self.old.left - count }
     {
         for _ in 0..count {
             self.miss(fault, faults);
         }
     }
 
-    /// Counts so many kept connections that ended behind their last replies, as far as that many
-    /// are left to be served. Nothing is told of them.
+    /// Counts each of some kept connections that ended behind its last reply, if any is left to be
+    /// served. No line is written of them.
     pub(crate) fn part_each(&mut self, count: u64)
-        ensures { (log : Option (List ℕ)) (faults : Writer) → Goes
+        ensures goes { (log : Option (List ℕ)) (faults : Writer) → Goes
             (record { server = self.old; log = log; faults = faults })
             (record { server = self.new; log = log; faults = faults }) }
+        ensures counted { self.new.left ≡ self.old.left - count }
     {
         for _ in 0..count {
             self.part();
@@ -328,9 +331,10 @@ impl Server {
 
     // Counts a kept connection that ended behind its last reply, if any is left to be served.
     fn part(&mut self)
-        ensures { (log : Option (List ℕ)) (faults : Writer) → Goes
+        ensures goes { (log : Option (List ℕ)) (faults : Writer) → Goes
             (record { server = self.old; log = log; faults = faults })
             (record { server = self.new; log = log; faults = faults }) }
+        ensures counted { self.new.left ≡ self.old.left - 1 }
     {
         if self.left == 0 {
             return;
@@ -356,7 +360,7 @@ impl Server {
     }
 }
 
-/// Writes the line of a lost reply so many times.
+/// Writes the line of a lost reply `count` times.
 pub(crate) fn tell_each_unsent<F: Sink>(count: u64, faults: &mut F)
     ensures { (server : AnyServer) (log : Option (List ℕ)) → Goes
         (record {

@@ -19,4 +19,4 @@ returns-clause-goes g c = goes_both _ _ _ c.loop.invariant.0 (c.miss.ensures.goe
 
 pub returns-clause-fewer : goal.returns-clause-fewer
 returns-clause-fewer g c =
-    omega (arith, c.miss.ensures.counted (omega (arith, c.loop.invariant.1, c.requires.some)), c.loop.invariant.0.counted)
+    omega (arith, c.miss.ensures.counted, c.loop.invariant.1, c.requires.some, c.loop.invariant.0.counted)

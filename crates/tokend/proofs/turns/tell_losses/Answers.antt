@@ -5,5 +5,5 @@ pub returns : goal.returns
 returns g c =
     let log = g.L.Sink.holds c.args.log.now.log in
     record {
-      goes = goes_both _ _ _ (goes_both _ _ _ (goes_both _ _ _ (c.miss_each.ensures log) (c.miss_each-2.ensures log)) (c.part_each.ensures log _)) (c.tell_each_unsent.ensures c.part_each.new.self log);
+      goes = goes_both _ _ _ (goes_both _ _ _ (goes_both _ _ _ (c.miss_each.ensures.goes log) (c.miss_each-2.ensures.goes log)) (c.part_each.ensures.goes log _)) (c.tell_each_unsent.ensures c.part_each.new.self log);
     }

@@ -1,7 +1,6 @@
-use Rattle.std.proofs.Common.{◌≡◌, ◌∷◌, ◌∙◌, ap, refl, None, Some, sym}
+use Rattle.std.proofs.Common.{◌∙◌, refl, None, Some}
 use Rattle.tk_store.specs.Walk.{above}
 use Rattle.tk_store.specs.SlotShown.{shown_slot}
-use Rattle.tk_store.specs.Slots.{Slots}
 use Rattle.tk_store.proofs.SlotJoiningLaws.{joins_start, joins_passes, joins_next, joins_end}
 use Rattle.tk_store.proofs.WalkLaws.{above_none}
 use Rattle.tk_store.proofs.store.FactStore.take_all.Goals as goal

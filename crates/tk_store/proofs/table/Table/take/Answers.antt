@@ -1,10 +1,9 @@
-use Rattle.std.proofs.Common.{◌≡◌, ap, sym, refl, ◌∙◌, subst, Option, Some, None, option_map}
+use Rattle.std.proofs.Common.{◌≡◌, ap, sym, refl, ◌∙◌, subst, Option, Some, option_map}
 use Rattle.std.specs.FinMap as sets
 use Rattle.tk_handle.specs.declared.dot.Dot.{Dot}
 use Rattle.tk_fact.specs.declared.body.Body.{Body}
-use Rattle.tk_store.specs.Slots.{Slot, Slots, Held, Skipped, held_slot, without_fact}
-use Rattle.tk_store.specs.Table.{Boxed, KeptMap, IsTable, slot_of, slots_of}
-use Rattle.tk_dots.specs.Marks.{value_of, without_value}
+use Rattle.tk_store.specs.Slots.{Slot, Held, held_slot, without_fact}
+use Rattle.tk_store.specs.Table.{KeptMap, IsTable, slot_of, slots_of}
 use Rattle.tk_store.proofs.TableLaws.{at, table_taken, taken_slots, some_held, value_some, taken_value, no_value_left, no_fact_left}
 use Rattle.tk_store.proofs.table.Table.take.Goals as goal
 

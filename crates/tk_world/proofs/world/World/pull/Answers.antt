@@ -1,7 +1,6 @@
 use Rattle.std.proofs.Common.{ap, sym, ◌∙◌, refl}
 use Rattle.std.specs.FinMap as map
 use Rattle.tk_world.specs.Acts.{PullsAt}
-use Rattle.tk_world.specs.Carrying.{in_place}
 use Rattle.tk_world.specs.declared.event.Event.TheVariants as event
 use Rattle.tk_world.proofs.PartLaws.{world, absent_at, held_at, pull_act, ended}
 use Rattle.tk_world.proofs.StepStands.{pull_standing}
