@@ -35,7 +35,34 @@ class Carries(CellsCase):
         self.assertEqual(self.done("carry", "--once"), "")
         self.assertEqual(self.done("check"), "")
 
+    def test_a_site_takes_facts_of_its_cell_and_of_the_directory_alone(self):
+        self.up("dir1", "a1", "a2", "b1")
+        for name, good, bad in (("dir1", (90,), (190, 390)), ("a1", (90, 290), (390, 400)),
+                                ("b1", (90,), (190, 290))):
+            for number in good:
+                self.assertEqual(self.server(name).push(clients(number, 1))[0], 200)
+            for number in bad:
+                status, said = self.server(name).push(clients(90, 2) + clients(number, 1))
+                self.assertEqual((status, b"out_of_range" in said), (409, True), (name, number))
+            self.assertEqual(self.regions(name), set(good))
+        self.assertEqual(self.done("check"), "")
+
+    def test_a_site_of_old_numbers_refuses_a_new_line_until_its_next_start(self):
+        self.write_table("dir1 directory 1-99 -", "a1 a 100-199 0-63")
+        self.up("dir1", "a1")
+        with open(self.path, "a", encoding="ascii") as file:
+            file.write("dir2 directory %d 500-599 -\n" % free_port())
+        self.up("dir2")
+        self.server("dir2").push(clients(590, 1))
+        status, _, errors = self.cells("carry", "--once")
+        self.assertIn("out_of_range", errors)
+        self.assertEqual(self.regions("a1"), set())
+        self.kill("a1")
+        self.up("a1")  # which takes all that the directory has
+        self.assertEqual(self.regions("a1"), {590})
+
     def test_foreign_facts_in_the_directory_go_no_further(self):
+        self.accepts = "1-65535"
         self.up("dir1", "a1", "b1")
         self.server("dir1").push(clients(90, 1) + clients(390, 1, 2))
         self.server("dir1").push(clients(395, 5))  # above a gap: in no vector
@@ -44,6 +71,7 @@ class Carries(CellsCase):
         self.assertEqual(self.regions("b1"), {90})
 
     def test_check_names_the_numbers_of_another_cell(self):
+        self.accepts = "1-65535"
         self.up("dir1", "a1", "a2", "b1")
         self.server("b1").push(clients(150, 1))
         self.server("dir1").push(clients(390, 1))

@@ -261,7 +261,10 @@ class Fronted(FrontedCase):
         self.give(user)
         access, _ = self.sign_in(user)
         self.done("move", "b1", "0-31")
-        self.server("b1").push(clients(150, 1))
+        self.kill("b1")
+        self.accepts = "1-65535"  # so that it takes a fact of another cell
+        self.up("b1")
+        self.assertEqual(self.server("b1").push(clients(150, 1))[0], 200)
         self.assertEqual(self.done("retire", "--now", "a"),
                          "a is out: stop a1 a2\n100-199: never again: facts at b1\n"
                          "200-299: may be used again\n")

@@ -40,8 +40,11 @@ class CellsCase(Case):
         with open(self.path, encoding="ascii") as file:
             return file.read()
 
+    accepts = None  # the numbers that sites take facts of, in place of those of the table
+
     def variables(self):
-        return {"CELLS": self.state, "TOKEND": command.GIVEN.program}
+        found = {"CELLS": self.state, "TOKEND": command.GIVEN.program}
+        return {**found, "TOKEND_ACCEPT": self.accepts} if self.accepts else found
 
     def cells(self, *words):
         """Status, standard output and standard error of a command."""

@@ -94,14 +94,15 @@ class Tables(unittest.TestCase):
 class Settings(CellsCase):
     def test_no_cell_is_a_peer_of_the_directory_or_of_another_cell(self):
         url = {name: self.server(name).url for name in ("dir1", "a1", "a2", "b1")}
-        for name, first, peers in (("dir1", 1, []), ("a1", 100, ["a2", "dir1"]),
-                                   ("a2", 200, ["a1", "dir1"]), ("b1", 300, ["dir1"])):
+        for name, first, peers, accepted in (
+                ("dir1", 1, [], "1-99"), ("a1", 100, ["a2", "dir1"], "1-299"),
+                ("a2", 200, ["a1", "dir1"], "1-299"), ("b1", 300, ["dir1"], "1-99,300-399")):
             said = dict(it.split("=", 1) for it in self.done("settings", name).splitlines())
             place = "TOKEND_PORT" if name == "dir1" else "TOKEND_SOCKET"
             self.assertEqual(said, {
                 place: url[name].rpartition(":")[2], "TOKEND_FIRST": str(first),
                 "TOKEND_LAST": str(first + 98 + (name != "dir1")),
-                "TOKEND_PEERS": " ".join(url[it] for it in peers)})
+                "TOKEND_ACCEPT": accepted, "TOKEND_PEERS": " ".join(url[it] for it in peers)})
 
     def test_a_written_table_keeps_its_comment(self):
         path = Path(self.path)

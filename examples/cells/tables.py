@@ -159,6 +159,17 @@ class Table:
         """The other sites of its cell."""
         return [it for it in self.sites if it.cell == site.cell and it != site]
 
+    def accepted(self, site: Site) -> str:
+        """The numbers whose facts a site takes, as TOKEND_ACCEPT has them."""
+        found: list[range] = []
+        good = (it.numbers for it in self.sites if it.is_directory or it.cell == site.cell)
+        for it in sorted(good, key=lambda it: it[0]):
+            if found and found[-1].stop == it.start:
+                found[-1] = range(found[-1].start, it.stop)
+            else:
+                found.append(it)
+        return ",".join("%d-%d" % (it[0], it[-1]) for it in found)
+
     def home(self, slot: int) -> Site:
         return next(it for it in self.sites if slot in it.slots)
 
