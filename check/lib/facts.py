@@ -59,6 +59,15 @@ def retirement(at, of):
     return dot(at) + b"\2" + dot(of)
 
 
+def consent(at, of, subject, scope=b"read"):
+    """A consent of a subject to the client at a dot."""
+    return dot(at) + b"\3" + dot(of) + text(subject) + text(scope)
+
+
+def withdrawal(at, of):
+    return dot(at) + b"\4" + dot(of)
+
+
 def mark(region, serial):
     return dot((region, serial))
 

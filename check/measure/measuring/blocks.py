@@ -156,6 +156,14 @@ def signouts(parts):
     return it, text_of(["codes of the subject", *(one + ", ms" for one in pushes)], rows)
 
 
+def consents(parts):
+    it, which, rows = part(parts, "consents"), ("withdrawn", "for another scope"), []
+    for size in it.numbers("consents (.*): withdrawn in µs"):
+        name = "consents %s: " % format(size, ",")
+        rows.append([format(size, ",")] + [it.cell("%s%s in µs" % (name, one)) for one in which])
+    return it, text_of(["consents before", *(one + ", µs" for one in which)], rows)
+
+
 def push(parts):
     """A line for each size of a bundle and each server, the C servers among them."""
     it, rows = part(parts, "push"), []
@@ -297,7 +305,7 @@ ALL = {
     "speed": speed, "logged": logged, "calls": calls, "profile": profile, "proxied": proxied,
     "clients": clients, "turns": turns, "growth": growth, "generations": generations,
     "memory": memory, "start": start, "prunes": plain("prunes", ["a prune", ""]), "uses": uses,
-    "signouts": signouts, "push": push,
+    "signouts": signouts, "consents": consents, "push": push,
     "carried": plain("carried", ["`carry` to an empty server", ""]), "revoked": revoked,
     "fanned": fanned, "scaled": scaled, "spread": spread, "cells": cells, "peers": peers,
     "beside": beside, "ledger": ledger, "pruned": pruned,
