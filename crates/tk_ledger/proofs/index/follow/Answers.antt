@@ -1,7 +1,6 @@
 use Rattle.std.proofs.Common.{ap, ◌∙◌, Some}
 use Rattle.tk_store.specs.StoreFields.{held_facts}
 use Rattle.tk_ledger.specs.declared.change.Change.{Change}
-use Rattle.tk_ledger.specs.declared.change.Change.TheVariants as change
 use Rattle.tk_ledger.proofs.ChangeLaws.{on_ok, on_ok2}
 use Rattle.tk_ledger.proofs.IndexLaws.{index_add, index_retire, index_give, index_withdraw}
 use Rattle.tk_ledger.proofs.index.follow.Goals as goal
