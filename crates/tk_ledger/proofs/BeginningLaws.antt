@@ -1,5 +1,5 @@
 -- Empty tables are those of no fact. Key result: empty_indexed.
-use Rattle.std.proofs.Common.{◌≡◌, ℕ, Bool, false, List, [], Option, Some, is_some, sym, ap, ◌∙◌}
+use Rattle.std.proofs.Common.{◌≡◌, ℕ, Bool, false, ◌&&◌, not, List, [], Option, Some, is_some, sym, ap, ◌∙◌}
 use Rattle.std.proofs.lemmas.Bool.{true≢false, false_from_ne_true}
 use Rattle.std.specs.Option.{option_and_then}
 use Rattle.std.specs.List.{list_any}
@@ -13,7 +13,7 @@ use Rattle.tk_fact.specs.declared.body.Body.{Body}
 use Rattle.tk_store.specs.FactSet.{any_fact}
 use Rattle.tk_store.proofs.PutLaws.{none_is_not_some}
 use Rattle.tk_store.proofs.EntryLaws.{Passing, any_fact-held}
-use Rattle.tk_ledger.specs.Clients.{added_in, given_in, retires, withdraws}
+use Rattle.tk_ledger.specs.Clients.{added_in, given_in, retires, withdraws, is_withdrawn}
 use Rattle.tk_ledger.specs.SignOuts.{sign_out_in}
 use Rattle.tk_ledger.specs.Tokens.{link_of, issued_in, revokes}
 use Rattle.tk_ledger.specs.Index.{row_added, row_retired, consent_cmp, consent_key, revocation_cmp, revocation_key, is_from, code_cmp, code_key, is_to, out_cmp, out_key, is_left_by, reuse_cmp, reuse_key, is_reuse_of, IsIndexed}
@@ -42,7 +42,7 @@ empty_indexed x te ce we re co ou se le = record {
     retired = λ q. ap (λ (es : List (Dot × ClientRow)). row_retired (lookup (is_at (dot_cmp q)) es)) te ∙ sym (any_fact-empty (retires q));
   };
   consents_are = record {
-    listed = λ c s q. none_listed c s q ∙ sym (ap (λ o. is_from c s (option_and_then given_in o)) (map.get-empty dot_cmp q));
+    listed = λ c s q. none_listed c s q ∙ sym (ap (λ o. is_from c s (option_and_then given_in o) && not (is_withdrawn map.empty q)) (map.get-empty dot_cmp q));
     ranged = λ c s q h. absurd (true≢false (sym h ∙ none_listed c s q));
   };
   withdrawn_are = λ q. ap (λ (es : List Dot). list_any (is_at (dot_cmp q)) es) we ∙ sym (any_fact-empty (withdraws q));

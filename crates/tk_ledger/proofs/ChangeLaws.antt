@@ -4,7 +4,7 @@
 --   clients_by .. reuses_by, same_consents .. same_reuses    the tables after each kind of change
 --   revoke_row, code_row, code_dropped, out_row, reuse_row   a table after one more key
 --   stored, stored_change, stored_back                       a fact at a free dot
-use Rattle.std.proofs.Common.{◌≡◌, ℕ, ◌≤◌, Bool, true, false, ◌&&◌, ◌||◌, ◌==◌, cond, List, Option, Some, None, Result, Ok, Err, OnOk, refl, sym, ap, subst, ◌∙◌}
+use Rattle.std.proofs.Common.{◌≡◌, ℕ, ◌≤◌, Bool, true, false, ◌&&◌, ◌||◌, not, ◌==◌, cond, List, Option, Some, None, Result, Ok, Err, OnOk, refl, sym, ap, subst, ◌∙◌}
 use Rattle.std.specs.Option.{option_and_then, option_map}
 use Rattle.std.specs.Prelude.{nat_le}
 use Rattle.std.specs.Ordering.{eq_by_cmp}
@@ -31,10 +31,11 @@ use Rattle.tk_store.specs.declared.store.Added.TheVariants.{New, Held}
 use Rattle.tk_store.proofs.PutLaws.{some_injective, none_is_not_some, get_here, taken_back}
 use Rattle.tk_store.proofs.OneMoreLaws.{OneMore, more_remove}
 use Rattle.tk_ledger.specs.Bodies.{is_same_dot, is_same_token}
+use Rattle.tk_ledger.specs.Clients.{is_withdrawn}
 use Rattle.tk_ledger.specs.SignOuts.{IsFirstUnreached, sign_out_at}
 use Rattle.tk_ledger.specs.Tokens.{link_of, links_in}
 use Rattle.tk_ledger.specs.Changes.{change_in, adds, retires_of, gives_to, withdraws_of, revokes_of, reuses_of}
-use Rattle.tk_ledger.specs.Index.{row_at, row_added, row_retired, is_at, IsClients, consent_cmp, consent_key, is_listed, IsConsents, IsWithdrawals, revocation_cmp, revocation_key, is_listed_revoked, IsRevocations, code_cmp, code_key, codes_started, dots_of, is_listed_code, IsCodes, out_cmp, out_key, left_after, is_listed_out, IsOuts, reuse_cmp, reuse_key, is_listed_reuse, IsReuses, IsTied, Wakes}
+use Rattle.tk_ledger.specs.Index.{row_at, row_added, row_retired, is_at, IsClients, is_listed, IsConsents, IsWithdrawals, revocation_cmp, revocation_key, is_listed_revoked, IsRevocations, code_cmp, code_key, codes_started, dots_of, is_listed_code, IsCodes, out_cmp, out_key, left_after, is_listed_out, IsOuts, reuse_cmp, reuse_key, is_listed_reuse, IsReuses, IsTied, Wakes}
 use Rattle.tk_ledger.specs.declared.change.Change.{Change}
 use Rattle.tk_ledger.specs.declared.change.Change.TheVariants as change
 use Rattle.tk_ledger.specs.declared.client_rows.ClientRow.{ClientRow}
@@ -43,9 +44,9 @@ use Rattle.tk_ledger.specs.declared.reuses.ReuseKey.{ReuseKey}
 use Rattle.tk_ledger.specs.declared.revocations.Revocation.{Revocation}
 use Rattle.tk_ledger.specs.declared.subject_keys.CodeKey.{CodeKey}
 use Rattle.tk_ledger.specs.declared.subject_keys.OutKey.{OutKey}
-use Rattle.tk_ledger.proofs.KeyLaws.{at_is_same, consent_tied, revocation_tied}
+use Rattle.tk_ledger.proofs.KeyLaws.{at_is_same, revocation_tied}
 use Rattle.tk_ledger.proofs.ReuseLaws.{reuse_tied, RangedReuses, reuses_on, reuses_ranged, reuses_alike}
-use Rattle.tk_ledger.proofs.TableLaws.{clients_on, consents_on, Ranged, withdrawals_on, revocations_on}
+use Rattle.tk_ledger.proofs.TableLaws.{and_yes, clients_on, consents_on, Ranged, withdrawals_on, revocations_on}
 use Rattle.tk_ledger.proofs.SubjectKeyLaws.{code_tied, out_tied}
 use Rattle.tk_ledger.proofs.SubjectTableLaws.{issuing, issues_to, issues_none, signs_out_by, signs_none, unsigned_early, IsEarly, RangedCodes, RangedOuts, codes_on, codes_ranged, codes_alike, codes_back, outs_on, outs_ranged, outs_alike}
 use Rattle.tk_ledger.proofs.TokenLaws.{from_some}
@@ -148,15 +149,20 @@ clients_by G d y t u h i a r =
     (λ q. r q ∙ ap (λ z. retires_of q z || row_retired (row_at t q)) (sym x.is))
 
 pub consents_by : (G : FactSet) (d : Dot) (y : Change) (t u : BTreeSet ConsentKey) → option_map change_in (map.get G d) ≡ Some y → IsConsents (map.remove G d) t → Ranged u
-    → ((client : Dot) (subject : List ℕ) (q : Dot) → is_listed u client subject q ≡ ((gives_to client subject y && is_at d q) || is_listed t client subject q))
+    → ((client : Dot) (subject : List ℕ) (q : Dot) → is_listed u client subject q ≡ ((((gives_to client subject y && is_at d q) && not (is_withdrawn (map.remove G d) q)) || is_listed t client subject q) && not (withdraws_of q y)))
     → IsConsents G u
 consents_by G d y t u h i ranged l =
     let x = changed G d y h in
     consents_on (map.remove G d) G d x.body t u x.more i ranged
-    (λ client subject q. l client subject q ∙ ap (λ z. (gives_to client subject z && is_at d q) || is_listed t client subject q) (sym x.is))
+    (λ client subject q. l client subject q ∙ ap (λ z. (((gives_to client subject z && is_at d q) && not (is_withdrawn (map.remove G d) q)) || is_listed t client subject q) && not (withdraws_of q z)) (sym x.is))
 
-pub same_consents : (G : FactSet) (d : Dot) (y : Change) (t : BTreeSet ConsentKey) → option_map change_in (map.get G d) ≡ Some y → ((client : Dot) (subject : List ℕ) → gives_to client subject y ≡ false) → IsConsents (map.remove G d) t → IsConsents G t
-same_consents G d y t h none i = consents_by G d y t t h i i.ranged (λ client subject q. sym (ap (λ b. (b && is_at d q) || is_listed t client subject q) (none client subject)))
+-- a change that gives and withdraws no consent leaves the consents
+pub same_consents : (G : FactSet) (d : Dot) (y : Change) (t : BTreeSet ConsentKey) → option_map change_in (map.get G d) ≡ Some y → ((client : Dot) (subject : List ℕ) → gives_to client subject y ≡ false) → ((q : Dot) → withdraws_of q y ≡ false) → IsConsents (map.remove G d) t → IsConsents G t
+same_consents G d y t h none kept i = consents_by G d y t t h i i.ranged
+    (λ client subject q. still (gives_to client subject y) (is_at d q) (is_withdrawn (map.remove G d) q) (is_listed t client subject q) (withdraws_of q y) (none client subject) (kept q))
+  where
+    still : (g a w x v : Bool) → g ≡ false → v ≡ false → x ≡ ((((g && a) && not w) || x) && not v)
+    still g a w x v h k = rw (h, k) (sym (and_yes x))
 
 pub withdrawals_by : (G : FactSet) (d : Dot) (y : Change) (t u : BTreeSet Dot) → option_map change_in (map.get G d) ≡ Some y → IsWithdrawals (map.remove G d) t
     → ((q : Dot) → contains dot_cmp u q ≡ (withdraws_of q y || contains dot_cmp t q))
@@ -167,19 +173,6 @@ pub revocations_by : (G : FactSet) (d : Dot) (y : Change) (t u : BTreeSet Revoca
     → ((k : TokenId) (digest : List ℕ) (client : Dot) → is_listed_revoked u k digest client ≡ (revokes_of k digest client y || is_listed_revoked t k digest client))
     → IsRevocations G u
 revocations_by G d y t u h i r = let x = changed G d y h in revocations_on (map.remove G d) G d x.body t u x.more i (λ k g c. r k g c ∙ ap (λ z. revokes_of k g c z || is_listed_revoked t k g c) (sym x.is))
-
--- the table with the key of a consent
-pub give_row : (client : Dot) (subject : List ℕ) (d : Dot) (t u : BTreeSet ConsentKey)
-    → ((k : ConsentKey) → contains consent_cmp u k ≡ cond (eq_by_cmp consent_cmp (consent_key client subject d) k) true (contains consent_cmp t k))
-    → (e : Dot) (h : List ℕ) (q : Dot) → is_listed u e h q ≡ ((gives_to e h (change.Give client subject) && is_same_dot d q) || is_listed t e h q)
-give_row client subject d t u r e h q =
-    r (consent_key e h q)
-    ∙ or_cond (eq_by_cmp consent_cmp (consent_key client subject d) (consent_key e h q)) (is_listed t e h q)
-    ∙ ap (λ x. x || is_listed t e h q) (consent_tied client e subject h d q ∙ regroup (is_same_dot client e) (bytes_eq subject h) (is_same_dot d q))
-  where
-    regroup : (a b c : Bool) → (a && (b && c)) ≡ ((a && b) && c)
-    regroup true b c = refl
-    regroup false b c = refl
 
 -- the table with the key of a revocation
 pub revoke_row : (G : FactSet) (d : Dot) (f : revoked.TokenRevoked) (t u : BTreeSet Revocation) → option_map change_in (map.get G d) ≡ Some (change.Revoke f) → IsRevocations (map.remove G d) t

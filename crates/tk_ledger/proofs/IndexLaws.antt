@@ -1,5 +1,6 @@
--- All tables, and the forest, for each kind of change. Key results: index_add .. index_out.
-use Rattle.std.proofs.Common.{◌≡◌, ℕ, ◌&&◌, ◌||◌, cond, true, List, Some, refl, sym, ap, ◌∙◌}
+-- All tables, and the forest, for each kind of change. Key results: index_add .. index_out, and
+-- index_back if memory ran out.
+use Rattle.std.proofs.Common.{◌≡◌, ℕ, ◌&&◌, ◌||◌, not, cond, true, List, Some, refl, ap, ◌∙◌}
 use Rattle.std.specs.Option.{option_map}
 use Rattle.std.specs.Ordering.{eq_by_cmp}
 use Rattle.std.specs.BTreeMap.{BTreeMap}
@@ -12,8 +13,8 @@ use Rattle.tk_family.specs.declared.link.Link.{Link}
 use Rattle.tk_family.specs.ForestFacts.{ForestFacts}
 use Rattle.tk_fact.specs.declared.token_revoked.TokenRevoked as revoked
 use Rattle.tk_store.specs.FactSet.{FactSet}
-use Rattle.tk_ledger.specs.Changes.{change_in, gives_to}
-use Rattle.tk_ledger.specs.Index.{row_at, row_added, row_retired, is_at, consent_cmp, consent_key, is_listed, IsRevocations, IsCodes, IsOuts, IsReuses, IsTied, IsIndexed}
+use Rattle.tk_ledger.specs.Changes.{change_in}
+use Rattle.tk_ledger.specs.Index.{row_at, row_added, row_retired, is_at, consent_cmp, consent_key, is_key_at, IsRevocations, IsCodes, IsOuts, IsReuses, IsTied, IsIndexed}
 use Rattle.tk_ledger.specs.declared.change.Change.TheVariants as change
 use Rattle.tk_ledger.specs.declared.client_rows.ClientRow.{ClientRow}
 use Rattle.tk_ledger.specs.declared.consent_keys.ConsentKey.{ConsentKey}
@@ -22,9 +23,9 @@ use Rattle.tk_ledger.specs.declared.reuses.ReuseKey.{ReuseKey}
 use Rattle.tk_ledger.specs.declared.revocations.Revocation.{Revocation}
 use Rattle.tk_ledger.specs.declared.subject_keys.CodeKey.{CodeKey}
 use Rattle.tk_ledger.specs.declared.subject_keys.OutKey.{OutKey}
-use Rattle.tk_ledger.proofs.ChangeLaws.{or_cond, clients_by, consents_by, same_consents, withdrawals_by, revocations_by, same_revocations, same_codes, same_outs, same_reuses, give_row, quiet_ties}
+use Rattle.tk_ledger.proofs.ChangeLaws.{or_cond, clients_by, same_consents, withdrawals_by, revocations_by, same_revocations, same_codes, same_outs, same_reuses, quiet_ties}
+use Rattle.tk_ledger.proofs.ConsentTableLaws.{give_row, withdraw_row}
 use Rattle.tk_ledger.proofs.KeyLaws.{at_is_same}
-use Rattle.tk_ledger.proofs.TableLaws.{ranged_on}
 
 pub index_add : (G : FactSet) (d : Dot) (x : Index) (u : BTreeMap Dot ClientRow)
     → option_map change_in (map.get G d) ≡ Some change.Add → IsIndexed (map.remove G d) x
@@ -32,7 +33,7 @@ pub index_add : (G : FactSet) (d : Dot) (x : Index) (u : BTreeMap Dot ClientRow)
     → IsIndexed G (record { clients = u; consents = x.consents; withdrawn = x.withdrawn; revocations = x.revocations; codes = x.codes; outs = x.outs; reuses = x.reuses; forest = x.forest })
 index_add G d x u h i a e = record {
   clients_are = clients_by G d change.Add x.clients u h i.clients_are a e;
-  consents_are = same_consents G d change.Add x.consents h (λ _ _. refl) i.consents_are;
+  consents_are = same_consents G d change.Add x.consents h (λ _ _. refl) (λ _. refl) i.consents_are;
   withdrawn_are = withdrawals_by G d change.Add x.withdrawn x.withdrawn h i.withdrawn_are (λ q. refl);
   revocations_are = revocations_by G d change.Add x.revocations x.revocations h i.revocations_are (λ k g c. refl);
   codes_are = same_codes G d change.Add x.codes h refl i.codes_are;
@@ -47,7 +48,7 @@ pub index_retire : (G : FactSet) (d c : Dot) (x : Index) (u : BTreeMap Dot Clien
     → IsIndexed G (record { clients = u; consents = x.consents; withdrawn = x.withdrawn; revocations = x.revocations; codes = x.codes; outs = x.outs; reuses = x.reuses; forest = x.forest })
 index_retire G d c x u h i e a = record {
   clients_are = clients_by G d (change.Retire c) x.clients u h i.clients_are a (λ q. e q ∙ ap (λ z. z || row_retired (row_at x.clients q)) (at_is_same c q));
-  consents_are = same_consents G d (change.Retire c) x.consents h (λ _ _. refl) i.consents_are;
+  consents_are = same_consents G d (change.Retire c) x.consents h (λ _ _. refl) (λ _. refl) i.consents_are;
   withdrawn_are = withdrawals_by G d (change.Retire c) x.withdrawn x.withdrawn h i.withdrawn_are (λ q. refl);
   revocations_are = revocations_by G d (change.Retire c) x.revocations x.revocations h i.revocations_are (λ k g z. refl);
   codes_are = same_codes G d (change.Retire c) x.codes h refl i.codes_are;
@@ -59,32 +60,30 @@ index_retire G d c x u h i e a = record {
 pub index_give : (G : FactSet) (d client : Dot) (subject : List ℕ) (x : Index) (u : BTreeSet ConsentKey)
     → option_map change_in (map.get G d) ≡ Some (change.Give client subject) → IsIndexed (map.remove G d) x
     → IsDot d
-    → ((k : ConsentKey) → contains consent_cmp u k ≡ cond (eq_by_cmp consent_cmp (consent_key client subject d) k) true (contains consent_cmp x.consents k))
+    → ((k : ConsentKey) → contains consent_cmp u k ≡ ((eq_by_cmp consent_cmp (consent_key client subject d) k && not (contains dot_cmp x.withdrawn d)) || contains consent_cmp x.consents k))
     → IsIndexed G (record { clients = x.clients; consents = u; withdrawn = x.withdrawn; revocations = x.revocations; codes = x.codes; outs = x.outs; reuses = x.reuses; forest = x.forest })
 index_give G d client subject x u h i here r =
     let y = change.Give client subject in
-    let rows = give_row client subject d x.consents u r in
     record {
       clients_are = clients_by G d y x.clients x.clients h i.clients_are (λ q. refl) (λ q. refl);
-      consents_are = consents_by G d y x.consents u h i.consents_are
-          (ranged_on x.consents u d (λ e s. gives_to e s y) here i.consents_are.ranged rows)
-          (λ e s q. rows e s q ∙ ap (λ b. (gives_to e s y && b) || is_listed x.consents e s q) (sym (at_is_same d q)));
+      consents_are = give_row G d client subject x.withdrawn x.consents u h i.withdrawn_are i.consents_are here r;
       withdrawn_are = withdrawals_by G d y x.withdrawn x.withdrawn h i.withdrawn_are (λ q. refl);
-      revocations_are = revocations_by G d y x.revocations x.revocations h i.revocations_are (λ k g z. refl);
+      revocations_are = revocations_by G d y x.revocations x.revocations h i.revocations_are (λ k g c. refl);
       codes_are = same_codes G d y x.codes h refl i.codes_are;
       outs_are = same_outs G d y x.outs h refl i.outs_are;
       reuses_are = same_reuses G d y x.reuses h (λ _. refl) i.reuses_are;
       tied = quiet_ties G d y x.forest h refl refl refl (λ k. refl) i.tied;
     }
 
-pub index_withdraw : (G : FactSet) (d c : Dot) (x : Index) (u : BTreeSet Dot)
+pub index_withdraw : (G : FactSet) (d c : Dot) (x : Index) (u : BTreeSet ConsentKey) (v : BTreeSet Dot)
     → option_map change_in (map.get G d) ≡ Some (change.Withdraw c) → IsIndexed (map.remove G d) x
-    → ((q : Dot) → contains dot_cmp u q ≡ cond (is_at c q) true (contains dot_cmp x.withdrawn q))
-    → IsIndexed G (record { clients = x.clients; consents = x.consents; withdrawn = u; revocations = x.revocations; codes = x.codes; outs = x.outs; reuses = x.reuses; forest = x.forest })
-index_withdraw G d c x u h i e = record {
+    → ((q : Dot) → contains dot_cmp v q ≡ cond (is_at c q) true (contains dot_cmp x.withdrawn q))
+    → ((k : ConsentKey) → contains consent_cmp u k ≡ (contains consent_cmp x.consents k && not (is_key_at G c k)))
+    → IsIndexed G (record { clients = x.clients; consents = u; withdrawn = v; revocations = x.revocations; codes = x.codes; outs = x.outs; reuses = x.reuses; forest = x.forest })
+index_withdraw G d c x u v h i e r = record {
   clients_are = clients_by G d (change.Withdraw c) x.clients x.clients h i.clients_are (λ q. refl) (λ q. refl);
-  consents_are = same_consents G d (change.Withdraw c) x.consents h (λ _ _. refl) i.consents_are;
-  withdrawn_are = withdrawals_by G d (change.Withdraw c) x.withdrawn u h i.withdrawn_are (λ q. e q ∙ or_cond (is_at c q) (contains dot_cmp x.withdrawn q) ∙ ap (λ z. z || contains dot_cmp x.withdrawn q) (at_is_same c q));
+  consents_are = withdraw_row G d c x.consents u h i.consents_are r;
+  withdrawn_are = withdrawals_by G d (change.Withdraw c) x.withdrawn v h i.withdrawn_are (λ q. e q ∙ or_cond (is_at c q) (contains dot_cmp x.withdrawn q) ∙ ap (λ z. z || contains dot_cmp x.withdrawn q) (at_is_same c q));
   revocations_are = revocations_by G d (change.Withdraw c) x.revocations x.revocations h i.revocations_are (λ k g z. refl);
   codes_are = same_codes G d (change.Withdraw c) x.codes h refl i.codes_are;
   outs_are = same_outs G d (change.Withdraw c) x.outs h refl i.outs_are;
@@ -97,7 +96,7 @@ pub index_put : (G : FactSet) (d : Dot) (l : Link) (x : Index) (z : ForestFacts)
     → IsIndexed G (record { clients = x.clients; consents = x.consents; withdrawn = x.withdrawn; revocations = x.revocations; codes = x.codes; outs = x.outs; reuses = x.reuses; forest = z })
 index_put G d l x z h i tied = record {
   clients_are = clients_by G d (change.Put l) x.clients x.clients h i.clients_are (λ q. refl) (λ q. refl);
-  consents_are = same_consents G d (change.Put l) x.consents h (λ _ _. refl) i.consents_are;
+  consents_are = same_consents G d (change.Put l) x.consents h (λ _ _. refl) (λ _. refl) i.consents_are;
   withdrawn_are = withdrawals_by G d (change.Put l) x.withdrawn x.withdrawn h i.withdrawn_are (λ q. refl);
   revocations_are = same_revocations G d (change.Put l) x.revocations h (λ _ _ _. refl) i.revocations_are;
   codes_are = same_codes G d (change.Put l) x.codes h refl i.codes_are;
@@ -111,7 +110,7 @@ pub index_revoke : (G : FactSet) (d : Dot) (f : revoked.TokenRevoked) (x : Index
     → IsIndexed G (record { clients = x.clients; consents = x.consents; withdrawn = x.withdrawn; revocations = s; codes = x.codes; outs = x.outs; reuses = x.reuses; forest = z })
 index_revoke G d f x s z h i rows tied = record {
   clients_are = clients_by G d (change.Revoke f) x.clients x.clients h i.clients_are (λ q. refl) (λ q. refl);
-  consents_are = same_consents G d (change.Revoke f) x.consents h (λ _ _. refl) i.consents_are;
+  consents_are = same_consents G d (change.Revoke f) x.consents h (λ _ _. refl) (λ _. refl) i.consents_are;
   withdrawn_are = withdrawals_by G d (change.Revoke f) x.withdrawn x.withdrawn h i.withdrawn_are (λ q. refl);
   revocations_are = rows;
   codes_are = same_codes G d (change.Revoke f) x.codes h refl i.codes_are;
@@ -125,7 +124,7 @@ pub index_mark : (G : FactSet) (d : Dot) (j : TokenId) (x : Index) (s : BTreeSet
     → IsIndexed G (record { clients = x.clients; consents = x.consents; withdrawn = x.withdrawn; revocations = x.revocations; codes = x.codes; outs = x.outs; reuses = s; forest = z })
 index_mark G d j x s z h i rows tied = record {
   clients_are = clients_by G d (change.Mark j) x.clients x.clients h i.clients_are (λ q. refl) (λ q. refl);
-  consents_are = same_consents G d (change.Mark j) x.consents h (λ _ _. refl) i.consents_are;
+  consents_are = same_consents G d (change.Mark j) x.consents h (λ _ _. refl) (λ _. refl) i.consents_are;
   withdrawn_are = withdrawals_by G d (change.Mark j) x.withdrawn x.withdrawn h i.withdrawn_are (λ q. refl);
   revocations_are = revocations_by G d (change.Mark j) x.revocations x.revocations h i.revocations_are (λ k g c. refl);
   codes_are = same_codes G d (change.Mark j) x.codes h refl i.codes_are;
@@ -139,7 +138,7 @@ pub index_issue : (G : FactSet) (d : Dot) (subject : List ℕ) (start : ℕ) (x 
     → IsIndexed G (record { clients = x.clients; consents = x.consents; withdrawn = x.withdrawn; revocations = x.revocations; codes = s; outs = x.outs; reuses = x.reuses; forest = z })
 index_issue G d subject start x s z h i rows tied = record {
   clients_are = clients_by G d (change.Issue subject start) x.clients x.clients h i.clients_are (λ q. refl) (λ q. refl);
-  consents_are = same_consents G d (change.Issue subject start) x.consents h (λ _ _. refl) i.consents_are;
+  consents_are = same_consents G d (change.Issue subject start) x.consents h (λ _ _. refl) (λ _. refl) i.consents_are;
   withdrawn_are = withdrawals_by G d (change.Issue subject start) x.withdrawn x.withdrawn h i.withdrawn_are (λ q. refl);
   revocations_are = same_revocations G d (change.Issue subject start) x.revocations h (λ _ _ _. refl) i.revocations_are;
   codes_are = rows;
@@ -153,11 +152,26 @@ pub index_out : (G : FactSet) (d : Dot) (subject : List ℕ) (moment : ℕ) (x :
     → IsIndexed G (record { clients = x.clients; consents = x.consents; withdrawn = x.withdrawn; revocations = x.revocations; codes = x.codes; outs = s; reuses = x.reuses; forest = z })
 index_out G d subject moment x s z h i rows tied = record {
   clients_are = clients_by G d (change.SignOut subject moment) x.clients x.clients h i.clients_are (λ q. refl) (λ q. refl);
-  consents_are = same_consents G d (change.SignOut subject moment) x.consents h (λ _ _. refl) i.consents_are;
+  consents_are = same_consents G d (change.SignOut subject moment) x.consents h (λ _ _. refl) (λ _. refl) i.consents_are;
   withdrawn_are = withdrawals_by G d (change.SignOut subject moment) x.withdrawn x.withdrawn h i.withdrawn_are (λ q. refl);
   revocations_are = same_revocations G d (change.SignOut subject moment) x.revocations h (λ _ _ _. refl) i.revocations_are;
   codes_are = same_codes G d (change.SignOut subject moment) x.codes h refl i.codes_are;
   outs_are = rows;
   reuses_are = same_reuses G d (change.SignOut subject moment) x.reuses h (λ _. refl) i.reuses_are;
+  tied = tied;
+}
+
+-- tables of the same set in place of others
+pub index_back : (F : FactSet) (x : Index) (codes : BTreeSet CodeKey) (outs : BTreeSet OutKey) (reuses : BTreeSet ReuseKey) (z : ForestFacts)
+    → IsIndexed F x → IsCodes F codes → IsOuts F outs → IsReuses F reuses → IsTied F z
+    → IsIndexed F (record { clients = x.clients; consents = x.consents; withdrawn = x.withdrawn; revocations = x.revocations; codes = codes; outs = outs; reuses = reuses; forest = z })
+index_back F x codes outs reuses z i c o r tied = record {
+  clients_are = i.clients_are;
+  consents_are = i.consents_are;
+  withdrawn_are = i.withdrawn_are;
+  revocations_are = i.revocations_are;
+  codes_are = c;
+  outs_are = o;
+  reuses_are = r;
   tied = tied;
 }

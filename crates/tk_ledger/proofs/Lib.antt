@@ -2,6 +2,7 @@ pub mod BeginningLaws
 pub mod ChangeLaws
 pub mod ClientLaws
 pub mod ConsentLaws
+pub mod ConsentTableLaws
 pub mod EndingLaws
 pub mod FamilyEnds
 pub mod ForestLaws

@@ -3,7 +3,7 @@
 --   codes_less, reuses_less            the tables of codes and reuses without the key of the fact
 --   untied_link, untied_reuse          the forest after the loss of a link, and of a reuse
 --   lost_code, lost_link, lost_reuse   all tables, and the forest
-use Rattle.std.proofs.Common.{◌≡◌, ◌≢◌, ◌⊎◌, inl, inr, ℕ, Bool, true, false, ◌&&◌, ◌||◌, ◌==◌, cond, if◌then◌else◌, List, Some, None, is_some, refl, sym, ap, subst, ◌∙◌}
+use Rattle.std.proofs.Common.{◌≡◌, ◌≢◌, ◌⊎◌, inl, inr, ℕ, Bool, true, false, ◌&&◌, ◌||◌, not, ◌==◌, cond, if◌then◌else◌, List, Some, None, is_some, refl, sym, ap, subst, ◌∙◌}
 use Rattle.std.proofs.lemmas.Bool.{true≢false, cases_Bool, cond-true, cond-false, and_parts}
 use Rattle.std.specs.Option.{option_and_then}
 use Rattle.std.specs.Ordering.{eq_by_cmp}
@@ -27,7 +27,7 @@ use Rattle.tk_store.proofs.PutLaws.{none_is_not_some}
 use Rattle.tk_store.proofs.OneMoreLaws.{OneMore, more_subset, any_fact-more, cases_dots, apart_at}
 use Rattle.tk_ledger.specs.Bodies.{is_same_dot, is_same_token}
 use Rattle.tk_ledger.specs.Changes.{change_in, adds, retires_of, gives_to, withdraws_of, revokes_of, reuses_of}
-use Rattle.tk_ledger.specs.Clients.{client_at, retires, is_retired, consent_at, withdraws, is_withdrawn}
+use Rattle.tk_ledger.specs.Clients.{client_at, retires, is_retired, consent_at, is_withdrawn}
 use Rattle.tk_ledger.specs.Index.{is_at, IsClients, is_from, IsConsents, IsWithdrawals, IsRevocations, code_cmp, code_key, is_to, is_listed_code, IsCodes, is_left_by, IsOuts, reuse_cmp, reuse_key, is_reuse_of, is_listed_reuse, IsReuses, IsTied, Wakes, IsIndexed}
 use Rattle.tk_ledger.specs.Losses.{WasIndexed}
 use Rattle.tk_ledger.specs.SignOuts.{sign_out_in, sign_out_at}
@@ -49,7 +49,7 @@ use Rattle.tk_ledger.proofs.ReuseLaws.{reuse_tied, reused_on}
 use Rattle.tk_ledger.proofs.SameLaws.{same_dot-true, same_token-true}
 use Rattle.tk_ledger.proofs.SubjectKeyLaws.{code_tied, code_tied-dot}
 use Rattle.tk_ledger.proofs.SubjectTableLaws.{issuing, issues_to, issues_none, signs_none, issued_on, signed_on, without}
-use Rattle.tk_ledger.proofs.TableLaws.{withdraws-change, revokes-change, retires-change, added_on, given_on}
+use Rattle.tk_ledger.proofs.TableLaws.{revokes-change, retires-change, added_on, given_on, withdrawn_on}
 use Rattle.tk_ledger.proofs.TokenLaws.{links-below}
 use Rattle.tk_ledger.proofs.WakeLaws.{grant_place}
 
@@ -61,14 +61,16 @@ clients_less F G d b t m none kept i = record {
   retired = λ q. i.retired q ∙ any_fact-more (retires q) F G d b m ∙ ap (λ a. a || is_retired F q) (retires-change q b ∙ kept q);
 }
 
-consents_less : (F G : FactSet) (d : Dot) (b : Body) (t : BTreeSet ConsentKey) → OneMore F G d b → ((client : Dot) (subject : List ℕ) → gives_to client subject (change_in b) ≡ false) → IsConsents G t → IsConsents F t
-consents_less F G d b t m none i = record {
-  listed = λ c s q. i.listed c s q ∙ sym (given_on F G d b c s q (is_from c s (consent_at F q)) m refl) ∙ ap (λ a. (a && is_at d q) || is_from c s (consent_at F q)) (none c s);
+consents_less : (F G : FactSet) (d : Dot) (b : Body) (t : BTreeSet ConsentKey) → OneMore F G d b → ((client : Dot) (subject : List ℕ) → gives_to client subject (change_in b) ≡ false) → ((q : Dot) → withdraws_of q (change_in b) ≡ false) → IsConsents G t → IsConsents F t
+consents_less F G d b t m none kept i = record {
+  listed = λ c s q. i.listed c s q
+      ∙ ap (λ x. x && not (is_withdrawn G q)) (sym (given_on F G d b c s q (is_from c s (consent_at F q)) m refl) ∙ ap (λ a. (a && is_at d q) || is_from c s (consent_at F q)) (none c s))
+      ∙ ap (λ x. is_from c s (consent_at F q) && not x) (sym (withdrawn_on F G d b q m) ∙ ap (λ a. a || is_withdrawn F q) (kept q));
   ranged = i.ranged;
 }
 
 withdrawals_less : (F G : FactSet) (d : Dot) (b : Body) (t : BTreeSet Dot) → OneMore F G d b → ((q : Dot) → withdraws_of q (change_in b) ≡ false) → IsWithdrawals G t → IsWithdrawals F t
-withdrawals_less F G d b t m none i q = i q ∙ any_fact-more (withdraws q) F G d b m ∙ ap (λ a. a || is_withdrawn F q) (withdraws-change q b ∙ none q)
+withdrawals_less F G d b t m none i q = i q ∙ sym (withdrawn_on F G d b q m) ∙ ap (λ a. a || is_withdrawn F q) (none q)
 
 revocations_less : (F G : FactSet) (d : Dot) (b : Body) (t : BTreeSet Revocation) → OneMore F G d b → ((k : TokenId) (digest : List ℕ) (client : Dot) → revokes_of k digest client (change_in b) ≡ false) → IsRevocations G t → IsRevocations F t
 revocations_less F G d b t m none i k g c = i k g c ∙ any_fact-more (revokes k g c) F G d b m ∙ ap (λ a. a || is_revoked F k g c) (revokes-change k g c b ∙ none k g c)
@@ -231,7 +233,7 @@ lost_code F d subject start x s z w r links marks =
     let o : Loss F d (change.Issue subject start) x = loss F d (change.Issue subject start) x w in
     record {
       clients_are = clients_less F o.before d o.body x.clients o.more (ap adds o.is) (λ q. ap (retires_of q) o.is) o.indexed.clients_are;
-      consents_are = consents_less F o.before d o.body x.consents o.more (λ c g. ap (gives_to c g) o.is) o.indexed.consents_are;
+      consents_are = consents_less F o.before d o.body x.consents o.more (λ c g. ap (gives_to c g) o.is) (λ q. ap (withdraws_of q) o.is) o.indexed.consents_are;
       withdrawn_are = withdrawals_less F o.before d o.body x.withdrawn o.more (λ q. ap (withdraws_of q) o.is) o.indexed.withdrawn_are;
       revocations_are = revocations_less F o.before d o.body x.revocations o.more (λ k g c. ap (revokes_of k g c) o.is) o.indexed.revocations_are;
       codes_are = codes_less F o.before d o.body subject start x.codes s o.more o.is o.indexed.codes_are r;
@@ -247,7 +249,7 @@ lost_link F d l x z w links marks =
     let o : Loss F d (change.Put l) x = loss F d (change.Put l) x w in
     record {
       clients_are = clients_less F o.before d o.body x.clients o.more (ap adds o.is) (λ q. ap (retires_of q) o.is) o.indexed.clients_are;
-      consents_are = consents_less F o.before d o.body x.consents o.more (λ c g. ap (gives_to c g) o.is) o.indexed.consents_are;
+      consents_are = consents_less F o.before d o.body x.consents o.more (λ c g. ap (gives_to c g) o.is) (λ q. ap (withdraws_of q) o.is) o.indexed.consents_are;
       withdrawn_are = withdrawals_less F o.before d o.body x.withdrawn o.more (λ q. ap (withdraws_of q) o.is) o.indexed.withdrawn_are;
       revocations_are = revocations_less F o.before d o.body x.revocations o.more (λ k g c. ap (revokes_of k g c) o.is) o.indexed.revocations_are;
       codes_are = codes_kept F o.before d o.body x.codes o.more (ap issuing o.is) o.indexed.codes_are;
@@ -286,7 +288,7 @@ lost_reuse F d j x s z w r woke =
     let o : Loss F d (change.Mark j) x = loss F d (change.Mark j) x w in
     record {
       clients_are = clients_less F o.before d o.body x.clients o.more (ap adds o.is) (λ q. ap (retires_of q) o.is) o.indexed.clients_are;
-      consents_are = consents_less F o.before d o.body x.consents o.more (λ c g. ap (gives_to c g) o.is) o.indexed.consents_are;
+      consents_are = consents_less F o.before d o.body x.consents o.more (λ c g. ap (gives_to c g) o.is) (λ q. ap (withdraws_of q) o.is) o.indexed.consents_are;
       withdrawn_are = withdrawals_less F o.before d o.body x.withdrawn o.more (λ q. ap (withdraws_of q) o.is) o.indexed.withdrawn_are;
       revocations_are = lost_revocations F d j x w;
       codes_are = codes_kept F o.before d o.body x.codes o.more (ap issuing o.is) o.indexed.codes_are;

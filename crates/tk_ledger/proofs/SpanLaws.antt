@@ -2,7 +2,7 @@
 -- Key results:
 --   span_forward            the span runs forward
 --   in_span                 each consent of the subject to the client has its key in the span
---   first_found, first_is   the first that serves is the lowest live consent that covers the scope
+--   first_found, first_is   the first listed consent that covers the scope is the lowest live one
 use Rattle.std.proofs.Common.{◌≡◌, ◌⊎◌, inl, inr, ℕ, ◌≤◌, ◌<◌, Bool, true, ◌&&◌, not, List, Option, Some, None, refl, sym, ap, ◌∙◌, arith}
 use Rattle.std.proofs.lemmas.Bool.{true≢false, and_parts, and_from}
 use Rattle.std.proofs.lemmas.Cmp.{ranked, by_ranked, on_total, then_total, tied_itself, nat_list_cmp_total}
@@ -27,9 +27,10 @@ use Rattle.tk_fact.specs.declared.body.Body.{Body}
 use Rattle.tk_store.specs.FactSet.{FactSet}
 use Rattle.tk_store.proofs.FactSetLaws.{tied}
 use Rattle.tk_ledger.specs.Bodies.{is_same_dot}
-use Rattle.tk_ledger.specs.Clients.{given_in, is_withdrawn, grants, serves, consent_for, IsConsentFor, IsLeastConsent}
+use Rattle.tk_ledger.specs.Clients.{given_in, consent_at, is_withdrawn, grants, covers, consent_for, IsConsentFor, IsLeastConsent}
 use Rattle.tk_ledger.specs.Index.{consent_cmp, consent_key, least_dot, greatest_dot, is_from, is_listed, IsConsents, span_of}
 use Rattle.tk_ledger.specs.declared.consent_keys.ConsentKey.{ConsentKey}
+use Rattle.tk_ledger.proofs.ClientLaws.{not_withdrawn}
 use Rattle.tk_ledger.proofs.ConsentLaws.{consents_sound, consents_complete, least_consent}
 use Rattle.tk_ledger.proofs.KeyLaws.{consent_tied}
 use Rattle.tk_ledger.proofs.KeySearchLaws.{among, found_passes, none_passes, first_least}
@@ -106,27 +107,37 @@ in_span client subject q h = and_from _ _
 
 -- ---- one consent
 
-serves_sound : (F : FactSet) (client : Dot) (subject scope : List ℕ) (d : Dot) → serves F client subject scope d ≡ true → IsConsentFor (map.get F) client subject scope d
-serves_sound F client subject scope d h = by_body (map.get F d) refl h
+live_sound : (F : FactSet) (client : Dot) (subject scope : List ℕ) (d : Dot) → (covers F client subject scope d && not (is_withdrawn F d)) ≡ true → IsConsentFor (map.get F) client subject scope d
+live_sound F client subject scope d h = by_body (map.get F d) refl h
   where
     by_body : (o : Option Body) → map.get F d ≡ o → (grants client subject scope (option_and_then given_in o) && not (is_withdrawn F d)) ≡ true → IsConsentFor (map.get F) client subject scope d
     by_body None at h = absurd (true≢false (sym h))
     by_body (Some b) at h = consents_sound F client subject scope d b at h
 
-serves_complete : (F : FactSet) (client : Dot) (subject scope : List ℕ) (d : Dot) → IsConsentFor (map.get F) client subject scope d → serves F client subject scope d ≡ true
-serves_complete F client subject scope d x = ap (λ (o : Option Body). grants client subject scope (option_and_then given_in o) && not (is_withdrawn F d)) x.live.given ∙ consents_complete F client subject scope d x
+-- a listed consent is live
+covers_sound : (F : FactSet) (t : BTreeSet ConsentKey) (client : Dot) (subject scope : List ℕ) (e : ConsentKey) → IsConsents F t → among consent_cmp e t.keys ≡ true → covers F client subject scope e.consent ≡ true → IsConsentFor (map.get F) client subject scope e.consent
+covers_sound F t client subject scope e i at h = live_sound F client subject scope e.consent
+    (and_from _ _ h (and_parts (is_from e.client e.subject (consent_at F e.consent)) (not (is_withdrawn F e.consent)) (sym (i.listed e.client e.subject e.consent) ∙ at)).1)
 
--- a consent is listed under its client and the digest of its subject
+covers_complete : (F : FactSet) (client : Dot) (subject scope : List ℕ) (d : Dot) → IsConsentFor (map.get F) client subject scope d → covers F client subject scope d ≡ true
+covers_complete F client subject scope d x =
+    ap (λ (o : Option Body). grants client subject scope (option_and_then given_in o)) x.live.given
+    ∙ (and_parts (grants client subject scope (Some x.live.consent)) (not (is_withdrawn F d)) (consents_complete F client subject scope d x)).0
+
+-- a live consent is listed under its client and the digest of its subject
 listed_of : (F : FactSet) (t : BTreeSet ConsentKey) (client : Dot) (subject scope : List ℕ) (d : Dot) → IsConsents F t → IsConsentFor (map.get F) client subject scope d → is_listed t client (sha256 subject) d ≡ true
 listed_of F t client subject scope d i x =
     i.listed client (sha256 subject) d
-    ∙ ap (λ (o : Option Body). is_from client (sha256 subject) (option_and_then given_in o)) x.live.given
-    ∙ and_from _ _ (ap (λ (e : Dot). is_same_dot e client) x.live.client_is ∙ same_dot-itself client) ((bytes_eq-Decides (sha256 x.live.consent.subject) (sha256 subject)).1 (ap sha256 x.live.subject_is))
+    ∙ and_from _ _
+    (ap (λ (o : Option Body). is_from client (sha256 subject) (option_and_then given_in o)) x.live.given
+    ∙ and_from _ _ (ap (λ (e : Dot). is_same_dot e client) x.live.client_is ∙ same_dot-itself client) ((bytes_eq-Decides (sha256 x.live.consent.subject) (sha256 subject)).1 (ap sha256 x.live.subject_is)))
+    (not_withdrawn F d x.live.unwithdrawn)
 
--- a key whose consent serves is that of the client and the digest of the subject
-key_of_served : (F : FactSet) (t : BTreeSet ConsentKey) (client : Dot) (subject scope : List ℕ) (e : ConsentKey) → IsConsents F t → among consent_cmp e t.keys ≡ true → IsConsentFor (map.get F) client subject scope e.consent → e ≡ consent_key client (sha256 subject) e.consent
-key_of_served F t client subject scope e i at x =
-    let from : is_from e.client e.subject (Some x.live.consent) ≡ true = sym (ap (λ (o : Option Body). is_from e.client e.subject (option_and_then given_in o)) x.live.given) ∙ sym (i.listed e.client e.subject e.consent) ∙ at in
+-- a key whose consent covers the scope is that of the client and the digest of the subject
+key_of_found : (F : FactSet) (t : BTreeSet ConsentKey) (client : Dot) (subject scope : List ℕ) (e : ConsentKey) → IsConsents F t → among consent_cmp e t.keys ≡ true → IsConsentFor (map.get F) client subject scope e.consent → e ≡ consent_key client (sha256 subject) e.consent
+key_of_found F t client subject scope e i at x =
+    let from : is_from e.client e.subject (Some x.live.consent) ≡ true = sym (ap (λ (o : Option Body). is_from e.client e.subject (option_and_then given_in o)) x.live.given)
+    ∙ (and_parts (is_from e.client e.subject (consent_at F e.consent)) (not (is_withdrawn F e.consent)) (sym (i.listed e.client e.subject e.consent) ∙ at)).0 in
     let p = and_parts (is_same_dot x.live.consent.client e.client) (bytes_eq (sha256 x.live.consent.subject) e.subject) from in
     key_by e (consent_key client (sha256 subject) e.consent)
     (sym (same_dot-true x.live.consent.client e.client p.0) ∙ x.live.client_is)
@@ -135,21 +146,21 @@ key_of_served F t client subject scope e i at x =
 
 -- ---- the consent for a scope
 
-abbrev serving : FactSet → Dot → List ℕ → List ℕ → ConsentKey → Bool
-serving F client subject scope k = serves F client subject scope k.consent
+abbrev covering : FactSet → Dot → List ℕ → List ℕ → ConsentKey → Bool
+covering F client subject scope k = covers F client subject scope k.consent
 
 pub first_found : (F : FactSet) (t : BTreeSet ConsentKey) (client : Dot) (subject scope : List ℕ) (o : Option ConsentKey) → IsConsents F t → IsStrictlySortedBy consent_cmp t.keys
-    → find (serving F client subject scope) (span_of t client (sha256 subject)) ≡ o → IsLeastConsent (map.get F) client subject scope (option_map (λ k. k.consent) o)
+    → find (covering F client subject scope) (span_of t client (sha256 subject)) ≡ o → IsLeastConsent (map.get F) client subject scope (option_map (λ k. k.consent) o)
 first_found F t client subject scope None i sorted h = λ d x.
     let at = listed_of F t client subject scope d i x in
-    none_passes consent_cmp consents_total key_same (serving F client subject scope) _ t.keys h (consent_key client (sha256 subject) d) at (in_span client (sha256 subject) d (i.ranged client (sha256 subject) d at)) (serves_complete F client subject scope d x)
+    none_passes consent_cmp consents_total key_same (covering F client subject scope) _ t.keys h (consent_key client (sha256 subject) d) at (in_span client (sha256 subject) d (i.ranged client (sha256 subject) d at)) (covers_complete F client subject scope d x)
 first_found F t client subject scope (Some e) i sorted h =
-    let found = found_passes consent_cmp consents_total key_same (serving F client subject scope) _ t.keys e h in
-    let here = serves_sound F client subject scope e.consent found.0 in (
+    let found = found_passes consent_cmp consents_total key_same (covering F client subject scope) _ t.keys e h in
+    let here = covers_sound F t client subject scope e i found.2 found.0 in (
       here,
       λ q x below. (let at = listed_of F t client subject scope q i x in
-          first_least consent_cmp consents_total key_same (serving F client subject scope) _ t.keys sorted e h (consent_key client (sha256 subject) q) at (in_span client (sha256 subject) q (i.ranged client (sha256 subject) q at)) (serves_complete F client subject scope q x)
-          (ap (consent_cmp (consent_key client (sha256 subject) q)) (key_of_served F t client subject scope e i found.2 here) ∙ key_order client (sha256 subject) q e.consent ∙ below)),
+          first_least consent_cmp consents_total key_same (covering F client subject scope) _ t.keys sorted e h (consent_key client (sha256 subject) q) at (in_span client (sha256 subject) q (i.ranged client (sha256 subject) q at)) (covers_complete F client subject scope q x)
+          (ap (consent_cmp (consent_key client (sha256 subject) q)) (key_of_found F t client subject scope e i found.2 here) ∙ key_order client (sha256 subject) q e.consent ∙ below)),
     )
 
 -- there is at most one lowest consent

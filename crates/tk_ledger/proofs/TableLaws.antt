@@ -2,7 +2,7 @@
 --   own_on         a test of the body at a dot
 --   clients_on, consents_on, withdrawals_on, revocations_on
 --                  the tables of clients, consents, withdrawals and revocations
-use Rattle.std.proofs.Common.{◌≡◌, inl, inr, ℕ, Bool, true, false, ◌&&◌, ◌||◌, List, is_some, refl, sym, ap, subst, ◌∙◌}
+use Rattle.std.proofs.Common.{◌≡◌, inl, inr, ℕ, Bool, true, false, ◌&&◌, ◌||◌, not, List, is_some, refl, sym, ap, subst, ◌∙◌}
 use Rattle.std.proofs.lemmas.Bool.{or_cases, and_parts}
 use Rattle.std.specs.Option.{option_and_then}
 use Rattle.std.specs.BTreeMap.{BTreeMap}
@@ -47,6 +47,24 @@ withdraws-change q body = refl
 pub revokes-change : (k : TokenId) (digest : List ℕ) (client : Dot) (b : Body) → revoked_by k digest client b ≡ revokes_of k digest client (change_in b)
 revokes-change k digest client (TokenRevoked f) = refl
 revokes-change k digest client body = refl
+
+-- ---- tests with a constant
+
+pub and_yes : (x : Bool) → (x && true) ≡ x
+and_yes true = refl
+and_yes false = refl
+
+pub and_no : (x : Bool) → (x && false) ≡ false
+and_no true = refl
+and_no false = refl
+
+or_yes : (x : Bool) → (x || true) ≡ true
+or_yes true = refl
+or_yes false = refl
+
+or_no : (x : Bool) → (x || false) ≡ x
+or_no true = refl
+or_no false = refl
 
 -- ---- the effect of a fact on its own dot
 
@@ -100,15 +118,30 @@ given_on F G d b client subject q x m i = own_on d q (gives_to client subject (c
     (λ ne. ap (λ e. is_from client subject (option_and_then given_in e)) (m.there q ne))
     i
 
+-- a consent is withdrawn if the new fact withdraws it, or a fact before did
+pub withdrawn_on : (F G : FactSet) (d : Dot) (b : Body) (q : Dot) → OneMore F G d b → (withdraws_of q (change_in b) || is_withdrawn F q) ≡ is_withdrawn G q
+withdrawn_on F G d b q m = ap (λ x. x || is_withdrawn F q) (sym (withdraws-change q b)) ∙ sym (any_fact-more (withdraws q) F G d b m)
+
 -- each dot that is listed is in range
 abbrev pub Ranged : BTreeSet ConsentKey → Type 0
 Ranged t = (client : Dot) (subject : List ℕ) (d : Dot) → is_listed t client subject d ≡ true → IsDot d
 
+-- a consent is live if it was given, now or before, and is not withdrawn, now or before
+live_on : (a f w v x given gone : Bool) → x ≡ (f && not w) → (a || f) ≡ given → (v || w) ≡ gone → (((a && not w) || x) && not v) ≡ (given && not gone)
+live_on a f w v x given gone i g n =
+    ap (λ z. ((a && not w) || z) && not v) i ∙ spread a f w v ∙ ap (λ z. z && not (v || w)) g ∙ ap (λ z. given && not z) n
+  where
+    spread : (a f w v : Bool) → (((a && not w) || (f && not w)) && not v) ≡ ((a || f) && not (v || w))
+    spread a f true v = simp (and_no, or_yes)
+    spread a f false v = simp (and_yes, or_no)
+
 pub consents_on : (F G : FactSet) (d : Dot) (b : Body) (t u : BTreeSet ConsentKey) → OneMore F G d b → IsConsents F t → Ranged u
-    → ((client : Dot) (subject : List ℕ) (q : Dot) → is_listed u client subject q ≡ ((gives_to client subject (change_in b) && is_at d q) || is_listed t client subject q))
+    → ((client : Dot) (subject : List ℕ) (q : Dot) → is_listed u client subject q ≡ ((((gives_to client subject (change_in b) && is_at d q) && not (is_withdrawn F q)) || is_listed t client subject q) && not (withdraws_of q (change_in b))))
     → IsConsents G u
 consents_on F G d b t u m i ranged l = record {
-  listed = λ client subject q. l client subject q ∙ given_on F G d b client subject q (is_listed t client subject q) m (i.listed client subject q);
+  listed = λ client subject q. l client subject q
+      ∙ live_on (gives_to client subject (change_in b) && is_at d q) (is_from client subject (consent_at F q)) (is_withdrawn F q) (withdraws_of q (change_in b)) (is_listed t client subject q) (is_from client subject (consent_at G q)) (is_withdrawn G q)
+      (i.listed client subject q) (given_on F G d b client subject q (is_from client subject (consent_at F q)) m refl) (withdrawn_on F G d b q m);
   ranged = ranged;
 }
 
@@ -124,7 +157,7 @@ ranged_on t u d n here before l client subject q h = elim (or_cases (n client su
 pub withdrawals_on : (F G : FactSet) (d : Dot) (b : Body) (t u : BTreeSet Dot) → OneMore F G d b → IsWithdrawals F t
     → ((q : Dot) → contains dot_cmp u q ≡ (withdraws_of q (change_in b) || contains dot_cmp t q))
     → IsWithdrawals G u
-withdrawals_on F G d b t u m i w q = w q ∙ ap (λ x. withdraws_of q (change_in b) || x) (i q) ∙ ap (λ x. x || is_withdrawn F q) (sym (withdraws-change q b)) ∙ sym (any_fact-more (withdraws q) F G d b m)
+withdrawals_on F G d b t u m i w q = w q ∙ ap (λ x. withdraws_of q (change_in b) || x) (i q) ∙ withdrawn_on F G d b q m
 
 -- ---- revocations
 

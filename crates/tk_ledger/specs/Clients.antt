@@ -173,10 +173,9 @@ abbrev pub consents : FactSet → Dot → List ℕ → List ℕ → Dot × Body 
 consents F client subject scope f =
     grants client subject scope (given_in f.1) && not (is_withdrawn F f.0)
 
--- a live consent of this subject to this client that covers the scope was given at the dot
-abbrev pub serves : FactSet → Dot → List ℕ → List ℕ → Dot → Bool
-serves F client subject scope d =
-    grants client subject scope (consent_at F d) && not (is_withdrawn F d)
+-- a consent of this subject to this client that covers the scope was given at the dot
+abbrev pub covers : FactSet → Dot → List ℕ → List ℕ → Dot → Bool
+covers F client subject scope d = grants client subject scope (consent_at F d)
 
 -- the first live consent of this subject to this client that covers the scope, by dot
 abbrev pub consent_for : FactSet → Dot → List ℕ → List ℕ → Option Dot

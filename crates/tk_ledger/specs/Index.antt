@@ -1,6 +1,8 @@
 -- The tables of a ledger beside its facts (own), which return what the set of facts determines.
 --   row_added, row_retired             a client's row is that of an added, or a retired, client
---   consent_cmp, consent_key           the keys of consents, and their order
+--   consent_cmp, consent_key, key_of   the keys of consents, and their order
+--   is_live_from                       a live consent to a client, by the digest of its subject
+--   is_key_at                          a key is that of the consent at a dot
 --   revocation_cmp, revocation_key     the keys of revocations, and their order
 --   IsClients, IsConsents, IsWithdrawals, IsRevocations
 --                                      each table has what the set has
@@ -27,6 +29,7 @@ use Rattle.std.specs.Prelude.{
   true,
   false,
   ◌&&◌,
+  not,
   ◌==◌,
   List,
   Option,
@@ -109,6 +112,10 @@ consent_cmp a b =
 abbrev pub consent_key : Dot → List ℕ → Dot → ConsentKey
 consent_key client subject d = record { client = client; subject = subject; consent = d }
 
+-- the key of the consent that was given at the dot
+abbrev pub key_of : Dot → given.ConsentGiven → ConsentKey
+key_of d consent = consent_key consent.client (sha256 consent.subject) d
+
 -- the least dot
 abbrev pub least_dot : Dot
 least_dot = record { region = 1; serial = 1 }
@@ -123,20 +130,30 @@ is_from client subject None = false
 is_from client subject (Some consent) =
     is_same_dot consent.client client && bytes_eq (sha256 consent.subject) subject
 
+-- a consent was given at the dot to the client, by a subject with the digest, and no withdrawal
+-- names it
+abbrev pub is_live_from : FactSet → Dot → List ℕ → Dot → Bool
+is_live_from F client subject d =
+    is_from client subject (consent_at F d) && not (is_withdrawn F d)
+
+-- the key is that of the consent that was given at the dot
+abbrev pub is_key_at : FactSet → Dot → ConsentKey → Bool
+is_key_at F d k = is_at d k.consent && is_from k.client k.subject (consent_at F d)
+
 -- the table has the consent under the client and the digest
 abbrev pub is_listed : BTreeSet ConsentKey → Dot → List ℕ → Dot → Bool
 is_listed t client subject d = keys.contains consent_cmp t (consent_key client subject d)
 
--- the keys of the consents that a subject with the digest gave the client
+-- the keys that the table has of the consents that a subject with the digest gave the client
 abbrev pub span_of : BTreeSet ConsentKey → Dot → List ℕ → List ConsentKey
 span_of t client subject =
     keys.keys_between consent_cmp (Included (consent_key client subject least_dot))
     (Included (consent_key client subject greatest_dot)) t
 
--- the table has each consent that was given, and no other
+-- the table has each consent that was given and not withdrawn, and no other
 pub record IsConsents (F : FactSet) (t : BTreeSet ConsentKey) : Type 0 where
   pub listed : (client : Dot) (subject : List ℕ) (d : Dot)
-      → is_listed t client subject d ≡ is_from client subject (consent_at F d)
+      → is_listed t client subject d ≡ is_live_from F client subject d
   pub ranged : (client : Dot) (subject : List ℕ) (d : Dot) → is_listed t client subject d ≡ true
       → IsDot d
 

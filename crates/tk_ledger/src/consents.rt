@@ -86,16 +86,16 @@ impl Ledger {
         consent_keys::is_withdrawn(&self.index.withdrawn, consent)
     }
 
-    // Returns whether a live consent of the subject to the client for the scope was given at the
-    // dot.
-    fn serves(&self, client: Dot, subject: &Subject, scope: &Scope, consent: Dot) -> bool
-        ensures { result ≡ spec.serves (held_facts self.now) client subject.now scope.now consent }
+    // Returns whether the consent that was given at the dot is by the subject to the client, and
+    // covers the scope.
+    fn covers(&self, client: Dot, subject: &Subject, scope: &Scope, consent: Dot) -> bool
+        ensures { result ≡ spec.covers (held_facts self.now) client subject.now scope.now consent }
     {
-        grants(self.given_at(consent), client, subject, scope) && !self.has_withdrawn(consent)
+        grants(self.given_at(consent), client, subject, scope)
     }
 
-    // Returns the first key of the subject's consents to the client whose consent is live and
-    // covers the scope.
+    // Returns the first key of the subject's consents to the client whose consent covers the scope.
+    // With the table of live consents, this is the key of the lowest live consent that does.
     fn first_key<'a>(
         &self,
         consents: &'a BTreeSet<ConsentKey>,
@@ -104,14 +104,14 @@ impl Ledger {
         scope: &Scope,
     ) -> Option<&'a ConsentKey>
         ensures first { option_copied result ≡ find (λ k.
-            spec.serves (held_facts self.now) client subject.now scope.now k.consent)
+            spec.covers (held_facts self.now) client subject.now scope.now k.consent)
             (span_of consents.now client (sha256 subject.now)) }
         ensures sorted { IsOrdered consent_cmp consents.now }
     {
         let (first, last) = span(client, &subject_digest(subject));
         consents
             .range((Bound::Included(first), Bound::Included(last)))
-            .find(|key| self.serves(client, subject, scope, key.consent))
+            .find(|key| self.covers(client, subject, scope, key.consent))
     }
 
     // Returns the lowest dot of a live consent of this subject to this client that covers the

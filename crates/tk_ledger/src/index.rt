@@ -30,7 +30,6 @@ ghost use Rattle.tk_ledger.specs.declared.change.Change.TheVariants as change_as
 ghost use Rattle.tk_ledger.specs.Changes.{change_in};
 ghost use Rattle.tk_ledger.specs.Index.{
   IsRevocations,
-  IsCodes,
   IsOuts,
   IsReuses,
   IsTied,
@@ -101,64 +100,79 @@ fn put_link(
 // Adds the key of a code, and its link. If memory runs out at the link, the key is removed again.
 fn issue_code(
     facts: &FactStore,
-    revocations: &BTreeSet<Revocation>,
-    codes: &mut BTreeSet<CodeKey>,
-    outs: &BTreeSet<OutKey>,
-    reuses: &BTreeSet<ReuseKey>,
-    forest: &mut Forest,
+    index: &mut Index,
     dot: Dot,
     subject: &[u8; 32],
     start: Moment,
 ) -> Result<(), AllocError>
     requires change { option_map change_in (map.get (held_facts facts.now) dot)
         ≡ Some (change_as.Issue subject.now start) }
-    requires revocations { IsRevocations (held_facts facts.now) revocations.now }
-    requires codes { IsCodes (map.remove (held_facts facts.now) dot) codes.old }
-    requires outs { IsOuts (held_facts facts.now) outs.now }
-    requires reuses { IsReuses (held_facts facts.now) reuses.now }
-    requires tied { IsTied (map.remove (held_facts facts.now) dot) forest.old }
-    ensures codes { OnOk result (IsCodes (held_facts facts.now) codes.new) }
-    ensures ok { OnOk result (IsTied (held_facts facts.now) forest.new) }
-    ensures codes_err { OnErr result (IsCodes (map.remove (held_facts facts.now) dot) codes.new) }
-    ensures err { OnErr result (IsTied (map.remove (held_facts facts.now) dot) forest.new) }
+    requires indexed { IsIndexed (map.remove (held_facts facts.now) dot) index.old }
+    ensures ok { OnOk result (IsIndexed (held_facts facts.now) index.new) }
+    ensures err { OnErr result (IsIndexed (map.remove (held_facts facts.now) dot) index.new) }
 {
-    if let Err(error) = list_code(codes, subject, start, dot) {
+    if let Err(error) = list_code(&mut index.codes, subject, start, dot) {
         return Err(error);
     }
-    match put_link(facts, revocations, outs, reuses, forest, dot, Link::Code) {
+    match put_link(
+        facts,
+        &index.revocations,
+        &index.outs,
+        &index.reuses,
+        &mut index.forest,
+        dot,
+        Link::Code,
+    ) {
         Ok(()) => Ok(()),
         Err(error) => {
-            drop_code(codes, subject, start, dot);
+            drop_code(&mut index.codes, subject, start, dot);
             Err(error)
         }
     }
 }
 
+// Adds the link of a grant that was used.
+fn use_grant(facts: &FactStore, index: &mut Index, dot: Dot, link: Link) -> Result<(), AllocError>
+    requires change { option_map change_in (map.get (held_facts facts.now) dot)
+        ≡ Some (change_as.Put link) }
+    requires indexed { IsIndexed (map.remove (held_facts facts.now) dot) index.old }
+    ensures ok { OnOk result (IsIndexed (held_facts facts.now) index.new) }
+    ensures err { OnErr result (IsIndexed (map.remove (held_facts facts.now) dot) index.new) }
+{
+    put_link(
+        facts,
+        &index.revocations,
+        &index.outs,
+        &index.reuses,
+        &mut index.forest,
+        dot,
+        link,
+    )
+}
+
 // Adds the key of a reuse, and writes the marks at its token's dot.
 fn mark_token(
     facts: &FactStore,
-    revocations: &BTreeSet<Revocation>,
-    outs: &BTreeSet<OutKey>,
-    reuses: &mut BTreeSet<ReuseKey>,
-    forest: &mut Forest,
+    index: &mut Index,
     dot: Dot,
     token: TokenId,
 ) -> Result<(), AllocError>
     requires change { option_map change_in (map.get (held_facts facts.now) dot)
         ≡ Some (change_as.Mark token) }
-    requires revocations { IsRevocations (held_facts facts.now) revocations.now }
-    requires outs { IsOuts (held_facts facts.now) outs.now }
-    requires reuses { IsReuses (map.remove (held_facts facts.now) dot) reuses.old }
-    requires tied { IsTied (map.remove (held_facts facts.now) dot) forest.old }
-    ensures reuses { OnOk result (IsReuses (held_facts facts.now) reuses.new) }
-    ensures ok { OnOk result (IsTied (held_facts facts.now) forest.new) }
-    ensures reuses_err { OnErr result
-        (IsReuses (map.remove (held_facts facts.now) dot) reuses.new) }
-    ensures err { OnErr result (IsTied (map.remove (held_facts facts.now) dot) forest.new) }
+    requires indexed { IsIndexed (map.remove (held_facts facts.now) dot) index.old }
+    ensures ok { OnOk result (IsIndexed (held_facts facts.now) index.new) }
+    ensures err { OnErr result (IsIndexed (map.remove (held_facts facts.now) dot) index.new) }
 {
-    match list_reuse(reuses, &token, dot) {
+    match list_reuse(&mut index.reuses, &token, dot) {
         Ok(()) => {
-            wake(facts, revocations, outs, reuses, forest, token.dot);
+            wake(
+                facts,
+                &index.revocations,
+                &index.outs,
+                &index.reuses,
+                &mut index.forest,
+                token.dot,
+            );
             Ok(())
         }
         Err(error) => Err(error),
@@ -168,28 +182,31 @@ fn mark_token(
 // Adds the key of a revocation, and writes the marks at its token's dot.
 fn revoke_token(
     facts: &FactStore,
-    revocations: &mut BTreeSet<Revocation>,
-    outs: &BTreeSet<OutKey>,
-    reuses: &BTreeSet<ReuseKey>,
-    forest: &mut Forest,
+    index: &mut Index,
     dot: Dot,
     fact: &TokenRevoked,
 ) -> Result<(), AllocError>
     requires change { option_map change_in (map.get (held_facts facts.now) dot)
         ≡ Some (change_as.Revoke fact.now) }
-    requires revocations { IsRevocations (map.remove (held_facts facts.now) dot) revocations.old }
-    requires outs { IsOuts (held_facts facts.now) outs.now }
-    requires reuses { IsReuses (held_facts facts.now) reuses.now }
-    requires tied { IsTied (map.remove (held_facts facts.now) dot) forest.old }
-    ensures revocations { OnOk result (IsRevocations (held_facts facts.now) revocations.new) }
-    ensures ok { OnOk result (IsTied (held_facts facts.now) forest.new) }
-    ensures revocations_err { OnErr result (IsRevocations (map.remove (held_facts facts.now) dot)
-        revocations.new) }
-    ensures err { OnErr result (IsTied (map.remove (held_facts facts.now) dot) forest.new) }
+    requires indexed { IsIndexed (map.remove (held_facts facts.now) dot) index.old }
+    ensures ok { OnOk result (IsIndexed (held_facts facts.now) index.new) }
+    ensures err { OnErr result (IsIndexed (map.remove (held_facts facts.now) dot) index.new) }
 {
-    match revoke(revocations, &fact.token, &fact.digest, fact.client) {
+    match revoke(
+        &mut index.revocations,
+        &fact.token,
+        &fact.digest,
+        fact.client,
+    ) {
         Ok(()) => {
-            wake(facts, revocations, outs, reuses, forest, fact.token.dot);
+            wake(
+                facts,
+                &index.revocations,
+                &index.outs,
+                &index.reuses,
+                &mut index.forest,
+                fact.token.dot,
+            );
             Ok(())
         }
         Err(error) => Err(error),
@@ -201,38 +218,28 @@ fn revoke_token(
 // no code.
 fn sign_out(
     facts: &FactStore,
-    revocations: &BTreeSet<Revocation>,
-    codes: &BTreeSet<CodeKey>,
-    outs: &mut BTreeSet<OutKey>,
-    reuses: &BTreeSet<ReuseKey>,
-    forest: &mut Forest,
+    index: &mut Index,
     dot: Dot,
     subject: &[u8; 32],
     moment: Moment,
 ) -> Result<(), AllocError>
     requires change { option_map change_in (map.get (held_facts facts.now) dot)
         ≡ Some (change_as.SignOut subject.now moment) }
-    requires revocations { IsRevocations (held_facts facts.now) revocations.now }
-    requires codes { IsCodes (held_facts facts.now) codes.now }
-    requires outs { IsOuts (map.remove (held_facts facts.now) dot) outs.old }
-    requires reuses { IsReuses (held_facts facts.now) reuses.now }
-    requires tied { IsTied (map.remove (held_facts facts.now) dot) forest.old }
-    ensures outs { OnOk result (IsOuts (held_facts facts.now) outs.new) }
-    ensures ok { OnOk result (IsTied (held_facts facts.now) forest.new) }
-    ensures outs_err { OnErr result (IsOuts (map.remove (held_facts facts.now) dot) outs.new) }
-    ensures err { OnErr result (IsTied (map.remove (held_facts facts.now) dot) forest.new) }
+    requires indexed { IsIndexed (map.remove (held_facts facts.now) dot) index.old }
+    ensures ok { OnOk result (IsIndexed (held_facts facts.now) index.new) }
+    ensures err { OnErr result (IsIndexed (map.remove (held_facts facts.now) dot) index.new) }
 {
-    let first = first_left(facts, outs, dot);
-    match list_out(outs, subject, moment, dot) {
+    let first = first_left(facts, &index.outs, dot);
+    match list_out(&mut index.outs, subject, moment, dot) {
         Ok(()) => {
             let last = moment.seconds();
             wake_started(
                 facts,
-                revocations,
-                codes,
-                outs,
-                reuses,
-                forest,
+                &index.revocations,
+                &index.codes,
+                &index.outs,
+                &index.reuses,
+                &mut index.forest,
                 subject,
                 first,
                 last,
@@ -259,56 +266,23 @@ pub(crate) fn follow(
     match change {
         Change::Add => add_client(&mut index.clients, dot),
         Change::Retire(client) => retire_client(&mut index.clients, *client),
-        Change::Give { client, subject } => give(&mut index.consents, *client, subject, dot),
-        Change::Withdraw(consent) => withdraw(&mut index.withdrawn, *consent),
-        Change::Issue { subject, start } => issue_code(
-            facts,
-            &index.revocations,
-            &mut index.codes,
-            &index.outs,
-            &index.reuses,
-            &mut index.forest,
-            dot,
+        Change::Give { client, subject } => give(
+            &mut index.consents,
+            &index.withdrawn,
+            *client,
             subject,
-            *start,
-        ),
-        Change::Put(link) => put_link(
-            facts,
-            &index.revocations,
-            &index.outs,
-            &index.reuses,
-            &mut index.forest,
             dot,
-            *link,
         ),
-        Change::Revoke(fact) => revoke_token(
+        Change::Withdraw(consent) => withdraw(
             facts,
-            &mut index.revocations,
-            &index.outs,
-            &index.reuses,
-            &mut index.forest,
-            dot,
-            fact,
+            &mut index.consents,
+            &mut index.withdrawn,
+            *consent,
         ),
-        Change::Mark(token) => mark_token(
-            facts,
-            &index.revocations,
-            &index.outs,
-            &mut index.reuses,
-            &mut index.forest,
-            dot,
-            *token,
-        ),
-        Change::SignOut { subject, moment } => sign_out(
-            facts,
-            &index.revocations,
-            &index.codes,
-            &mut index.outs,
-            &index.reuses,
-            &mut index.forest,
-            dot,
-            subject,
-            *moment,
-        ),
+        Change::Issue { subject, start } => issue_code(facts, index, dot, subject, *start),
+        Change::Put(link) => use_grant(facts, index, dot, *link),
+        Change::Revoke(fact) => revoke_token(facts, index, dot, fact),
+        Change::Mark(token) => mark_token(facts, index, dot, *token),
+        Change::SignOut { subject, moment } => sign_out(facts, index, dot, subject, *moment),
     }
 }

@@ -9,8 +9,9 @@ use tk_store::FactStore;
 /// what is known of each dot, and the horizon.
 ///
 /// With n known dots, a look-up costs O(log n). `client`, `consent`, `revoked`, `signed_out` and
-/// `status` make a fixed number of look-ups, and `consent_for` at most two for each consent of the
-/// subject to the client. None of these allocates memory. `add` costs O(log n) for each of these:
+/// `status` make a fixed number of look-ups. `consent_for` makes one for each live consent of the
+/// subject to the client, up to the consent that it returns. None of these allocates memory. `add`
+/// costs O(log n) for each of these:
 ///
 /// - each dot that the fact brings under a code, and each link that names such a dot
 /// - each code of the subject, if the fact is a sign-out

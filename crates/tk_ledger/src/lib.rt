@@ -11,6 +11,9 @@
 //!   out.
 //! - `status` returns the status of a handle at a moment, by one to eight look-ups.
 //!
+//! The ledger leaves three things out. It decides no request: that is for the crates above. It reads
+//! no bytes: facts come as values. It has no clock: its callers pass the moment.
+//!
 //! No look-up allocates memory. Facts may be from anyone and arrive in any order, and be skipped in
 //! any order: each look-up returns what the facts that are held determine. At a skipped dot each
 //! status is wrong.
@@ -18,8 +21,9 @@
 //! Contracts see a ledger as its store alone: the facts that are held, the dots that are skipped,
 //! and the horizon. Beside the store, the ledger keeps an `Index`, which no crate above sees:
 //!
-//! - tables by key: clients (`client_rows`), consents (`consent_keys`), revocations
-//!   (`revocations`), the codes and sign-outs of subjects (`subject_keys`), and reuses (`reuses`)
+//! - tables by key: clients (`client_rows`), live consents and withdrawals (`consent_keys`),
+//!   revocations (`revocations`), the codes and sign-outs of subjects (`subject_keys`), and reuses
+//!   (`reuses`)
 //! - a forest of families, with the marks of all codes and refresh tokens in a family
 //!
 //! `change` has the change that a fact makes in the index, `index` makes the change, and `unfollow`
