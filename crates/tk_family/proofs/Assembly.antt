@@ -21,7 +21,7 @@ use Rattle.tk_family.proofs.DotLaws.{cases_dots}
 use Rattle.tk_family.proofs.Adding.{Adds, Within-adds, IsPath-here}
 use Rattle.tk_family.proofs.FamilyLaws.{IsUnder-within, IsParent-within, IsParent-one, IsParent-code}
 use Rattle.tk_family.proofs.Gathering.{with_link-here, with_link-other, Adds-with_link}
-use Rattle.tk_family.proofs.Columns.{Hangs-same, chain-some, chain-none}
+use Rattle.tk_family.proofs.Columns.{chain-some, chain-none}
 use Rattle.tk_family.proofs.Putting.{Mid, Mid-none, Mid-raised, IsCounted-mid, RowAt}
 
 -- a path ends at a code
@@ -51,7 +51,6 @@ PutRows-from T M A d l c0 ys t hung grown mid counted = record {
   code = λ q. mid.code q ∙ ap (λ (o : Option Dot). cond (has ys q) (Some c0) o) (hung.code q);
   used_is = λ k. mid.used k.dot k.kind ∙ hung.used k;
   again_is = λ k. mid.again k.dot k.kind ∙ hung.again k;
-  chains = λ p. Hangs-same M A p mid.link mid.first mid.next (hung.hangs p (t.hangs p));
   bads = counted;
 }
 

@@ -11,9 +11,8 @@ use Rattle.tk_family.specs.declared.row.Row.{Row}
 use Rattle.tk_family.specs.Dots.{dot_eq}
 use Rattle.tk_family.specs.Families.{Links, named_by, fits, use_of, IsPath, IsUnder, LinksWithin, IsUsed, rank_of}
 use Rattle.tk_family.specs.Counts.{IsCounted}
-use Rattle.tk_family.specs.Rows.{Rows, link_in, code_in, count_in, first_in, next_in, marked_in, used_in, again_in, links_of, named_of}
-use Rattle.tk_family.specs.Kept.{IsChain, Hangs, IsForest}
-use Rattle.tk_family.proofs.Growth.{IsChain-same}
+use Rattle.tk_family.specs.Rows.{Rows, link_in, code_in, count_in, first_in, marked_in, used_in, again_in, links_of}
+use Rattle.tk_family.specs.Kept.{IsForest}
 use Rattle.tk_family.specs.declared.row.Uses.{Uses}
 use Rattle.tk_family.specs.declared.row.Uses.TheVariants.{Never, Once, Often}
 use Rattle.std.specs.Option.{is_none}
@@ -38,7 +37,6 @@ pub record Alike (T N : Rows) : Type 0 where
   pub code : (q : Dot) → code_in (N q) ≡ code_in (T q)
   pub count : (q : Dot) → count_in (N q) ≡ count_in (T q)
   pub first : (q : Dot) → first_in (N q) ≡ first_in (T q)
-  pub next : (q : Dot) → next_in (N q) ≡ next_in (T q)
   pub marked : (q : Dot) (k : Kind) → marked_in (N q) k ≡ marked_in (T q) k
   pub used : (q : Dot) (k : Kind) → used_in (N q) k ≡ used_in (T q) k
   pub again : (q : Dot) (k : Kind) → again_in (N q) k ≡ again_in (T q) k
@@ -49,9 +47,9 @@ flag_blank kind.Code None = (refl, refl, refl)
 flag_blank kind.Access None = (refl, refl, refl)
 flag_blank kind.Refresh None = (refl, refl, refl)
 
-same_blank : (o : Option Row) → (link_in (or_blank o) ≡ link_in o) × (code_in (or_blank o) ≡ code_in o) × (count_in (or_blank o) ≡ count_in o) × (first_in (or_blank o) ≡ first_in o) × (next_in (or_blank o) ≡ next_in o)
-same_blank None = (refl, refl, refl, refl, refl)
-same_blank (Some r) = (refl, refl, refl, refl, refl)
+same_blank : (o : Option Row) → (link_in (or_blank o) ≡ link_in o) × (code_in (or_blank o) ≡ code_in o) × (count_in (or_blank o) ≡ count_in o) × (first_in (or_blank o) ≡ first_in o)
+same_blank None = (refl, refl, refl, refl)
+same_blank (Some r) = (refl, refl, refl, refl)
 
 -- adding a blank row changes no column
 pub Alike-blank : (T N : Rows) (at : Dot) → ((q : Dot) → N q ≡ cond (dot_eq at q) (or_blank (T q)) (T q)) → Alike T N
@@ -60,7 +58,6 @@ Alike-blank T N at h = record {
   code = λ q. ap code_in (h q) ∙ column code_in (dot_eq at q) (or_blank (T q)) (T q) (same_blank (T q)).1;
   count = λ q. ap count_in (h q) ∙ column count_in (dot_eq at q) (or_blank (T q)) (T q) (same_blank (T q)).2;
   first = λ q. ap first_in (h q) ∙ column first_in (dot_eq at q) (or_blank (T q)) (T q) (same_blank (T q)).3;
-  next = λ q. ap next_in (h q) ∙ column next_in (dot_eq at q) (or_blank (T q)) (T q) (same_blank (T q)).4;
   marked = λ q k. ap (λ (o : Option Row). marked_in o k) (h q) ∙ column (λ (o : Option Row). marked_in o k) (dot_eq at q) (or_blank (T q)) (T q) (flag_blank k (T q)).0;
   used = λ q k. ap (λ (o : Option Row). used_in o k) (h q) ∙ column (λ (o : Option Row). used_in o k) (dot_eq at q) (or_blank (T q)) (T q) (flag_blank k (T q)).1;
   again = λ q k. ap (λ (o : Option Row). again_in o k) (h q) ∙ column (λ (o : Option Row). again_in o k) (dot_eq at q) (or_blank (T q)) (T q) (flag_blank k (T q)).2;
@@ -72,7 +69,6 @@ Alike-same T N h = record {
   code = λ q. ap code_in (h q);
   count = λ q. ap count_in (h q);
   first = λ q. ap first_in (h q);
-  next = λ q. ap next_in (h q);
   marked = λ q k. ap (λ (o : Option Row). marked_in o k) (h q);
   used = λ q k. ap (λ (o : Option Row). used_in o k) (h q);
   again = λ q k. ap (λ (o : Option Row). again_in o k) (h q);
@@ -84,7 +80,6 @@ Alike-then T M N a b = record {
   code = λ q. b.code q ∙ a.code q;
   count = λ q. b.count q ∙ a.count q;
   first = λ q. b.first q ∙ a.first q;
-  next = λ q. b.next q ∙ a.next q;
   marked = λ q k. b.marked q k ∙ a.marked q k;
   used = λ q k. b.used q k ∙ a.used q k;
   again = λ q k. b.again q k ∙ a.again q k;
@@ -96,7 +91,6 @@ Alike-back T N a = record {
   code = λ q. sym (a.code q);
   count = λ q. sym (a.count q);
   first = λ q. sym (a.first q);
-  next = λ q. sym (a.next q);
   marked = λ q k. sym (a.marked q k);
   used = λ q k. sym (a.used q k);
   again = λ q k. sym (a.again q k);
@@ -130,7 +124,6 @@ blank_is row h =
     let f = and_parts _ _ e.1 in
     let g = and_parts _ _ f.1 in
     let i = and_parts _ _ g.1 in
-    let j = and_parts _ _ i.1 in
     λ x. record {
       link = none_if row.link a.0 x;
       code = none_if row.code b.0 x;
@@ -140,8 +133,7 @@ blank_is row h =
       marked_refresh = false_if row.marked_refresh f.0 x;
       redeemed = never_if row.redeemed g.0 x;
       rotated = never_if row.rotated i.0 x;
-      first = none_if row.first j.0 x;
-      next = none_if row.next j.1 x;
+      first = none_if row.first i.1 x;
     }
 
 -- the row was blank or absent
@@ -167,7 +159,6 @@ pub record AlikeButMarks (T N : Rows) : Type 0 where
   pub link : (q : Dot) → link_in (N q) ≡ link_in (T q)
   pub code : (q : Dot) → code_in (N q) ≡ code_in (T q)
   pub first : (q : Dot) → first_in (N q) ≡ first_in (T q)
-  pub next : (q : Dot) → next_in (N q) ≡ next_in (T q)
   pub used : (q : Dot) (j : Kind) → used_in (N q) j ≡ used_in (T q) j
   pub again : (q : Dot) (j : Kind) → again_in (N q) j ≡ again_in (T q) j
 
@@ -176,17 +167,6 @@ within_same f g same d l h = same d ∙ h
 
 within_back : (f g : Links) → ((q : Dot) → g q ≡ f q) → LinksWithin g f
 within_back f g same d l h = sym (same d) ∙ h
-
-pub Hangs-same : (T N : Rows) (p : Dot) → ((q : Dot) → link_in (N q) ≡ link_in (T q)) → ((q : Dot) → first_in (N q) ≡ first_in (T q)) → ((q : Dot) → next_in (N q) ≡ next_in (T q)) → Hangs T p → Hangs N p
-Hangs-same T N p link first next h = record {
-  list = h.list;
-  chain = subst (λ (o : Option Dot). IsChain (λ q. next_in (N q)) o h.list) (sym (first p)) (IsChain-same (λ q. next_in (T q)) (λ q. next_in (N q)) (first_in (T p)) h.list h.chain (λ e e_in. next e));
-  names = record {
-    sound = λ e e_in. ap named_of (link e) ∙ h.names.sound e e_in;
-    all = λ e names. h.names.all e (sym (ap named_of (link e)) ∙ names);
-    distinct = h.names.distinct;
-  };
-}
 
 pub IsForest-kept : (T N : Rows) → IsForest T → AlikeButMarks T N → IsCounted N → IsForest N
 IsForest-kept T N t p counted =
@@ -200,11 +180,10 @@ IsForest-kept T N t p counted =
       uses = λ j u. p.used j.dot j.kind ∙ t.uses j (record { user = u.user; by = sym (ap use_of (p.link u.user)) ∙ u.by });
       again = λ j h. IsTwice-within (links_of T) (links_of N) w j (t.again j (sym (p.again j.dot j.kind) ∙ h));
       twice = λ j h. p.again j.dot j.kind ∙ t.twice j (IsTwice-within (links_of N) (links_of T) back j h);
-      hangs = λ r. Hangs-same T N r p.link p.first p.next (t.hangs r);
     }
 
 pub IsForest-alike : (T N : Rows) → IsForest T → Alike T N → IsForest N
-IsForest-alike T N t a = IsForest-kept T N t (record { link = a.link; code = a.code; first = a.first; next = a.next; used = a.used; again = a.again })
+IsForest-alike T N t a = IsForest-kept T N t (record { link = a.link; code = a.code; first = a.first; used = a.used; again = a.again })
     (IsCounted-same T N (λ q. blamed-same (T q) (N q) (bad-same (T q) (N q) (a.link q) (a.marked q) (a.again q)) (a.code q)) a.count t.bads)
 
 -- ---- the code of a new link
@@ -267,10 +246,10 @@ pub chain-none : (T : Rows) (g : Links) (d : Dot) (l : Link) → IsForest T → 
 chain-none T g d l t a none c u = let clash : Some c ≡ None = sym (chain-path T g d l u.path c t a u.leads) ∙ none in cc
 
 pub NothingSeen-then : (T M N : Rows) → NothingSeen T M → NothingSeen M N → NothingSeen T N
-NothingSeen-then T M N a b = record { forest = b.forest; links = λ q. b.links q ∙ a.links q; marks = λ k. b.marks k ∙ a.marks k }
+NothingSeen-then T M N a b = record { forest = b.forest; first = λ q. b.first q ∙ a.first q; links = λ q. b.links q ∙ a.links q; marks = λ k. b.marks k ∙ a.marks k }
 
 pub NothingSeen-alike : (T N : Rows) → IsForest T → Alike T N → NothingSeen T N
-NothingSeen-alike T N t a = record { forest = IsForest-alike T N t a; links = a.link; marks = λ k. a.marked k.dot k.kind }
+NothingSeen-alike T N t a = record { forest = IsForest-alike T N t a; first = a.first; links = a.link; marks = λ k. a.marked k.dot k.kind }
 
 blank_there : (o : Option Row) → IsSome (or_blank o)
 blank_there None = refl

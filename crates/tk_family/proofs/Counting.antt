@@ -17,7 +17,7 @@ use Rattle.tk_family.specs.Rows.{RowMap, Rows, table, link_in, code_in, count_in
 use Rattle.tk_family.specs.Writes.{bads}
 use Rattle.tk_family.proofs.DotLaws.{dots_equiv, dot_eq-same, dot_eq-apart, cases_dots, has-cons, has-here, has-there, has-append, has-left, has-right, IsDistinct-append}
 use Rattle.tk_family.proofs.EntryLaws.{entries_table}
-use Rattle.tk_family.proofs.Hanging.{has-filter, filter-has, IsDistinct-filter, apart_all}
+use Rattle.tk_family.proofs.Filters.{has-filter, filter-has, IsDistinct-filter, apart_all}
 
 -- ---- counts
 

@@ -1,10 +1,8 @@
 -- What the rows of a forest keep is kept when a link is put and when a token is marked.
 --   Grown                  the dots that a link brought under a code
---   PutRows, PutChains     the rows and chains after a link was put
-use Rattle.std.proofs.Common.{◌≡◌, ◌≢◌, ◌⊎◌, inl, inr, true, false, cond, Option, None, Some, List, [], ◌∷◌, ◌||◌, ◌&&◌, ap, sym, ◌∙◌, refl, subst}
-use Rattle.std.proofs.lemmas.Bool.{true≢false, cases_Bool, or_cases, or_left, or_right, false_from_ne_true, cond-true, cond-false, and_parts, and_from, or_parts}
-use Rattle.std.specs.List.{AllByRecursion}
-use Rattle.std.proofs.lemmas.Map.Keys.{IsDistinct-cons}
+--   PutRows                the rows after a link was put
+use Rattle.std.proofs.Common.{◌≡◌, ◌⊎◌, inl, inr, true, cond, Option, None, Some, List, [], ◌∷◌, ◌||◌, ◌&&◌, ap, sym, ◌∙◌, refl, subst}
+use Rattle.std.proofs.lemmas.Bool.{true≢false, cases_Bool, or_cases, or_left, or_right, cond-true, cond-false, and_parts, and_from}
 use Rattle.tk_handle.specs.declared.dot.Dot.{Dot}
 use Rattle.tk_handle.specs.declared.kind.Kind.{Kind}
 use Rattle.tk_handle.specs.declared.kind.Kind.TheVariants as kind
@@ -13,12 +11,12 @@ use Rattle.tk_family.specs.Laws.{passing}
 use Rattle.tk_family.specs.declared.link.Link.{Link}
 use Rattle.tk_family.specs.declared.link.Link.TheVariants.{Code, Redeems, Rotates}
 use Rattle.tk_family.specs.Dots.{dot_eq, has}
-use Rattle.tk_family.specs.Families.{Links, used_by, named_by, grant_at, use_of, IsParent, IsPath, IsUnder, IsTwice, IsBad, IsDead, LinksWithin, IsUsed}
+use Rattle.tk_family.specs.Families.{Links, used_by, grant_at, use_of, IsParent, IsPath, IsUnder, IsTwice, IsBad, IsDead, LinksWithin, IsUsed}
 use Rattle.tk_family.specs.Uses.{is_code, is_refresh, uses_it}
 use Rattle.tk_family.specs.Counts.{IsCounted}
-use Rattle.tk_family.specs.Rows.{Rows, code_in, dead_in, first_in, next_in, used_in, again_in, bad_at, bad_in, blamed_in, links_of, marks_of, named_of}
-use Rattle.tk_family.specs.Kept.{IsChain, NamesAll, Hangs, IsForest}
-use Rattle.tk_family.proofs.DotLaws.{cases_dots, has-cons, has-here, has-there, dot_eq-true, dot_eq-same}
+use Rattle.tk_family.specs.Rows.{Rows, code_in, dead_in, used_in, again_in, bad_at, bad_in, blamed_in, links_of, marks_of}
+use Rattle.tk_family.specs.Kept.{IsForest}
+use Rattle.tk_family.proofs.DotLaws.{cases_dots, dot_eq-true, dot_eq-same}
 use Rattle.tk_family.proofs.Adding.{Adds, Within-adds, IsPath-adds, alone, below_under}
 use Rattle.tk_family.proofs.FamilyLaws.{IsUnder-one, IsUnder-within, IsTwice-within, use_of-within}
 use Rattle.tk_family.proofs.Counting.{blamed-bad, blamed-parts, count-some, some-count}
@@ -84,12 +82,6 @@ IsTwice-new f g d l a k uses u = record {
   by_one = ap use_of a.here ∙ uses;
   by_two = use_of-within f g (Within-adds f g d l a) u.user (f u.user) k refl u.by;
 }
-
--- ---- chains
-
-pub IsChain-same : (m n : Dot → Option Dot) (cursor : Option Dot) (list : List Dot) → IsChain m cursor list → ((e : Dot) → has list e ≡ true → n e ≡ m e) → IsChain n cursor list
-IsChain-same m n cursor [] h same = h
-IsChain-same m n cursor (e ∷ es) h same = (h.0, rw (same e (has-here e es)) (IsChain-same m n (m e) es h.1 (λ q q_in. same q (has-there e es q q_in))))
 
 -- ---- bad tokens
 
@@ -159,7 +151,6 @@ pub record PutRows (T N : Rows) (d : Dot) (l : Link) (c0 : Dot) (ys : List Dot) 
   pub code : (q : Dot) → code_in (N q) ≡ cond (has ys q) (Some c0) (code_in (T q))
   pub used_is : (k : TokenId) → used_in (N k.dot) k.kind ≡ (used_in (T k.dot) k.kind || uses_it l k)
   pub again_is : (k : TokenId) → again_in (N k.dot) k.kind ≡ (again_in (T k.dot) k.kind || (uses_it l k && used_in (T k.dot) k.kind))
-  pub chains : (p : Dot) → Hangs N p
   pub bads : IsCounted N
 
 put-again : (T N : Rows) (d : Dot) (l : Link) (c0 : Dot) (ys : List Dot) → IsForest T → PutRows T N d l c0 ys → (k : TokenId) → again_in (N k.dot) k.kind ≡ true → IsTwice (links_of N) k
@@ -205,84 +196,4 @@ IsForest-put T N d l c0 ys t p =
       ]);
       again = put-again T N d l c0 ys t p;
       twice = put-twice T N d l c0 ys t p;
-      hangs = p.chains;
     }
-
--- ---- the chains after a link was put
-
--- N has the chains of T, but d is now the first of those that name p
-pub record PutChains (T N : Rows) (d p : Dot) (l : Link) : Type 0 where
-  pub names : named_by l ≡ Some p
-  pub next_here : next_in (N d) ≡ first_in (T p)
-  pub next_old : (q : Dot) → q ≢ d → next_in (N q) ≡ next_in (T q)
-  pub first_here : first_in (N p) ≡ Some d
-  pub first_old : (q : Dot) → q ≢ p → first_in (N q) ≡ first_in (T q)
-
--- d is in no chain before it has a link
-fresh : (f g : Links) (d : Dot) (l : Link) → Adds f g d l → (p : Dot) (list : List Dot) → NamesAll f p list → has list d ≡ false
-fresh f g d l a p list n = false_from_ne_true (has list d) (λ h. let clash : None ≡ Some p = sym (ap named_of a.free) ∙ n.sound d h in cc)
-
-not_fresh : (f g : Links) (d : Dot) (l : Link) → Adds f g d l → (p : Dot) (list : List Dot) → NamesAll f p list → (e : Dot) → has list e ≡ true → e ≢ d
-not_fresh f g d l a p list n e h same = true≢false (sym (subst (λ (y : Dot). has list y ≡ true) same h) ∙ fresh f g d l a p list n)
-
-pub all_apart : (d : Dot) (list : List Dot) → has list d ≡ false → AllByRecursion (λ y. dot_eq d y ≡ false) list
-all_apart d [] h = tt
-all_apart d (x ∷ xs) h = let parts : (dot_eq d x ≡ false) × (has xs d ≡ false) = or_parts _ _ h in (parts.0, all_apart d xs parts.1)
-
-pub Hangs-put : (T N : Rows) (d p : Dot) (l : Link) → Adds (links_of T) (links_of N) d l → PutChains T N d p l → (r : Dot) → Hangs T r → Hangs N r
-Hangs-put T N d p l a c r h =
-    let frame : (e : Dot) → has h.list e ≡ true → next_in (N e) ≡ next_in (T e) = λ e e_in. c.next_old e (not_fresh (links_of T) (links_of N) d l a r h.list h.names e e_in) in
-    let kept : (e : Dot) → has h.list e ≡ true → named_of (links_of N e) ≡ Some r = λ e e_in. ap named_of (a.others e (not_fresh (links_of T) (links_of N) d l a r h.list h.names e e_in)) ∙ h.names.sound e e_in in
-    elim (cases_dots r p) [
-      | inl same ↦ record {
-        list = d ∷ h.list;
-        chain = (
-          ap (λ (y : Dot). first_in (N y)) same ∙ c.first_here,
-          subst (λ (o : Option Dot). IsChain (λ q. next_in (N q)) o h.list) (ap (λ (y : Dot). first_in (T y)) same ∙ sym c.next_here)
-              (IsChain-same (λ q. next_in (T q)) (λ q. next_in (N q)) (first_in (T r)) h.list h.chain frame),
-        );
-        names = record {
-          sound = λ e e_in. elim (has-cons d h.list e e_in) [
-            | inl first ↦ ap (λ (y : Dot). named_of (links_of N y)) first ∙ (ap named_of a.here ∙ (c.names ∙ ap (λ (y : Dot). Some y) (sym same)))
-            | inr more ↦ kept e more
-          ];
-          all = λ e e_names. elim (cases_dots e d) [
-            | inl first ↦ subst (λ (y : Dot). has (d ∷ h.list) y ≡ true) (sym first) (has-here d h.list)
-            | inr ne ↦ has-there d h.list e (h.names.all e (sym (ap named_of (a.others e ne)) ∙ e_names))
-          ];
-          distinct = IsDistinct-cons dot_eq d h.list (all_apart d h.list (fresh (links_of T) (links_of N) d l a r h.list h.names)) h.names.distinct;
-        };
-      }
-      | inr apart ↦ record {
-        list = h.list;
-        chain = subst (λ (o : Option Dot). IsChain (λ q. next_in (N q)) o h.list) (sym (c.first_old r apart))
-            (IsChain-same (λ q. next_in (T q)) (λ q. next_in (N q)) (first_in (T r)) h.list h.chain frame);
-        names = record {
-          sound = kept;
-          all = λ e e_names. elim (cases_dots e d) [
-            | inl first ↦
-                let clash : Some p ≡ Some r = sym c.names ∙ (sym (ap named_of a.here) ∙ (sym (ap (λ (y : Dot). named_of (links_of N y)) first) ∙ e_names)) in
-                let other : p ≡ r = cc in
-                absurd (apart (sym other))
-            | inr ne ↦ h.names.all e (sym (ap named_of (a.others e ne)) ∙ e_names)
-          ];
-          distinct = h.names.distinct;
-        };
-      }
-    ]
-
--- a code is put into no chain
-pub Hangs-code : (T N : Rows) (d : Dot) → Adds (links_of T) (links_of N) d Code → ((q : Dot) → q ≢ d → N q ≡ T q) → ((q : Dot) → first_in (N q) ≡ first_in (T q)) → (r : Dot) → Hangs T r → Hangs N r
-Hangs-code T N d a apart first r h = record {
-  list = h.list;
-  chain = subst (λ (o : Option Dot). IsChain (λ q. next_in (N q)) o h.list) (sym (first r))
-      (IsChain-same (λ q. next_in (T q)) (λ q. next_in (N q)) (first_in (T r)) h.list h.chain (λ e e_in. ap next_in (apart e (not_fresh (links_of T) (links_of N) d Code a r h.list h.names e e_in))));
-  names = record {
-    sound = λ e e_in. ap named_of (a.others e (not_fresh (links_of T) (links_of N) d Code a r h.list h.names e e_in)) ∙ h.names.sound e e_in;
-    all = λ e names. elim (cases_dots e d) [
-      | inl same ↦ absurd (let clash : None ≡ Some r = sym (ap named_of a.here) ∙ (sym (ap (λ (y : Dot). named_of (links_of N y)) same) ∙ names) in cc)
-      | inr ne ↦ h.names.all e (sym (ap named_of (a.others e ne)) ∙ names)
-    ];
-    distinct = h.names.distinct;
-  };
-}

@@ -1,192 +1,138 @@
--- Going along the chain of the dots that name a dot (`Pushing`, the loop's invariant).
-use Rattle.std.specs.FinMap as map
-use Rattle.std.proofs.Common.{◌≡◌, ◌≢◌, inl, inr, ℕ, ◌+◌, ◌-◌, ◌<◌, ◌≤◌, Bool, true, false, cond, Option, None, Some, List, [], ◌∷◌, ◌++◌, length, filter, ap, sym, ◌∙◌, refl, arith, subst, append_assoc, append-nil, length-append, IsSome, rules}
-use Rattle.std.proofs.lemmas.Bool.{true≢false, cases_Bool, cond-true, cond-false, false_from_ne_true}
-use Rattle.std.proofs.lemmas.Map.Steps.{length-le_from_keys}
-use Rattle.std.proofs.lemmas.Map.Keys.{IsDistinct-cons, IsDistinct-head, IsDistinct-tail}
-use Rattle.std.specs.List.{IsDistinct, AllByRecursion}
+-- Going through the children of a dot (`Pushing`, the loop's invariant).
+use Rattle.std.proofs.Common.{◌≡◌, inl, inr, ℕ, ◌+◌, ◌<◌, ◌≤◌, Bool, true, false, not, cond, Option, None, Some, List, [], ◌∷◌, ◌++◌, length, filter, ap, sym, ◌∙◌, refl, arith, subst, append_assoc, append-nil, length-append}
+use Rattle.std.proofs.lemmas.Bool.{true≢false, cases_Bool, false_from_ne_true, and_parts, and_from}
+use Rattle.std.proofs.lemmas.Map.Keys.{IsDistinct-cons}
+use Rattle.std.specs.BTreeSet.{BTreeSet, IsOrdered}
+use Rattle.std.specs.List.{IsDistinct}
 use Rattle.tk_handle.specs.declared.dot.Dot.{Dot}
+use Rattle.tk_handle.specs.declared.token_id.TokenId.{TokenId}
+use Rattle.tk_family.specs.declared.children.Child.{Child}
 use Rattle.tk_family.specs.declared.link.Link.{Link}
-use Rattle.tk_family.specs.declared.row.Row.{Row}
+use Rattle.tk_family.specs.declared.link.Link.TheVariants.{Code, Redeems, Rotates}
+use Rattle.tk_family.specs.Children.{child_cmp, token_at, others_in, users_in}
 use Rattle.tk_family.specs.Dots.{dot_eq, has}
-use Rattle.tk_family.specs.Rows.{RowMap, Rows, table, link_in, next_in, first_in, links_of, named_of}
-use Rattle.tk_family.specs.Kept.{IsChain, NamesAll, Hangs}
-use Rattle.tk_family.specs.Puts.{fits_at, Pushes}
+use Rattle.tk_family.specs.Families.{Links}
+use Rattle.tk_family.specs.Kept.{has_dot, Hangs}
+use Rattle.tk_family.specs.Puts.{fits_at, FitsAll, Pushes}
+use Rattle.tk_family.specs.Rows.{grant_kind, named_of}
 use Rattle.tk_family.specs.Takes.{IsShort}
-use Rattle.tk_family.proofs.DotLaws.{dots_equiv, has-cons, has-here, has-there, list_none, dot_eq-apart}
-use Rattle.tk_family.proofs.EntryLaws.{entries_table}
+use Rattle.tk_family.specs.Uses.{uses_by}
+use Rattle.tk_family.proofs.DotLaws.{has-cons, has-here, has-there, dot_eq-same, dot_eq-true}
+use Rattle.tk_family.proofs.Filters.{has-filter, filter-has, apart_all, IsDistinct-filter, filter-push, joined, length-filter-kept}
+use Rattle.tk_family.proofs.ChildLaws.{dots_of, users-has, has-users, users-distinct}
+use Rattle.tk_family.proofs.UseLaws.{uses_named}
 
--- ---- filters of lists of dots
+-- ---- the children that may fit
 
-pub has-filter : (p : Dot → Bool) (xs : List Dot) (q : Dot) → has (filter p xs) q ≡ true → (has xs q ≡ true) × (p q ≡ true)
-has-filter p [] q h = absurd (true≢false (sym h))
-has-filter p (x ∷ xs) q h = elim (cases_Bool (p x)) [
-  | inl kept ↦ elim (has-cons x (filter p xs) q (sym (ap (λ (l : List Dot). has l q) (cond-true (p x) (x ∷ filter p xs) (filter p xs) kept)) ∙ h)) [
-    | inl same ↦ (subst (λ (y : Dot). has (x ∷ xs) y ≡ true) (sym same) (has-here x xs), ap p same ∙ kept)
-    | inr more ↦ let r : (has xs q ≡ true) × (p q ≡ true) = has-filter p xs q more in (has-there x xs q r.0, r.1)
-  ]
-  | inr left ↦ let r : (has xs q ≡ true) × (p q ≡ true) = has-filter p xs q (sym (ap (λ (l : List Dot). has l q) (cond-false (p x) (x ∷ filter p xs) (filter p xs) left)) ∙ h) in (has-there x xs q r.0, r.1)
-]
+-- the list has only dots whose links name x, and all that fit the link above
+pub record Candidates (f : Links) (x : Dot) (above : Link) (list : List Dot) : Type 0 where
+  pub sound : (e : Dot) → has list e ≡ true → named_of (f e) ≡ Some x
+  pub all : (e : Dot) → named_of (f e) ≡ Some x → fits_at (f e) above ≡ true → has list e ≡ true
+  pub distinct : IsDistinct dot_eq list
 
-pub filter-has : (p : Dot → Bool) (xs : List Dot) (q : Dot) → has xs q ≡ true → p q ≡ true → has (filter p xs) q ≡ true
-filter-has p [] q h kept = absurd (true≢false (sym h))
-filter-has p (x ∷ xs) q h kept = elim (has-cons x xs q h) [
-  | inl same ↦ ap (λ (l : List Dot). has l q) (cond-true (p x) (x ∷ filter p xs) (filter p xs) (sym (ap p same) ∙ kept)) ∙ subst (λ (y : Dot). has (y ∷ filter p xs) q ≡ true) same (has-here q (filter p xs))
-  | inr more ↦ elim (cases_Bool (p x)) [
-    | inl also ↦ ap (λ (l : List Dot). has l q) (cond-true (p x) (x ∷ filter p xs) (filter p xs) also) ∙ has-there x (filter p xs) q (filter-has p xs q more kept)
-    | inr left ↦ ap (λ (l : List Dot). has l q) (cond-false (p x) (x ∷ filter p xs) (filter p xs) left) ∙ filter-has p xs q more kept
-  ]
-]
+-- a link that fits the link above uses the grant that this mints
+fits_uses : (o : Option Link) (x : Dot) (above : Link) → named_of o ≡ Some x → fits_at o above ≡ true → uses_by o (token_at x (grant_kind above)) ≡ true
+fits_uses None x above names fit = absurd (true≢false (sym fit))
+fits_uses (Some Code) x above names fit = absurd (true≢false (sym fit))
+fits_uses (Some (Redeems c)) x Code names fit = let both : Some c ≡ Some x = names in let same : c ≡ x = cc in and_from _ _ (subst (λ (y : Dot). dot_eq c y ≡ true) same (dot_eq-same c)) refl
+fits_uses (Some (Redeems c)) x (Redeems e) names fit = absurd (true≢false (sym fit))
+fits_uses (Some (Redeems c)) x (Rotates e g) names fit = absurd (true≢false (sym fit))
+fits_uses (Some (Rotates c g)) x Code names fit = absurd (true≢false (sym fit))
+fits_uses (Some (Rotates c g)) x (Redeems e) names fit = let both : Some c ≡ Some x = names in let same : c ≡ x = cc in and_from _ _ (subst (λ (y : Dot). dot_eq c y ≡ true) same (dot_eq-same c)) refl
+fits_uses (Some (Rotates c g)) x (Rotates e h) names fit = let both : Some c ≡ Some x = names in let same : c ≡ x = cc in and_from _ _ (subst (λ (y : Dot). dot_eq c y ≡ true) same (dot_eq-same c)) refl
 
-pub apart_all : (y : Dot) (ys : List Dot) → has ys y ≡ false → AllByRecursion (λ z. dot_eq y z ≡ false) ys
-apart_all y [] h = tt
-apart_all y (z ∷ zs) h =
-    let ne : y ≢ z = λ same. true≢false (sym (subst (λ (w : Dot). has (w ∷ zs) y ≡ true) same (has-here y zs)) ∙ h) in
-    (dot_eq-apart y z ne, apart_all y zs (false_from_ne_true (has zs y) (λ more. true≢false (sym (has-there z zs y more) ∙ h))))
+-- the first child, if there is one
+abbrev pub listed : Option Dot → List Dot
+listed None = []
+listed (Some e) = e ∷ []
 
-pub IsDistinct-filter : (p : Dot → Bool) (xs : List Dot) → IsDistinct dot_eq xs → IsDistinct dot_eq (filter p xs)
-IsDistinct-filter p [] d = d
-IsDistinct-filter p (x ∷ xs) d =
-    let rest : IsDistinct dot_eq (filter p xs) = IsDistinct-filter p xs (IsDistinct-tail dot_eq x xs d) in
-    elim (cases_Bool (p x)) [
-      | inl kept ↦
-          let none : has (filter p xs) x ≡ false = false_from_ne_true (has (filter p xs) x) (λ h. true≢false (sym (has-filter p xs x h).0 ∙ list_none x xs (IsDistinct-head dot_eq x xs d))) in
-          subst (λ (l : List Dot). IsDistinct dot_eq l) (sym (cond-true (p x) (x ∷ filter p xs) (filter p xs) kept)) (IsDistinct-cons dot_eq x (filter p xs) (apart_all x (filter p xs) none) rest)
-      | inr left ↦ subst (λ (l : List Dot). IsDistinct dot_eq l) (sym (cond-false (p x) (x ∷ filter p xs) (filter p xs) left)) rest
-    ]
+-- the children of x that may fit: the first, and those in the set that use the grant
+pub Candidates-from : (f : Links) (first : Dot → Option Dot) (s : BTreeSet Child) (x : Dot) (above : Link) (o : Option Dot) → Hangs f first (others_in s) → IsOrdered child_cmp s → first x ≡ o → Candidates f x above (listed o ++ dots_of (users_in s (token_at x (grant_kind above))))
+Candidates-from f first s x above None h ordered is =
+    let t : TokenId = token_at x (grant_kind above) in
+    record {
+      sound = λ e e_in. uses_named (f e) t (and_parts _ _ (sym (h.rest t e) ∙ has-users s t e e_in)).0;
+      all = λ e names fit. absurd (h.none x e is names);
+      distinct = users-distinct s t ordered;
+    }
+Candidates-from f first s x above (Some y) h ordered is =
+    let t : TokenId = token_at x (grant_kind above) in
+    let ds : List Dot = dots_of (users_in s t) in
+    let apart : (e : Dot) → has ds e ≡ true → dot_eq y e ≡ false = λ e e_in. not_true (dot_eq y e) (ap (λ (o : Option Dot). not (has_dot o e)) (sym is) ∙ (and_parts _ _ (sym (h.rest t e) ∙ has-users s t e e_in)).1) in
+    let none : has ds y ≡ false = false_from_ne_true (has ds y) (λ y_in. true≢false (sym (dot_eq-same y) ∙ apart y y_in)) in
+    record {
+      sound = λ e e_in. elim (has-cons y ds e e_in) [
+        | inl same ↦ ap (λ (z : Dot). named_of (f z)) same ∙ h.named x y is
+        | inr more ↦ uses_named (f e) t (and_parts _ _ (sym (h.rest t e) ∙ has-users s t e more)).0
+      ];
+      all = λ e names fit. elim (cases_Bool (dot_eq y e)) [
+        | inl same ↦ subst (λ (z : Dot). has (y ∷ ds) z ≡ true) (dot_eq-true y e same) (has-here y ds)
+        | inr other ↦
+            let at : others_in s t e ≡ true = h.rest t e ∙ and_from _ _ (fits_uses (f e) x above names fit) (ap (λ (o : Option Dot). not (has_dot o e)) is ∙ ap not other) in
+            has-there y ds e (users-has s t e at (h.ranged t e at))
+      ];
+      distinct = IsDistinct-cons dot_eq y ds (apart_all y ds none) (users-distinct s t ordered);
+    }
+  where
+    not_true : (b : Bool) → not b ≡ true → b ≡ false
+    not_true true h = absurd (true≢false (sym h))
+    not_true false h = refl
 
-spread : (b : Bool) (x : Dot) (ys zs : List Dot) → x ∷ cond b ys zs ≡ cond b (x ∷ ys) (x ∷ zs)
-spread true x ys zs = refl
-spread false x ys zs = refl
+-- ---- the loop
 
-pub filter-push : (p : Dot → Bool) (xs : List Dot) (y : Dot) → filter p (xs ++ y ∷ []) ≡ cond (p y) (filter p xs ++ y ∷ []) (filter p xs)
-filter-push p [] y = elim (cases_Bool (p y)) [ inl h ↦ cond-true _ _ _ h ∙ sym (cond-true _ _ _ h) | inr h ↦ cond-false _ _ _ h ∙ sym (cond-false _ _ _ h) ]
-filter-push p (x ∷ xs) y = elim (cases_Bool (p x)) [
-  | inl h ↦ cond-true _ _ _ h ∙ (ap (λ (l : List Dot). x ∷ l) (filter-push p xs y) ∙ (spread (p y) x (filter p xs ++ y ∷ []) (filter p xs) ∙ ap (λ (l : List Dot). cond (p y) (l ++ y ∷ []) l) (sym (cond-true _ _ _ h))))
-  | inr h ↦ cond-false _ _ _ h ∙ (filter-push p xs y ∙ ap (λ (l : List Dot). cond (p y) (l ++ y ∷ []) l) (sym (cond-false _ _ _ h)))
-]
-
-joined : (b : Bool) (old kept : List Dot) (e : Dot) → cond b ((old ++ kept) ++ e ∷ []) (old ++ kept) ≡ old ++ cond b (kept ++ e ∷ []) kept
-joined true old kept e = append_assoc old kept (e ∷ [])
-joined false old kept e = refl
-
--- ---- the loop along the list
-
--- the invariant: the list has the fitting dots of those seen, and the rest of the chain goes on
--- from the cursor
-pub record Pushing (T : Rows) (x : Dot) (above : Link) (cursor : Option Dot) (old now : List Dot) (left : ℕ) : Type 0 where
+-- the invariant: the list has the fitting dots of those seen, and `rest` is left
+pub record Pushing (f : Links) (x : Dot) (above : Link) (rest old now : List Dot) : Type 0 where
   pub seen : List Dot
-  pub rest : List Dot
-  pub chain : IsChain (λ q. next_in (T q)) cursor rest
-  pub names : NamesAll (links_of T) x (seen ++ rest)
-  pub after : now ≡ old ++ filter (λ e. fits_at (links_of T e) above) seen
-  pub room : length rest ≤ left
+  pub names : Candidates f x above (seen ++ rest)
+  pub after : now ≡ old ++ filter (λ e. fits_at (f e) above) seen
 
-row_of : (o : Option Row) (x : Dot) → named_of (link_in o) ≡ Some x → IsSome o
-row_of None x h = absurd (cc)
-row_of (Some r) x h = search rules
+pub Pushing-starts : (f : Links) (x : Dot) (above : Link) (rest old : List Dot) → Candidates f x above rest → Pushing f x above rest old old
+Pushing-starts f x above rest old names = record { seen = []; names = names; after = sym (append-nil old) }
 
-some_row : (m : RowMap) (q x : Dot) → named_of (link_in (table m q)) ≡ Some x → IsSome (table m q)
-some_row m q x h = row_of (table m q) x h
+pub Pushing-turns : (f : Links) (x : Dot) (above : Link) (e : Dot) (rest old now then : List Dot) → Pushing f x above (e ∷ rest) old now → then ≡ cond (fits_at (f e) above) (now ++ e ∷ []) now → Pushing f x above rest old then
+Pushing-turns f x above e rest old now then p h =
+    let q : Dot → Bool = λ z. fits_at (f z) above in
+    record {
+      seen = p.seen ++ e ∷ [];
+      names = subst (λ (l : List Dot). Candidates f x above l) (sym (append_assoc p.seen (e ∷ []) rest)) p.names;
+      after = h ∙ (ap (λ (l : List Dot). cond (q e) (l ++ e ∷ []) l) p.after ∙ (joined (q e) old (filter q p.seen) e ∙ ap (λ (l : List Dot). old ++ l) (sym (filter-push q p.seen e))));
+    }
 
-pub Hangs-room : (m : RowMap) (x : Dot) (h : Hangs (table m) x) → length h.list ≤ map.len m
-Hangs-room m x h = subst (λ (n : ℕ). length h.list ≤ n) (sym (map.len-entries m)) (length-le_from_keys dots_equiv h.list (map.entries m) h.names.distinct (λ q q_in. subst IsSome (sym (entries_table m q)) (some_row m q x (h.names.sound q q_in))))
+FitsAll-candidates : (f : Links) (x : Dot) (above : Link) (list : List Dot) → Candidates f x above list → FitsAll f x above (filter (λ z. fits_at (f z) above) list)
+FitsAll-candidates f x above list n =
+    let q : Dot → Bool = λ z. fits_at (f z) above in
+    record {
+      names = λ e h. n.sound e (has-filter q list e h).0;
+      fitting = λ e h. (has-filter q list e h).1;
+      all = λ e names fitting. filter-has q list e (n.all e names fitting) fitting;
+      distinct = IsDistinct-filter q list n.distinct;
+    }
 
-pub Pushing-starts : (m : RowMap) (x : Dot) (above : Link) (old : List Dot) → Hangs (table m) x → Pushing (table m) x above (first_in (table m x)) old old (map.len m)
-Pushing-starts m x above old h = record {
-  seen = [];
-  rest = h.list;
-  chain = h.chain;
-  names = h.names;
-  after = sym (append-nil old);
-  room = Hangs-room m x h;
+pub Pushing-ends : (f : Links) (x : Dot) (above : Link) (old now : List Dot) → Pushing f x above [] old now → Pushes f x above old now
+Pushing-ends f x above old now p = record {
+  children = filter (λ z. fits_at (f z) above) p.seen;
+  after = p.after;
+  fit = FitsAll-candidates f x above p.seen (subst (λ (l : List Dot). Candidates f x above l) (append-nil p.seen) p.names);
 }
-
-more_of : (T : Rows) (e : Dot) (rest : List Dot) (left : ℕ) → IsChain (λ q. next_in (T q)) (Some e) rest → length rest ≤ left → 1 ≤ left
-more_of T e [] left chain room = absurd (cc)
-more_of T e (y ∷ ys) left chain room = omega arith
-
-pub Pushing-more : (T : Rows) (x : Dot) (above : Link) (e : Dot) (old now : List Dot) (left : ℕ) → Pushing T x above (Some e) old now left → 1 ≤ left
-Pushing-more T x above e old now left p = more_of T e p.rest left p.chain p.room
-
-turned : (T : Rows) (x : Dot) (above : Link) (e : Dot) (old now then : List Dot) (left : ℕ) (seen rest : List Dot) → IsChain (λ q. next_in (T q)) (Some e) rest → NamesAll (links_of T) x (seen ++ rest) → now ≡ old ++ filter (λ e. fits_at (links_of T e) above) seen → length rest ≤ left → then ≡ cond (fits_at (links_of T e) above) (now ++ e ∷ []) now → Pushing T x above (next_in (T e)) old then (left - 1)
-turned T x above e old now then left seen [] chain names after room h = absurd (cc)
-turned T x above e old now then left seen (y ∷ ys) chain names after room h =
-    let p : Dot → Bool = λ z. fits_at (links_of T z) above in
-    let some : Some e ≡ Some y = chain.0 in
-    let same : e ≡ y = cc in
-    record {
-      seen = seen ++ e ∷ [];
-      rest = ys;
-      chain = subst (λ (z : Dot). IsChain (λ q. next_in (T q)) (next_in (T z)) ys) (sym same) chain.1;
-      names = subst (λ (l : List Dot). NamesAll (links_of T) x l) (ap (λ (z : Dot). seen ++ z ∷ ys) (sym same) ∙ sym (append_assoc seen (e ∷ []) ys)) names;
-      after = h ∙ (ap (λ (l : List Dot). cond (p e) (l ++ e ∷ []) l) after ∙ (joined (p e) old (filter p seen) e ∙ ap (λ (l : List Dot). old ++ l) (sym (filter-push p seen e))));
-      room = omega arith;
-    }
-
-pub Pushing-turns : (T : Rows) (x : Dot) (above : Link) (e : Dot) (old now then : List Dot) (left : ℕ) → Pushing T x above (Some e) old now left → then ≡ cond (fits_at (links_of T e) above) (now ++ e ∷ []) now → Pushing T x above (next_in (T e)) old then (left - 1)
-Pushing-turns T x above e old now then left p h = turned T x above e old now then left p.seen p.rest p.chain p.names p.after p.room h
-
-ended : (T : Rows) (x : Dot) (above : Link) (old now : List Dot) (seen rest : List Dot) → IsChain (λ q. next_in (T q)) None rest → NamesAll (links_of T) x (seen ++ rest) → now ≡ old ++ filter (λ e. fits_at (links_of T e) above) seen → Pushes (links_of T) x above old now
-ended T x above old now seen (y ∷ ys) chain names after = absurd (let clash : None ≡ Some y = chain.0 in cc)
-ended T x above old now seen [] chain names after =
-    let p : Dot → Bool = λ z. fits_at (links_of T z) above in
-    let n : NamesAll (links_of T) x seen = subst (λ (l : List Dot). NamesAll (links_of T) x l) (append-nil seen) names in
-    record {
-      children = filter p seen;
-      after = after;
-      fit = record {
-        names = λ e h. n.sound e (has-filter p seen e h).0;
-        fitting = λ e h. (has-filter p seen e h).1;
-        all = λ e names fitting. filter-has p seen e (n.all e names) fitting;
-        distinct = IsDistinct-filter p seen n.distinct;
-      };
-    }
-
-pub Pushing-ends : (T : Rows) (x : Dot) (above : Link) (old now : List Dot) (left : ℕ) → Pushing T x above None old now left → Pushes (links_of T) x above old now
-Pushing-ends T x above old now left p = ended T x above old now p.seen p.rest p.chain p.names p.after
 
 -- ---- a list that has no room for the children
 
-length-filter-kept : (p : Dot → Bool) (seen : List Dot) (e : Dot) (rest : List Dot) → p e ≡ true → length (filter p seen) < length (filter p (seen ++ e ∷ rest))
-length-filter-kept p [] e rest kept =
-    let one : filter p (e ∷ rest) ≡ e ∷ filter p rest = cond-true _ _ _ kept in
-    let long : length (filter p (e ∷ rest)) ≡ length (e ∷ filter p rest) = ap length one in
-    omega arith
-length-filter-kept p (x ∷ xs) e rest kept = elim (cases_Bool (p x)) [
-  | inl h ↦
-      let a : length (filter p (x ∷ xs)) ≡ length (x ∷ filter p xs) = ap length (cond-true _ _ _ h) in
-      let b : length (filter p (x ∷ (xs ++ e ∷ rest))) ≡ length (x ∷ filter p (xs ++ e ∷ rest)) = ap length (cond-true _ _ _ h) in
-      let less : length (filter p xs) < length (filter p (xs ++ e ∷ rest)) = length-filter-kept p xs e rest kept in
-      omega arith
-  | inr h ↦
-      let a : length (filter p (x ∷ xs)) ≡ length (filter p xs) = ap length (cond-false _ _ _ h) in
-      let b : length (filter p (x ∷ (xs ++ e ∷ rest))) ≡ length (filter p (xs ++ e ∷ rest)) = ap length (cond-false _ _ _ h) in
-      let less : length (filter p xs) < length (filter p (xs ++ e ∷ rest)) = length-filter-kept p xs e rest kept in
-      omega arith
-]
-
-short : (T : Rows) (x : Dot) (above : Link) (e : Dot) (old now : List Dot) (room : ℕ) (seen rest : List Dot) → IsChain (λ q. next_in (T q)) (Some e) rest → NamesAll (links_of T) x (seen ++ rest) → now ≡ old ++ filter (λ e. fits_at (links_of T e) above) seen
-    → fits_at (links_of T e) above ≡ true → room ≤ length now → IsShort (links_of T) x above old room
-short T x above e old now room seen [] chain names after kept full = absurd (cc)
-short T x above e old now room seen (y ∷ ys) chain names after kept full =
-    let p : Dot → Bool = λ z. fits_at (links_of T z) above in
-    let some : Some e ≡ Some y = chain.0 in
-    let same : e ≡ y = cc in
-    let all : List Dot = filter p (seen ++ y ∷ ys) in
-    let less : length (filter p seen) < length all = length-filter-kept p seen y ys (ap p (sym same) ∙ kept) in
-    let so_long : length now ≡ length old + length (filter p seen) = ap length after ∙ length-append old (filter p seen) in
+pub Pushing-short : (f : Links) (x : Dot) (above : Link) (e : Dot) (rest old now : List Dot) (room : ℕ) → Pushing f x above (e ∷ rest) old now → fits_at (f e) above ≡ true → room ≤ length now → IsShort f x above old room
+Pushing-short f x above e rest old now room p kept full =
+    let q : Dot → Bool = λ z. fits_at (f z) above in
+    let all : List Dot = filter q (p.seen ++ e ∷ rest) in
+    let less : length (filter q p.seen) < length all = length-filter-kept q p.seen e rest kept in
+    let so_long : length now ≡ length old + length (filter q p.seen) = ap length p.after ∙ length-append old (filter q p.seen) in
     let long : length (old ++ all) ≡ length old + length all = length-append old all in
-    record {
-      children = all;
-      fit = record {
-        names = λ z h. names.sound z (has-filter p (seen ++ y ∷ ys) z h).0;
-        fitting = λ z h. (has-filter p (seen ++ y ∷ ys) z h).1;
-        all = λ z named fitting. filter-has p (seen ++ y ∷ ys) z (names.all z named) fitting;
-        distinct = IsDistinct-filter p (seen ++ y ∷ ys) names.distinct;
-      };
-      short = omega arith;
-    }
+    record { children = all; fit = FitsAll-candidates f x above (p.seen ++ e ∷ rest) p.names; short = omega arith }
 
-pub Pushing-short : (T : Rows) (x : Dot) (above : Link) (e : Dot) (old now : List Dot) (left room : ℕ) → Pushing T x above (Some e) old now left → fits_at (links_of T e) above ≡ true → room ≤ length now → IsShort (links_of T) x above old room
-Pushing-short T x above e old now left room p kept full = short T x above e old now room p.seen p.rest p.chain p.names p.after kept full
+-- ---- the start of the loop
+
+-- the first child and the entries of the span are the candidates
+pub Pushing-from : (f : Links) (first : Dot → Option Dot) (s : BTreeSet Child) (x : Dot) (above : Link) (o : Option Dot) (cs : List Child) (old : List Dot) → Hangs f first (others_in s) → IsOrdered child_cmp s → first x ≡ o → cs ≡ users_in s (token_at x (grant_kind above)) → Pushing f x above (listed o ++ dots_of cs) old old
+Pushing-from f first s x above o cs old h ordered is span = Pushing-starts f x above (listed o ++ dots_of cs) old
+    (subst (λ (l : List Child). Candidates f x above (listed o ++ dots_of l)) (sym span) (Candidates-from f first s x above o h ordered is))
+
+-- the first child is pushed
+pub Pushing-first : (f : Links) (x : Dot) (above : Link) (o : Option Dot) (e : Dot) (rest old then : List Dot) → o ≡ Some e → Pushing f x above (listed o ++ rest) old old → then ≡ cond (fits_at (f e) above) (old ++ e ∷ []) old → Pushing f x above rest old then
+Pushing-first f x above o e rest old then is p h = Pushing-turns f x above e rest old old then (subst (λ (q : Option Dot). Pushing f x above (listed q ++ rest) old old) is p) h

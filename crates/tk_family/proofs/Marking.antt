@@ -14,7 +14,7 @@ use Rattle.tk_family.specs.Dots.{dot_eq}
 use Rattle.tk_family.specs.Counts.{IsCounted, IsCountedAs, AlikeButCount}
 use Rattle.tk_family.specs.Families.{IsUnder}
 use Rattle.tk_family.specs.Tops.{IsTop}
-use Rattle.tk_family.specs.Rows.{Rows, link_in, code_in, count_in, first_in, next_in, marked_in, used_in, again_in, bad_in, blamed_in, links_of, marks_of}
+use Rattle.tk_family.specs.Rows.{Rows, link_in, code_in, count_in, first_in, marked_in, used_in, again_in, bad_in, blamed_in, links_of, marks_of}
 use Rattle.tk_family.specs.Kept.{IsForest}
 use Rattle.tk_family.specs.Writes.{with_marked}
 use Rattle.tk_family.specs.Puts.{MarksOne, NothingSeen}
@@ -24,11 +24,11 @@ use Rattle.tk_family.proofs.Counting.{IsCountedAs-from}
 use Rattle.tk_family.proofs.Putting.{RowAt, row_at}
 use Rattle.tk_family.proofs.Assembly.{IsPath-code, row_with}
 
-marked_cols : (o : Option Row) (k : Kind) → (link_in (with_marked o k) ≡ link_in o) × (code_in (with_marked o k) ≡ code_in o) × (count_in (with_marked o k) ≡ count_in o) × (first_in (with_marked o k) ≡ first_in o) × (next_in (with_marked o k) ≡ next_in o)
-marked_cols None k = (refl, refl, refl, refl, refl)
-marked_cols (Some r) kind.Code = (refl, refl, refl, refl, refl)
-marked_cols (Some r) kind.Access = (refl, refl, refl, refl, refl)
-marked_cols (Some r) kind.Refresh = (refl, refl, refl, refl, refl)
+marked_cols : (o : Option Row) (k : Kind) → (link_in (with_marked o k) ≡ link_in o) × (code_in (with_marked o k) ≡ code_in o) × (count_in (with_marked o k) ≡ count_in o) × (first_in (with_marked o k) ≡ first_in o)
+marked_cols None k = (refl, refl, refl, refl)
+marked_cols (Some r) kind.Code = (refl, refl, refl, refl)
+marked_cols (Some r) kind.Access = (refl, refl, refl, refl)
+marked_cols (Some r) kind.Refresh = (refl, refl, refl, refl)
 
 marked_flags : (o : Option Row) (k j : Kind) → (used_in (with_marked o k) j ≡ used_in o j) × (again_in (with_marked o k) j ≡ again_in o j)
 marked_flags None k j = (refl, refl)
@@ -80,7 +80,6 @@ AlikeButMarks-marked T S k h = record {
   link = λ q. ap link_in (h q) ∙ column link_in (dot_eq k.dot q) (with_marked (T q) k.kind) (T q) (marked_cols (T q) k.kind).0;
   code = λ q. ap code_in (h q) ∙ column code_in (dot_eq k.dot q) (with_marked (T q) k.kind) (T q) (marked_cols (T q) k.kind).1;
   first = λ q. ap first_in (h q) ∙ column first_in (dot_eq k.dot q) (with_marked (T q) k.kind) (T q) (marked_cols (T q) k.kind).3;
-  next = λ q. ap next_in (h q) ∙ column next_in (dot_eq k.dot q) (with_marked (T q) k.kind) (T q) (marked_cols (T q) k.kind).4;
   used = λ q j. ap (λ (o : Option Row). used_in o j) (h q) ∙ column (λ (o : Option Row). used_in o j) (dot_eq k.dot q) (with_marked (T q) k.kind) (T q) (marked_flags (T q) k.kind j).0;
   again = λ q j. ap (λ (o : Option Row). again_in o j) (h q) ∙ column (λ (o : Option Row). again_in o j) (dot_eq k.dot q) (with_marked (T q) k.kind) (T q) (marked_flags (T q) k.kind j).1;
 }
@@ -106,7 +105,6 @@ AlikeButMarks-then T S N a b = record {
   link = λ q. b.link q ∙ a.link q;
   code = λ q. b.code q ∙ a.code q;
   first = λ q. b.first q ∙ a.first q;
-  next = λ q. b.next q ∙ a.next q;
   used = λ q j. b.used q j ∙ a.used q j;
   again = λ q j. b.again q j ∙ a.again q j;
 }
@@ -117,6 +115,7 @@ MarksOne-from T S N k t present marks alike counted =
     let here : S k.dot ≡ with_marked (T k.dot) k.kind = marks k.dot ∙ cond-true _ _ _ (dot_eq-same k.dot) in
     record {
       forest = IsForest-kept T N t a counted;
+      first = a.first;
       links = a.link;
       here = alike.marked k.dot k.kind ∙ (ap (λ (o : Option Row). marked_in o k.kind) here ∙ marked_here (T k.dot) k.kind (row_at (T k.dot) present));
       old = λ j h. alike.marked j.dot j.kind ∙ (ap (λ (o : Option Row). marked_in o j.kind) (marks j.dot) ∙ (elim (cases_Bool (dot_eq k.dot j.dot)) [
@@ -136,6 +135,7 @@ MarksOne-from T S N k t present marks alike counted =
 pub MarksOne-seen : (T M N : Rows) (k : TokenId) → NothingSeen T M → MarksOne M N k → MarksOne T N k
 MarksOne-seen T M N k seen p = record {
   forest = p.forest;
+  first = λ q. p.first q ∙ seen.first q;
   links = λ q. p.links q ∙ seen.links q;
   here = p.here;
   old = λ j h. p.old j (seen.marks j ∙ h);

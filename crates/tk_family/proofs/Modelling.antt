@@ -1,10 +1,12 @@
 -- From the rows of a forest to the finite map and set that contracts see.
-use Rattle.std.proofs.Common.{◌≡◌, ◌≢◌, ◌&&◌, not, inl, inr, Bool, true, false, Option, None, Some, List, [], ap, sym, ◌∙◌, refl, subst, Result, Ok, Err, IfOk, OnOk, OnErr, ◌||◌, Vec, Global, rules}
+use Rattle.std.proofs.Common.{◌≡◌, ◌≢◌, ◌&&◌, not, inl, inr, Bool, true, false, Option, None, Some, List, [], ap, sym, ◌∙◌, refl, subst, Result, Ok, Err, IfOk, OnOk, OnErr, ◌||◌, Vec, Global}
 use Rattle.std.specs.Cmp.{IsEquivalence, eq_by_cmp_equiv, Equal-is, both_ways}
 use Rattle.std.specs.Ordering.{eq_by_cmp}
 use Rattle.std.proofs.lemmas.Bool.{true≢false, cases_Bool, or_left, or_right, or_cases}
 use Rattle.std.specs.declared.alloc.AllocError.{AllocError}
-use Rattle.std.specs.List.{IsDistinct}
+use Rattle.std.specs.BTreeMap.{is_at}
+use Rattle.std.specs.BTreeSet.{BTreeSet}
+use Rattle.std.specs.List.{IsDistinct, list_any}
 use Rattle.std.specs.FinMap as map
 use Rattle.std.specs.FinSet as set
 use Rattle.tk_handle.specs.declared.dot.Dot.{Dot}
@@ -14,11 +16,14 @@ use Rattle.tk_family.specs.Laws.{passing}
 use Rattle.tk_family.specs.declared.link.Link.{Link}
 use Rattle.tk_family.specs.declared.top.Top.{Top}
 use Rattle.tk_family.specs.declared.row.Row.{Row}
+use Rattle.tk_family.specs.declared.children.Child.{Child}
+use Rattle.tk_family.specs.Uses.{uses_by}
 use Rattle.tk_family.specs.Dots.{has}
 use Rattle.tk_family.specs.Families.{Links, use_of, IsUsed}
 use Rattle.tk_family.specs.Tops.{IsTop, IsRaised}
-use Rattle.tk_family.specs.Rows.{RowMap, Rows, table, link_in, code_in, count_in, blamed_in, first_in, used_in, again_in, links_of, marks_of, named_of}
-use Rattle.tk_family.specs.Kept.{Hangs, IsForest}
+use Rattle.tk_family.specs.Rows.{RowMap, Rows, table, link_in, code_in, count_in, blamed_in, first_in, used_in, again_in, links_of, firsts_of, marks_of, named_of}
+use Rattle.tk_family.specs.Children.{child_cmp, child_key, others_in}
+use Rattle.tk_family.specs.Kept.{has_dot, Hangs, IsForest}
 use Rattle.tk_family.specs.Puts.{Puts, MarksOne}
 use Rattle.tk_family.specs.Takes.{Unmarks}
 use Rattle.tk_family.specs.ForestFacts.{ForestFacts, links_at, marks_at}
@@ -58,18 +63,6 @@ if_ok (Err e) P Q h f = tt
 
 -- ---- the empty forest
 
-no_names : (T : Rows) (p : Dot) → ((q : Dot) → T q ≡ None) → Hangs T p
-unfolding IsDistinct
-no_names T p h = record {
-  list = [];
-  chain = ap first_in (h p);
-  names = record {
-    sound = λ e e_in. absurd (true≢false (sym e_in));
-    all = λ e names. absurd (let clash : None ≡ Some p = sym (ap (λ (o : Option Row). named_of (link_in o)) (h e)) ∙ names in cc);
-    distinct = search rules;
-  };
-}
-
 no_flag : (F : Option Row → Kind → Bool) → ((k : Kind) → F None k ≡ false) → (T : Rows) → ((q : Dot) → T q ≡ None) → (q : Dot) (k : Kind) → F (T q) k ≡ true → ⊥
 no_flag F none T h q k yes' = true≢false (sym yes' ∙ (ap (λ (o : Option Row). F o k) (h q) ∙ none k))
 
@@ -89,8 +82,17 @@ IsForest-empty T h = record {
   uses = λ k u. absurd (let clash : None ≡ Some k = sym (ap (λ (o : Option Row). use_of (link_in o)) (h u.user)) ∙ u.by in cc);
   again = λ k e. absurd (no_flag again_in (λ j. refl) T h k.dot k.kind e);
   twice = λ k t. absurd (let clash : None ≡ Some k = sym (ap (λ (o : Option Row). use_of (link_in o)) (h t.one)) ∙ t.by_one in cc);
-  hangs = λ p. no_names T p h;
 }
+
+pub Hangs-empty : (T : Rows) (s : BTreeSet Child) → ((q : Dot) → T q ≡ None) → s.keys ≡ [] → Hangs (links_of T) (firsts_of T) (others_in s)
+Hangs-empty T s h none =
+    let no_entry : (k : TokenId) (e : Dot) → others_in s k e ≡ false = λ k e. ap (λ (cs : List Child). list_any (is_at (child_cmp (child_key k e))) cs) none in
+    record {
+      named = λ p e is. absurd (let clash : None ≡ Some e = sym (ap first_in (h p)) ∙ is in cc);
+      none = λ p e _ names. (let clash : None ≡ Some p = sym (ap (λ (o : Option Row). named_of (link_in o)) (h e)) ∙ names in cc);
+      rest = λ k e. no_entry k e ∙ sym (ap (λ (o : Option Row). uses_by (link_in o) k && not (has_dot (firsts_of T k.dot) e)) (h e));
+      ranged = λ k e at. absurd (true≢false (sym at ∙ no_entry k e));
+    }
 
 pub used_seen : (m : RowMap) (v : ForestFacts) → seen m ≡ v → (k : TokenId) (b : Bool) → ((b ≡ true) → IsUsed (links_of (table m)) k) × (IsUsed (links_of (table m)) k → (b ≡ true)) → ((b ≡ true) → IsUsed (links_at v) k) × (IsUsed (links_at v) k → (b ≡ true))
 used_seen m v is k b h = subst (λ (f : Links). ((b ≡ true) → IsUsed f k) × (IsUsed f k → (b ≡ true))) (links_seen m v is) h

@@ -15,15 +15,15 @@ use Rattle.tk_family.specs.Families.{named_by}
 use Rattle.tk_family.specs.declared.row.Uses.{Uses}
 use Rattle.tk_family.specs.declared.row.Uses.TheVariants.{Never, Once, Often}
 use Rattle.tk_family.specs.Counts.{IsCount, IsCounted, IsCountedAs, AlikeButCount}
-use Rattle.tk_family.specs.Rows.{is_some_use, is_often, Rows, link_in, code_in, count_in, first_in, next_in, marked_in, used_in, again_in, bad_in, blamed_in, links_of}
+use Rattle.tk_family.specs.Rows.{is_some_use, is_often, Rows, link_in, code_in, count_in, first_in, marked_in, used_in, again_in, bad_in, blamed_in, links_of}
 use Rattle.tk_family.specs.Uses.{uses_it, is_code, is_refresh}
-use Rattle.tk_family.proofs.Growth.{Hangs-put, Hangs-code}
-use Rattle.tk_family.specs.Puts.{Hung}
-use Rattle.tk_family.specs.Takes.{token_at}
-use Rattle.tk_family.specs.Writes.{once_more, with_code, with_count, with_put, with_redeemer, with_rotator, put_at, hung, bads, settled, raised}
+use Rattle.tk_family.specs.Children.{token_at}
+use Rattle.tk_family.specs.Kept.{has_dot}
+use Rattle.tk_family.specs.Puts.{Hung, first_after}
+use Rattle.tk_family.specs.Writes.{once_more, or_dot, with_code, with_count, with_put, with_redeemer, with_rotator, put_at, hung, bads, settled, raised}
 use Rattle.tk_family.proofs.DotLaws.{dot_eq-true, dot_eq-same, dot_eq-apart, cases_dots}
 use Rattle.tk_family.proofs.Adding.{Adds}
-use Rattle.tk_family.proofs.Columns.{column, Hangs-same}
+use Rattle.tk_family.proofs.Columns.{column}
 use Rattle.tk_family.proofs.Counting.{IsCount-is, IsCount-alike, IsCounted-same, IsCountedAs-from, IsCounted-raised, recount-step, recount-others, bad-same, blamed-same, blamed-none}
 use Rattle.tk_family.proofs.UseLaws.{uses_it-apart}
 
@@ -38,9 +38,9 @@ row_at (Some r) h = record { row = r; is = refl }
 
 -- ---- a count is written
 
-count_cols : (o : Option Row) (n : ℕ) → (link_in (with_count o n) ≡ link_in o) × (code_in (with_count o n) ≡ code_in o) × (first_in (with_count o n) ≡ first_in o) × (next_in (with_count o n) ≡ next_in o)
-count_cols None n = (refl, refl, refl, refl)
-count_cols (Some r) n = (refl, refl, refl, refl)
+count_cols : (o : Option Row) (n : ℕ) → (link_in (with_count o n) ≡ link_in o) × (code_in (with_count o n) ≡ code_in o) × (first_in (with_count o n) ≡ first_in o)
+count_cols None n = (refl, refl, refl)
+count_cols (Some r) n = (refl, refl, refl)
 
 count_flags : (o : Option Row) (n : ℕ) (k : Kind) → (marked_in (with_count o n) k ≡ marked_in o k) × (used_in (with_count o n) k ≡ used_in o k) × (again_in (with_count o n) k ≡ again_in o k)
 count_flags None n k = (refl, refl, refl)
@@ -53,14 +53,10 @@ AlikeButCount-count A B c n h = record {
   link = λ q. ap link_in (h q) ∙ column link_in (dot_eq c q) (with_count (A q) n) (A q) (count_cols (A q) n).0;
   code = λ q. ap code_in (h q) ∙ column code_in (dot_eq c q) (with_count (A q) n) (A q) (count_cols (A q) n).1;
   first = λ q. ap first_in (h q) ∙ column first_in (dot_eq c q) (with_count (A q) n) (A q) (count_cols (A q) n).2;
-  next = λ q. ap next_in (h q) ∙ column next_in (dot_eq c q) (with_count (A q) n) (A q) (count_cols (A q) n).3;
   marked = λ q k. ap (λ (o : Option Row). marked_in o k) (h q) ∙ column (λ (o : Option Row). marked_in o k) (dot_eq c q) (with_count (A q) n) (A q) (count_flags (A q) n k).0;
   used = λ q k. ap (λ (o : Option Row). used_in o k) (h q) ∙ column (λ (o : Option Row). used_in o k) (dot_eq c q) (with_count (A q) n) (A q) (count_flags (A q) n k).1;
   again = λ q k. ap (λ (o : Option Row). again_in o k) (h q) ∙ column (λ (o : Option Row). again_in o k) (dot_eq c q) (with_count (A q) n) (A q) (count_flags (A q) n k).2;
 }
-
-pub AlikeButCount-none : (A : Rows) → AlikeButCount A A
-AlikeButCount-none A = record { link = λ q. refl; code = λ q. refl; first = λ q. refl; next = λ q. refl; marked = λ q k. refl; used = λ q k. refl; again = λ q k. refl }
 
 count_there : (o : Option Row) (n : ℕ) → RowAt o → count_in (with_count o n) ≡ n
 count_there o n r = ap (λ (x : Option Row). count_in (with_count x n)) r.is
@@ -93,23 +89,23 @@ or_false : (b : Bool) → b ≡ (b || false)
 or_false true = refl
 or_false false = refl
 
-put_cols : (o : Option Row) (l : Link) (n : Option Dot) → (code_in (with_put o l n) ≡ code_in o) × (count_in (with_put o l n) ≡ count_in o) × (first_in (with_put o l n) ≡ first_in o)
-put_cols None l n = (refl, refl, refl)
-put_cols (Some r) l n = (refl, refl, refl)
+put_cols : (o : Option Row) (l : Link) → (code_in (with_put o l) ≡ code_in o) × (count_in (with_put o l) ≡ count_in o) × (first_in (with_put o l) ≡ first_in o)
+put_cols None l = (refl, refl, refl)
+put_cols (Some r) l = (refl, refl, refl)
 
-put_flags : (o : Option Row) (l : Link) (n : Option Dot) (k : Kind) → (marked_in (with_put o l n) k ≡ marked_in o k) × (used_in (with_put o l n) k ≡ used_in o k) × (again_in (with_put o l n) k ≡ again_in o k)
-put_flags None l n k = (refl, refl, refl)
-put_flags (Some r) l n kind.Code = (refl, refl, refl)
-put_flags (Some r) l n kind.Access = (refl, refl, refl)
-put_flags (Some r) l n kind.Refresh = (refl, refl, refl)
+put_flags : (o : Option Row) (l : Link) (k : Kind) → (marked_in (with_put o l) k ≡ marked_in o k) × (used_in (with_put o l) k ≡ used_in o k) × (again_in (with_put o l) k ≡ again_in o k)
+put_flags None l k = (refl, refl, refl)
+put_flags (Some r) l kind.Code = (refl, refl, refl)
+put_flags (Some r) l kind.Access = (refl, refl, refl)
+put_flags (Some r) l kind.Refresh = (refl, refl, refl)
 
-redeemer_cols : (o : Option Row) (d : Dot) → (code_in (with_redeemer o d) ≡ code_in o) × (count_in (with_redeemer o d) ≡ count_in o) × (link_in (with_redeemer o d) ≡ link_in o) × (next_in (with_redeemer o d) ≡ next_in o)
-redeemer_cols None d = (refl, refl, refl, refl)
-redeemer_cols (Some r) d = (refl, refl, refl, refl)
+redeemer_cols : (o : Option Row) (d : Dot) → (code_in (with_redeemer o d) ≡ code_in o) × (count_in (with_redeemer o d) ≡ count_in o) × (link_in (with_redeemer o d) ≡ link_in o)
+redeemer_cols None d = (refl, refl, refl)
+redeemer_cols (Some r) d = (refl, refl, refl)
 
-rotator_cols : (o : Option Row) (d : Dot) → (code_in (with_rotator o d) ≡ code_in o) × (count_in (with_rotator o d) ≡ count_in o) × (link_in (with_rotator o d) ≡ link_in o) × (next_in (with_rotator o d) ≡ next_in o)
-rotator_cols None d = (refl, refl, refl, refl)
-rotator_cols (Some r) d = (refl, refl, refl, refl)
+rotator_cols : (o : Option Row) (d : Dot) → (code_in (with_rotator o d) ≡ code_in o) × (count_in (with_rotator o d) ≡ count_in o) × (link_in (with_rotator o d) ≡ link_in o)
+rotator_cols None d = (refl, refl, refl)
+rotator_cols (Some r) d = (refl, refl, refl)
 
 redeemer_marked : (o : Option Row) (d : Dot) (k : Kind) → marked_in (with_redeemer o d) k ≡ marked_in o k
 redeemer_marked None d k = refl
@@ -155,11 +151,11 @@ rotator_again r d kind.Refresh = more_again r.rotated
 
 -- a step F at the named dot that adds one use of the kinds `of`
 record UseStep (F : Option Row → Dot → Option Row) (of : Kind → Bool) : Type 0 where
-  pub cols : (o : Option Row) (d : Dot) → (code_in (F o d) ≡ code_in o) × (count_in (F o d) ≡ count_in o) × (link_in (F o d) ≡ link_in o) × (next_in (F o d) ≡ next_in o)
+  pub cols : (o : Option Row) (d : Dot) → (code_in (F o d) ≡ code_in o) × (count_in (F o d) ≡ count_in o) × (link_in (F o d) ≡ link_in o)
   pub marked : (o : Option Row) (d : Dot) (k : Kind) → marked_in (F o d) k ≡ marked_in o k
   pub used : (r : Row) (d : Dot) (k : Kind) → used_in (F (Some r) d) k ≡ (used_in (Some r) k || of k)
   pub again : (r : Row) (d : Dot) (k : Kind) → again_in (F (Some r) d) k ≡ (again_in (Some r) k || (of k && used_in (Some r) k))
-  pub first : (r : Row) (d : Dot) → first_in (F (Some r) d) ≡ Some d
+  pub first : (r : Row) (d : Dot) → first_in (F (Some r) d) ≡ or_dot (first_in (Some r)) d
 
 redeems_step : UseStep with_redeemer is_code
 redeems_step = record { cols = redeemer_cols; marked = redeemer_marked; used = redeemer_used; again = redeemer_again; first = λ r d. refl }
@@ -167,9 +163,9 @@ redeems_step = record { cols = redeemer_cols; marked = redeemer_marked; used = r
 rotates_step : UseStep with_rotator is_refresh
 rotates_step = record { cols = rotator_cols; marked = rotator_marked; used = rotator_used; again = rotator_again; first = λ r d. refl }
 
-put_present : (o : Option Row) (b : Bool) (l : Link) (n : Option Dot) → RowAt o → RowAt (cond b (with_put o l n) o)
-put_present o true l n r = record { row = record r.row { link = Some l; next = n }; is = ap (λ (x : Option Row). with_put x l n) r.is }
-put_present o false l n r = r
+put_present : (o : Option Row) (b : Bool) (l : Link) → RowAt o → RowAt (cond b (with_put o l) o)
+put_present o true l r = record { row = record r.row { link = Some l }; is = ap (λ (x : Option Row). with_put x l) r.is }
+put_present o false l r = r
 
 -- `Hung` holds after a link that names p was hung
 pub record HungCols (T N : Rows) (d p : Dot) (l : Link) : Type 0 where
@@ -180,29 +176,26 @@ pub record HungCols (T N : Rows) (d p : Dot) (l : Link) : Type 0 where
   pub marked : (q : Dot) (k : Kind) → marked_in (N q) k ≡ marked_in (T q) k
   pub used : (k : TokenId) → used_in (N k.dot) k.kind ≡ (used_in (T k.dot) k.kind || uses_it l k)
   pub again : (k : TokenId) → again_in (N k.dot) k.kind ≡ (again_in (T k.dot) k.kind || (uses_it l k && used_in (T k.dot) k.kind))
-  pub next_here : next_in (N d) ≡ first_in (T p)
-  pub next_old : (q : Dot) → q ≢ d → next_in (N q) ≡ next_in (T q)
-  pub first_here : first_in (N p) ≡ Some d
-  pub first_old : (q : Dot) → q ≢ p → first_in (N q) ≡ first_in (T q)
+  pub first : (q : Dot) → first_in (N q) ≡ first_after T d l q
 
-hung-cols : (T N : Rows) (d p : Dot) (l : Link) (F : Option Row → Dot → Option Row) (of : Kind → Bool) → UseStep F of → ((k : TokenId) → uses_it l k ≡ (dot_eq p k.dot && of k.kind)) → RowAt (T d) → RowAt (T p)
-    → ((q : Dot) → N q ≡ cond (dot_eq p q) (F (put_at T d l (first_in (T p)) q) d) (put_at T d l (first_in (T p)) q)) → HungCols T N d p l
-hung-cols T N d p l F of step uses at_d at_p h =
-    let n : Option Dot = first_in (T p) in
-    let M : Rows = put_at T d l n in
+hung-cols : (T N : Rows) (d p : Dot) (l : Link) (F : Option Row → Dot → Option Row) (of : Kind → Bool) → UseStep F of → named_by l ≡ Some p → ((k : TokenId) → uses_it l k ≡ (dot_eq p k.dot && of k.kind)) → RowAt (T d) → RowAt (T p)
+    → ((q : Dot) → N q ≡ cond (dot_eq p q) (F (put_at T d l q) d) (put_at T d l q)) → HungCols T N d p l
+hung-cols T N d p l F of step names uses at_d at_p h =
+    let M : Rows = put_at T d l in
+    let first_M : (q : Dot) → first_in (M q) ≡ first_in (T q) = λ q. column first_in (dot_eq d q) (with_put (T q) l) (T q) (put_cols (T q) l).2 in
+    let after : (q : Dot) → first_after T d l q ≡ cond (dot_eq p q) (or_dot (first_in (T q)) d) (first_in (T q)) = λ q. ap (λ (o : Option Dot). cond (has_dot o q) (or_dot (first_in (T q)) d) (first_in (T q))) names in
     let here : RowAt (T d) = at_d in
     let link_M : (q : Dot) → link_in (N q) ≡ link_in (M q) = λ q. ap link_in (h q) ∙ column link_in (dot_eq p q) (F (M q) d) (M q) (step.cols (M q) d).2 in
-    let next_M : (q : Dot) → next_in (N q) ≡ next_in (M q) = λ q. ap next_in (h q) ∙ column next_in (dot_eq p q) (F (M q) d) (M q) (step.cols (M q) d).3 in
-    let at_p_M : RowAt (M p) = put_present (T p) (dot_eq d p) l n at_p in
+    let at_p_M : RowAt (M p) = put_present (T p) (dot_eq d p) l at_p in
     let N_p : N p ≡ F (Some at_p_M.row) d = h p ∙ (cond-true _ _ _ (dot_eq-same p) ∙ ap (λ (o : Option Row). F o d) at_p_M.is) in
-    let used_M : (q : Dot) (k : Kind) → used_in (M q) k ≡ used_in (T q) k = λ q k. column (λ (o : Option Row). used_in o k) (dot_eq d q) (with_put (T q) l n) (T q) (put_flags (T q) l n k).1 in
-    let again_M : (q : Dot) (k : Kind) → again_in (M q) k ≡ again_in (T q) k = λ q k. column (λ (o : Option Row). again_in o k) (dot_eq d q) (with_put (T q) l n) (T q) (put_flags (T q) l n k).2 in
+    let used_M : (q : Dot) (k : Kind) → used_in (M q) k ≡ used_in (T q) k = λ q k. column (λ (o : Option Row). used_in o k) (dot_eq d q) (with_put (T q) l) (T q) (put_flags (T q) l k).1 in
+    let again_M : (q : Dot) (k : Kind) → again_in (M q) k ≡ again_in (T q) k = λ q k. column (λ (o : Option Row). again_in o k) (dot_eq d q) (with_put (T q) l) (T q) (put_flags (T q) l k).2 in
     record {
-      link_here = link_M d ∙ (ap link_in (cond-true (dot_eq d d) (with_put (T d) l n) (T d) (dot_eq-same d)) ∙ ap (λ (o : Option Row). link_in (with_put o l n)) here.is);
-      link_old = λ q ne. link_M q ∙ ap link_in (cond-false (dot_eq d q) (with_put (T q) l n) (T q) (dot_eq-apart d q (λ same. ne (sym same))));
-      code = λ q. ap code_in (h q) ∙ (column code_in (dot_eq p q) (F (M q) d) (M q) (step.cols (M q) d).0 ∙ column code_in (dot_eq d q) (with_put (T q) l n) (T q) (put_cols (T q) l n).0);
-      count = λ q. ap count_in (h q) ∙ (column count_in (dot_eq p q) (F (M q) d) (M q) (step.cols (M q) d).1 ∙ column count_in (dot_eq d q) (with_put (T q) l n) (T q) (put_cols (T q) l n).1);
-      marked = λ q k. ap (λ (o : Option Row). marked_in o k) (h q) ∙ (column (λ (o : Option Row). marked_in o k) (dot_eq p q) (F (M q) d) (M q) (step.marked (M q) d k) ∙ column (λ (o : Option Row). marked_in o k) (dot_eq d q) (with_put (T q) l n) (T q) (put_flags (T q) l n k).0);
+      link_here = link_M d ∙ (ap link_in (cond-true (dot_eq d d) (with_put (T d) l) (T d) (dot_eq-same d)) ∙ ap (λ (o : Option Row). link_in (with_put o l)) here.is);
+      link_old = λ q ne. link_M q ∙ ap link_in (cond-false (dot_eq d q) (with_put (T q) l) (T q) (dot_eq-apart d q (λ same. ne (sym same))));
+      code = λ q. ap code_in (h q) ∙ (column code_in (dot_eq p q) (F (M q) d) (M q) (step.cols (M q) d).0 ∙ column code_in (dot_eq d q) (with_put (T q) l) (T q) (put_cols (T q) l).0);
+      count = λ q. ap count_in (h q) ∙ (column count_in (dot_eq p q) (F (M q) d) (M q) (step.cols (M q) d).1 ∙ column count_in (dot_eq d q) (with_put (T q) l) (T q) (put_cols (T q) l).1);
+      marked = λ q k. ap (λ (o : Option Row). marked_in o k) (h q) ∙ (column (λ (o : Option Row). marked_in o k) (dot_eq p q) (F (M q) d) (M q) (step.marked (M q) d k) ∙ column (λ (o : Option Row). marked_in o k) (dot_eq d q) (with_put (T q) l) (T q) (put_flags (T q) l k).0);
       used = λ k. elim (cases_Bool (dot_eq p k.dot)) [
         | inl same ↦
             let e : p ≡ k.dot = dot_eq-true p k.dot same in
@@ -219,10 +212,13 @@ hung-cols T N d p l F of step uses at_d at_p h =
             ∙ ap (λ (b : Bool). again_in (T k.dot) k.kind || (b && used_in (T k.dot) k.kind)) (sym (uses k ∙ ap (λ (b : Bool). b && of k.kind) same)))))))
         | inr apart ↦ ap (λ (o : Option Row). again_in o k.kind) (h k.dot ∙ cond-false _ _ _ apart) ∙ (again_M k.dot k.kind ∙ (or_false (again_in (T k.dot) k.kind) ∙ ap (λ (b : Bool). again_in (T k.dot) k.kind || (b && used_in (T k.dot) k.kind)) (sym (uses k ∙ ap (λ (b : Bool). b && of k.kind) apart))))
       ];
-      next_here = next_M d ∙ (ap next_in (cond-true (dot_eq d d) (with_put (T d) l n) (T d) (dot_eq-same d)) ∙ ap (λ (o : Option Row). next_in (with_put o l n)) here.is);
-      next_old = λ q ne. next_M q ∙ ap next_in (cond-false (dot_eq d q) (with_put (T q) l n) (T q) (dot_eq-apart d q (λ same. ne (sym same))));
-      first_here = ap first_in N_p ∙ step.first at_p_M.row d;
-      first_old = λ q ne. ap first_in (h q ∙ cond-false _ _ _ (dot_eq-apart p q (λ same. ne (sym same)))) ∙ column first_in (dot_eq d q) (with_put (T q) l n) (T q) (put_cols (T q) l n).2;
+      first = λ q. elim (cases_Bool (dot_eq p q)) [
+        | inl same ↦
+            let e : p ≡ q = dot_eq-true p q same in
+            ap (λ (y : Dot). first_in (N y)) (sym e) ∙ (ap first_in N_p ∙ (step.first at_p_M.row d ∙ (ap (λ (o : Option Row). or_dot (first_in o) d) (sym at_p_M.is)
+            ∙ (ap (λ (o : Option Dot). or_dot o d) (first_M p) ∙ (ap (λ (y : Dot). or_dot (first_in (T y)) d) e ∙ (sym (cond-true _ _ _ same) ∙ sym (after q)))))))
+        | inr apart ↦ ap first_in (h q ∙ cond-false _ _ _ apart) ∙ (first_M q ∙ (sym (cond-false _ _ _ apart) ∙ sym (after q)))
+      ];
     }
 
 pub hung-cols-all : (T N : Rows) (d p : Dot) (l : Link) → named_by l ≡ Some p → RowAt (T d) → RowAt (T p) → ((q : Dot) → N q ≡ hung T d l q) → HungCols T N d p l
@@ -231,12 +227,12 @@ hung-cols-all T N d p (Redeems c) names at_d at_p h =
     let both : Some c ≡ Some p = names in
     let same : c ≡ p = cc in
     subst (λ (y : Dot). HungCols T N d y (Redeems c)) same
-    (hung-cols T N d c (Redeems c) with_redeemer is_code redeems_step (λ k. refl) at_d (subst (λ (y : Dot). RowAt (T y)) (sym same) at_p) h)
+    (hung-cols T N d c (Redeems c) with_redeemer is_code redeems_step refl (λ k. refl) at_d (subst (λ (y : Dot). RowAt (T y)) (sym same) at_p) h)
 hung-cols-all T N d p (Rotates c g) names at_d at_p h =
     let both : Some c ≡ Some p = names in
     let same : c ≡ p = cc in
     subst (λ (y : Dot). HungCols T N d y (Rotates c g)) same
-    (hung-cols T N d c (Rotates c g) with_rotator is_refresh rotates_step (λ k. refl) at_d (subst (λ (y : Dot). RowAt (T y)) (sym same) at_p) h)
+    (hung-cols T N d c (Rotates c g) with_rotator is_refresh rotates_step refl (λ k. refl) at_d (subst (λ (y : Dot). RowAt (T y)) (sym same) at_p) h)
 
 -- Hung, where the link names p
 hung-at : (T N : Rows) (d p : Dot) (l : Link) → named_by l ≡ Some p → links_of T d ≡ None → HungCols T N d p l → Hung T N d l
@@ -248,25 +244,25 @@ hung-at T N d p l names free c =
       marked = c.marked;
       used = c.used;
       again = c.again;
-      hangs = λ r was. Hangs-put T N d p l adds (record { names = names; next_here = c.next_here; next_old = c.next_old; first_here = c.first_here; first_old = c.first_old }) r was;
+      first = c.first;
     }
 
 -- a code is hung below no dot
-hung-code : (T N : Rows) (d : Dot) → links_of T d ≡ None → RowAt (T d) → ((q : Dot) → N q ≡ put_at T d Code None q) → Hung T N d Code
+hung-code : (T N : Rows) (d : Dot) → links_of T d ≡ None → RowAt (T d) → ((q : Dot) → N q ≡ put_at T d Code q) → Hung T N d Code
 hung-code T N d free at_d h =
-    let apart : (q : Dot) → q ≢ d → N q ≡ T q = λ q ne. h q ∙ cond-false (dot_eq d q) (with_put (T q) Code None) (T q) (dot_eq-apart d q (λ same. ne (sym same))) in
+    let apart : (q : Dot) → q ≢ d → N q ≡ T q = λ q ne. h q ∙ cond-false (dot_eq d q) (with_put (T q) Code) (T q) (dot_eq-apart d q (λ same. ne (sym same))) in
     let adds : Adds (links_of T) (links_of N) d Code = record {
       free = free;
-      here = ap link_in (h d ∙ cond-true (dot_eq d d) (with_put (T d) Code None) (T d) (dot_eq-same d)) ∙ ap (λ (o : Option Row). link_in (with_put o Code None)) at_d.is;
+      here = ap link_in (h d ∙ cond-true (dot_eq d d) (with_put (T d) Code) (T d) (dot_eq-same d)) ∙ ap (λ (o : Option Row). link_in (with_put o Code)) at_d.is;
       others = λ q ne. ap link_in (apart q ne);
     } in
     record {
       adds = adds;
-      code = λ q. ap code_in (h q) ∙ column code_in (dot_eq d q) (with_put (T q) Code None) (T q) (put_cols (T q) Code None).0;
-      marked = λ q k. ap (λ (o : Option Row). marked_in o k) (h q) ∙ column (λ (o : Option Row). marked_in o k) (dot_eq d q) (with_put (T q) Code None) (T q) (put_flags (T q) Code None k).0;
-      used = λ k. ap (λ (o : Option Row). used_in o k.kind) (h k.dot) ∙ (column (λ (o : Option Row). used_in o k.kind) (dot_eq d k.dot) (with_put (T k.dot) Code None) (T k.dot) (put_flags (T k.dot) Code None k.kind).1 ∙ or_false (used_in (T k.dot) k.kind));
-      again = λ k. ap (λ (o : Option Row). again_in o k.kind) (h k.dot) ∙ (column (λ (o : Option Row). again_in o k.kind) (dot_eq d k.dot) (with_put (T k.dot) Code None) (T k.dot) (put_flags (T k.dot) Code None k.kind).2 ∙ or_false (again_in (T k.dot) k.kind));
-      hangs = λ r was. Hangs-code T N d adds apart (λ q. ap first_in (h q) ∙ column first_in (dot_eq d q) (with_put (T q) Code None) (T q) (put_cols (T q) Code None).2) r was;
+      code = λ q. ap code_in (h q) ∙ column code_in (dot_eq d q) (with_put (T q) Code) (T q) (put_cols (T q) Code).0;
+      marked = λ q k. ap (λ (o : Option Row). marked_in o k) (h q) ∙ column (λ (o : Option Row). marked_in o k) (dot_eq d q) (with_put (T q) Code) (T q) (put_flags (T q) Code k).0;
+      used = λ k. ap (λ (o : Option Row). used_in o k.kind) (h k.dot) ∙ (column (λ (o : Option Row). used_in o k.kind) (dot_eq d k.dot) (with_put (T k.dot) Code) (T k.dot) (put_flags (T k.dot) Code k.kind).1 ∙ or_false (used_in (T k.dot) k.kind));
+      again = λ k. ap (λ (o : Option Row). again_in o k.kind) (h k.dot) ∙ (column (λ (o : Option Row). again_in o k.kind) (dot_eq d k.dot) (with_put (T k.dot) Code) (T k.dot) (put_flags (T k.dot) Code k.kind).2 ∙ or_false (again_in (T k.dot) k.kind));
+      first = λ q. ap first_in (h q) ∙ column first_in (dot_eq d q) (with_put (T q) Code) (T q) (put_cols (T q) Code).2;
     }
 
 -- the uses of a dot that the link does not name are as they were
@@ -287,12 +283,12 @@ IsCountedAs-hung T M d p l x none names at_d at_p h =
     let cols : HungCols T M d p l = hung-cols-all T M d p l names (row_at (T d) at_d) (row_at (T p) at_p) h in
     IsCountedAs-from T M p x cols.code cols.count (hung_blamed T M d p l names none cols)
 
-hung_code_flags : (T N : Rows) (d : Dot) → code_in (T d) ≡ None → ((q : Dot) → N q ≡ put_at T d Code None q) → (q : Dot) → (blamed_in (N q) ≡ blamed_in (T q)) × (count_in (N q) ≡ count_in (T q))
+hung_code_flags : (T N : Rows) (d : Dot) → code_in (T d) ≡ None → ((q : Dot) → N q ≡ put_at T d Code q) → (q : Dot) → (blamed_in (N q) ≡ blamed_in (T q)) × (count_in (N q) ≡ count_in (T q))
 hung_code_flags T N d none h q = elim (cases_dots q d) [
   | inl same ↦
       let out : code_in (T q) ≡ None = ap (λ (y : Dot). code_in (T y)) same ∙ none in
-      let code : code_in (N q) ≡ code_in (T q) = ap code_in (h q) ∙ column code_in (dot_eq d q) (with_put (T q) Code None) (T q) (put_cols (T q) Code None).0 in
-      (blamed-none (N q) (code ∙ out) ∙ sym (blamed-none (T q) out), ap count_in (h q) ∙ column count_in (dot_eq d q) (with_put (T q) Code None) (T q) (put_cols (T q) Code None).1)
+      let code : code_in (N q) ≡ code_in (T q) = ap code_in (h q) ∙ column code_in (dot_eq d q) (with_put (T q) Code) (T q) (put_cols (T q) Code).0 in
+      (blamed-none (N q) (code ∙ out) ∙ sym (blamed-none (T q) out), ap count_in (h q) ∙ column count_in (dot_eq d q) (with_put (T q) Code) (T q) (put_cols (T q) Code).1)
   | inr ne ↦
       let same : N q ≡ T q = h q ∙ cond-false _ _ _ (dot_eq-apart d q (λ e. ne (sym e))) in
       (ap blamed_in same, ap count_in same)
@@ -301,7 +297,7 @@ hung_code_flags T N d none h q = elim (cases_dots q d) [
 -- a link that names no dot changes no count
 pub IsCounted-hung : (T N : Rows) (d : Dot) (l : Link) → IsCounted T → code_in (T d) ≡ None → l ≡ Code → ((q : Dot) → N q ≡ hung T d l q) → IsCounted N
 IsCounted-hung T N d l x none code h =
-    let rows : (q : Dot) → N q ≡ put_at T d Code None q = λ q. h q ∙ ap (λ (k : Link). hung T d k q) code in
+    let rows : (q : Dot) → N q ≡ put_at T d Code q = λ q. h q ∙ ap (λ (k : Link). hung T d k q) code in
     IsCounted-same T N (λ q. (hung_code_flags T N d none rows q).0) (λ q. (hung_code_flags T N d none rows q).1) x
 
 pub Hung-alike : (T M N : Rows) (d : Dot) (l : Link) → Hung T M d l → AlikeButCount M N → Hung T N d l
@@ -311,7 +307,7 @@ Hung-alike T M N d l h a = record {
   marked = λ q k. a.marked q k ∙ h.marked q k;
   used = λ k. a.used k.dot k.kind ∙ h.used k;
   again = λ k. a.again k.dot k.kind ∙ h.again k;
-  hangs = λ p was. Hangs-same M N p a.link a.first a.next (h.hangs p was);
+  first = λ q. a.first q ∙ h.first q;
 }
 
 pub hung-all : (T N : Rows) (d : Dot) (l : Link) → links_of T d ≡ None → IsSome (T d) → ((p : Dot) → named_by l ≡ Some p → IsSome (T p)) → ((q : Dot) → N q ≡ hung T d l q) → Hung T N d l
@@ -325,7 +321,6 @@ hung-all T N d (Rotates p g) free at_d at_p h = hung-at T N d p (Rotates p g) re
 pub record Mid (M A : Rows) (c0 : Dot) (ys : List Dot) : Type 0 where
   pub link : (q : Dot) → link_in (A q) ≡ link_in (M q)
   pub first : (q : Dot) → first_in (A q) ≡ first_in (M q)
-  pub next : (q : Dot) → next_in (A q) ≡ next_in (M q)
   pub marked : (q : Dot) (k : Kind) → marked_in (A q) k ≡ marked_in (M q) k
   pub used : (q : Dot) (k : Kind) → used_in (A q) k ≡ used_in (M q) k
   pub again : (q : Dot) (k : Kind) → again_in (A q) k ≡ again_in (M q) k
@@ -335,16 +330,15 @@ pub Mid-none : (M A : Rows) (c0 : Dot) → ((q : Dot) → A q ≡ M q) → Mid M
 Mid-none M A c0 h = record {
   link = λ q. ap link_in (h q);
   first = λ q. ap first_in (h q);
-  next = λ q. ap next_in (h q);
   marked = λ q k. ap (λ (o : Option Row). marked_in o k) (h q);
   used = λ q k. ap (λ (o : Option Row). used_in o k) (h q);
   again = λ q k. ap (λ (o : Option Row). again_in o k) (h q);
   code = λ q. ap code_in (h q);
 }
 
-code_cols : (o : Option Row) (c : Dot) → (link_in (with_code o c) ≡ link_in o) × (first_in (with_code o c) ≡ first_in o) × (next_in (with_code o c) ≡ next_in o) × (count_in (with_code o c) ≡ count_in o)
-code_cols None c = (refl, refl, refl, refl)
-code_cols (Some r) c = (refl, refl, refl, refl)
+code_cols : (o : Option Row) (c : Dot) → (link_in (with_code o c) ≡ link_in o) × (first_in (with_code o c) ≡ first_in o) × (count_in (with_code o c) ≡ count_in o)
+code_cols None c = (refl, refl, refl)
+code_cols (Some r) c = (refl, refl, refl)
 
 code_flags : (o : Option Row) (c : Dot) (k : Kind) → (marked_in (with_code o c) k ≡ marked_in o k) × (used_in (with_code o c) k ≡ used_in o k) × (again_in (with_code o c) k ≡ again_in o k)
 code_flags None c k = (refl, refl, refl)
@@ -366,7 +360,6 @@ Mid-raised M A c0 ys rows h =
     record {
       link = λ q. d.link q ∙ column link_in (has ys q) (with_code (M q) c0) (M q) (code_cols (M q) c0).0;
       first = λ q. d.first q ∙ column first_in (has ys q) (with_code (M q) c0) (M q) (code_cols (M q) c0).1;
-      next = λ q. d.next q ∙ column next_in (has ys q) (with_code (M q) c0) (M q) (code_cols (M q) c0).2;
       marked = λ q k. d.marked q k ∙ column (λ (o : Option Row). marked_in o k) (has ys q) (with_code (M q) c0) (M q) (code_flags (M q) c0 k).0;
       used = λ q k. d.used q k ∙ column (λ (o : Option Row). used_in o k) (has ys q) (with_code (M q) c0) (M q) (code_flags (M q) c0 k).1;
       again = λ q k. d.again q k ∙ column (λ (o : Option Row). again_in o k) (has ys q) (with_code (M q) c0) (M q) (code_flags (M q) c0 k).2;
@@ -380,7 +373,7 @@ pub IsCounted-mid : (M A : Rows) (c0 : Dot) (ys : List Dot) → IsCounted M → 
 IsCounted-mid M A c0 ys x d fresh row mid h =
     let S : Rows = settled M ys c0 in
     let n : ℕ = count_in (M c0) + bads M ys in
-    let count_S : (q : Dot) → count_in (S q) ≡ count_in (M q) = λ q. column count_in (has ys q) (with_code (M q) c0) (M q) (code_cols (M q) c0).3 in
+    let count_S : (q : Dot) → count_in (S q) ≡ count_in (M q) = λ q. column count_in (has ys q) (with_code (M q) c0) (M q) (code_cols (M q) c0).2 in
     IsCounted-raised M A c0 ys x d fresh (λ q. bad-same (M q) (A q) (mid.link q) (mid.marked q) (mid.again q)) mid.code
     (count-here S A c0 n (with_code_row (M c0) (has ys c0) c0 row) h)
     (λ c ne. count-other S A c0 n h c ne ∙ count_S c)

@@ -14,20 +14,21 @@ use Rattle.tk_family.specs.Dots.{dot_eq, has}
 use Rattle.tk_family.specs.Families.{Links, IsUnder, LinksWithin}
 use Rattle.tk_family.specs.Kept.{IsForest}
 use Rattle.tk_family.specs.Puts.{with_link, Gathers, NothingSeen}
-use Rattle.tk_family.specs.Rows.{Rows, link_in, code_in, count_in, first_in, next_in, marked_in, used_in, again_in, bad_in, blamed_in, links_of, marks_of}
-use Rattle.tk_family.specs.Takes.{without, IsHung, Unlinks, Clears, Takes, Unmarks}
+use Rattle.tk_family.specs.Rows.{Rows, link_in, code_in, count_in, first_in, marked_in, used_in, again_in, bad_in, blamed_in, links_of, marks_of}
+use Rattle.tk_family.specs.Takes.{without, HasUses, Unlinks, Clears, Takes, Unmarks}
 use Rattle.tk_family.specs.Writes.{without_code, without_mark, bads, unsettled, cleared}
 use Rattle.tk_family.proofs.DotLaws.{dot_eq-true, dot_eq-same, dot_eq-apart, cases_dots}
 use Rattle.tk_family.proofs.Adding.{Adds, Within-adds, IsPath-here}
-use Rattle.tk_family.proofs.FamilyLaws.{IsParent-within, IsUnder-within, IsTwice-within}
+use Rattle.tk_family.proofs.FamilyLaws.{IsParent-within, IsUnder-within}
 use Rattle.tk_family.proofs.Growth.{Grown, Grown-walk, Grown-waits}
-use Rattle.tk_family.proofs.Columns.{column, Hangs-same, AlikeButMarks, IsForest-kept}
+use Rattle.tk_family.proofs.Columns.{column, AlikeButMarks, IsForest-kept}
 use Rattle.tk_family.proofs.Counting.{IsCounted-cleared, bad-same, blamed-parts}
 use Rattle.tk_family.proofs.Putting.{AlikeButCount-count, count-here, count-other, RowAt}
 use Rattle.tk_family.proofs.Marking.{token_is, AlikeButMarks-then, IsCountedAs-at}
 use Rattle.tk_family.proofs.Assembly.{trail_under, trail_free, IsPath-code, row_with}
 use Rattle.tk_family.proofs.Gathering.{with_link-here, with_link-other}
-use Rattle.tk_family.proofs.Unlinking.{without-here, Adds-without, used-within}
+use Rattle.tk_family.proofs.HangLaws.{without-here}
+use Rattle.tk_family.proofs.Unhanging.{Adds-without, HasUses-kept, HasUses-forest}
 
 -- ---- what hangs below the dot
 
@@ -76,14 +77,13 @@ pub record Cleared (T A : Rows) (ys : List Dot) : Type 0 where
   pub link : (q : Dot) → link_in (A q) ≡ link_in (T q)
   pub code : (q : Dot) → code_in (A q) ≡ cond (has ys q) None (code_in (T q))
   pub first : (q : Dot) → first_in (A q) ≡ first_in (T q)
-  pub next : (q : Dot) → next_in (A q) ≡ next_in (T q)
   pub marked : (q : Dot) (k : Kind) → marked_in (A q) k ≡ marked_in (T q) k
   pub used : (q : Dot) (k : Kind) → used_in (A q) k ≡ used_in (T q) k
   pub again : (q : Dot) (k : Kind) → again_in (A q) k ≡ again_in (T q) k
 
-uncoded_cols : (o : Option Row) → (link_in (without_code o) ≡ link_in o) × (code_in (without_code o) ≡ None) × (count_in (without_code o) ≡ count_in o) × (first_in (without_code o) ≡ first_in o) × (next_in (without_code o) ≡ next_in o)
-uncoded_cols None = (refl, refl, refl, refl, refl)
-uncoded_cols (Some r) = (refl, refl, refl, refl, refl)
+uncoded_cols : (o : Option Row) → (link_in (without_code o) ≡ link_in o) × (code_in (without_code o) ≡ None) × (count_in (without_code o) ≡ count_in o) × (first_in (without_code o) ≡ first_in o)
+uncoded_cols None = (refl, refl, refl, refl)
+uncoded_cols (Some r) = (refl, refl, refl, refl)
 
 uncoded_flags : (o : Option Row) (k : Kind) → (marked_in (without_code o) k ≡ marked_in o k) × (used_in (without_code o) k ≡ used_in o k) × (again_in (without_code o) k ≡ again_in o k)
 uncoded_flags None k = (refl, refl, refl)
@@ -99,7 +99,6 @@ Cleared-unsettled T ys = record {
     | inr passed ↦ ap code_in (cond-false (has ys q) (without_code (T q)) (T q) passed) ∙ sym (cond-false (has ys q) None (code_in (T q)) passed)
   ];
   first = λ q. column first_in (has ys q) (without_code (T q)) (T q) (uncoded_cols (T q)).3;
-  next = λ q. column next_in (has ys q) (without_code (T q)) (T q) (uncoded_cols (T q)).4;
   marked = λ q k. column (λ (o : Option Row). marked_in o k) (has ys q) (without_code (T q)) (T q) (uncoded_flags (T q) k).0;
   used = λ q k. column (λ (o : Option Row). used_in o k) (has ys q) (without_code (T q)) (T q) (uncoded_flags (T q) k).1;
   again = λ q k. column (λ (o : Option Row). again_in o k) (has ys q) (without_code (T q)) (T q) (uncoded_flags (T q) k).2;
@@ -110,7 +109,6 @@ Cleared-alike T S A ys x a = record {
   link = λ q. a.link q ∙ x.link q;
   code = λ q. a.code q ∙ x.code q;
   first = λ q. a.first q ∙ x.first q;
-  next = λ q. a.next q ∙ x.next q;
   marked = λ q k. a.marked q k ∙ x.marked q k;
   used = λ q k. a.used q k ∙ x.used q k;
   again = λ q k. a.again q k ∙ x.again q k;
@@ -120,7 +118,7 @@ pub Cleared-from : (T A : Rows) (c0 : Dot) (ys : List Dot) → ((q : Dot) → A 
 Cleared-from T A c0 ys h = Cleared-alike T (unsettled T ys) A ys (Cleared-unsettled T ys) (AlikeButCount-count (unsettled T ys) A c0 (count_in (T c0) - bads T ys) h)
 
 pub Cleared-none : (T : Rows) → Cleared T T []
-Cleared-none T = record { link = λ q. refl; code = λ q. refl; first = λ q. refl; next = λ q. refl; marked = λ q k. refl; used = λ q k. refl; again = λ q k. refl }
+Cleared-none T = record { link = λ q. refl; code = λ q. refl; first = λ q. refl; marked = λ q k. refl; used = λ q k. refl; again = λ q k. refl }
 
 uncoded_row : (o : Option Row) (b : Bool) → RowAt o → RowAt (cond b (without_code o) o)
 uncoded_row o true r = record { row = record r.row { code = None }; is = ap without_code r.is }
@@ -139,18 +137,9 @@ IsCounted-clear T A d l c0 t here code x =
     (count-here S A c0 n row x.rows)
     (λ c ne. count-other S A c0 n x.rows c ne ∙ column count_in (has ys c) (without_code (T c)) (T c) (uncoded_cols (T c)).2)
 
--- the uses and chains are as they were
-pub IsHung-cleared : (T A : Rows) (ys : List Dot) → IsForest T → Cleared T A ys → IsHung A
-IsHung-cleared T A ys t x =
-    let to_A : LinksWithin (links_of T) (links_of A) = λ q k h. x.link q ∙ h in
-    let from_A : LinksWithin (links_of A) (links_of T) = λ q k h. sym (x.link q) ∙ h in
-    record {
-      used = λ k h. used-within (links_of T) (links_of A) to_A k (t.used k (sym (x.used k.dot k.kind) ∙ h));
-      uses = λ k u. x.used k.dot k.kind ∙ t.uses k (used-within (links_of A) (links_of T) from_A k u);
-      again = λ k h. IsTwice-within (links_of T) (links_of A) to_A k (t.again k (sym (x.again k.dot k.kind) ∙ h));
-      twice = λ k u. x.again k.dot k.kind ∙ t.twice k (IsTwice-within (links_of A) (links_of T) from_A k u);
-      hangs = λ p. Hangs-same T A p x.link x.first x.next (t.hangs p);
-    }
+-- the uses are as they were
+pub HasUses-cleared : (T A : Rows) (ys : List Dot) → IsForest T → Cleared T A ys → HasUses (links_of A) A
+HasUses-cleared T A ys t x = HasUses-kept (links_of T) (links_of A) T A (HasUses-forest T t) (λ q. sym (x.link q)) (λ k. x.used k.dot k.kind) (λ k. x.again k.dot k.kind)
 
 none_passes : (b : Bool) (o : Option Dot) (c : Dot) → cond b None o ≡ Some c → (b ≡ false) × (o ≡ Some c)
 none_passes true o c h = absurd (let clash : None ≡ Some c = h in cc)
@@ -199,11 +188,10 @@ IsForest-take T A N d l c0 ys t here b x u counted =
         }
         | inr ne ↦ counted c ne
       ];
-      used = u.used;
-      uses = u.uses;
-      again = u.again;
-      twice = u.twice;
-      hangs = u.hangs;
+      used = u.uses.used;
+      uses = u.uses.uses;
+      again = u.uses.again;
+      twice = u.uses.twice;
     }
 
 pub Takes-from : (T A N : Rows) (d : Dot) (l : Link) (c0 : Dot) (ys : List Dot) → IsForest T → links_of T d ≡ Some l → Below (without (links_of T) d) (links_of T) c0 ys → Cleared T A ys → Unlinks A N d → ((c : Dot) → c ≢ d → IsCount (λ q. blamed_in (N q)) c (count_in (N c))) → Takes T N d
@@ -238,11 +226,11 @@ Ready-none T d l t here code = record { code = d; list = []; below = Below-none 
 
 -- ---- a mark is removed
 
-unmarked_cols : (o : Option Row) (k : Kind) → (link_in (without_mark o k) ≡ link_in o) × (code_in (without_mark o k) ≡ code_in o) × (count_in (without_mark o k) ≡ count_in o) × (first_in (without_mark o k) ≡ first_in o) × (next_in (without_mark o k) ≡ next_in o)
-unmarked_cols None k = (refl, refl, refl, refl, refl)
-unmarked_cols (Some r) kind.Code = (refl, refl, refl, refl, refl)
-unmarked_cols (Some r) kind.Access = (refl, refl, refl, refl, refl)
-unmarked_cols (Some r) kind.Refresh = (refl, refl, refl, refl, refl)
+unmarked_cols : (o : Option Row) (k : Kind) → (link_in (without_mark o k) ≡ link_in o) × (code_in (without_mark o k) ≡ code_in o) × (count_in (without_mark o k) ≡ count_in o) × (first_in (without_mark o k) ≡ first_in o)
+unmarked_cols None k = (refl, refl, refl, refl)
+unmarked_cols (Some r) kind.Code = (refl, refl, refl, refl)
+unmarked_cols (Some r) kind.Access = (refl, refl, refl, refl)
+unmarked_cols (Some r) kind.Refresh = (refl, refl, refl, refl)
 
 unmarked_flags : (o : Option Row) (k j : Kind) → (used_in (without_mark o k) j ≡ used_in o j) × (again_in (without_mark o k) j ≡ again_in o j)
 unmarked_flags None k j = (refl, refl)
@@ -280,7 +268,6 @@ AlikeButMarks-unmarked T S k h = record {
   link = λ q. ap link_in (h q) ∙ column link_in (dot_eq k.dot q) (without_mark (T q) k.kind) (T q) (unmarked_cols (T q) k.kind).0;
   code = λ q. ap code_in (h q) ∙ column code_in (dot_eq k.dot q) (without_mark (T q) k.kind) (T q) (unmarked_cols (T q) k.kind).1;
   first = λ q. ap first_in (h q) ∙ column first_in (dot_eq k.dot q) (without_mark (T q) k.kind) (T q) (unmarked_cols (T q) k.kind).3;
-  next = λ q. ap next_in (h q) ∙ column next_in (dot_eq k.dot q) (without_mark (T q) k.kind) (T q) (unmarked_cols (T q) k.kind).4;
   used = λ q j. ap (λ (o : Option Row). used_in o j) (h q) ∙ column (λ (o : Option Row). used_in o j) (dot_eq k.dot q) (without_mark (T q) k.kind) (T q) (unmarked_flags (T q) k.kind j).0;
   again = λ q j. ap (λ (o : Option Row). again_in o j) (h q) ∙ column (λ (o : Option Row). again_in o j) (dot_eq k.dot q) (without_mark (T q) k.kind) (T q) (unmarked_flags (T q) k.kind j).1;
 }
@@ -295,6 +282,7 @@ Unmarks-from T S N k t h alike counted =
     let a : AlikeButMarks T N = AlikeButMarks-then T S N (AlikeButMarks-unmarked T S k h) alike in
     record {
       forest = IsForest-kept T N t a counted;
+      first = a.first;
       links = a.link;
       gone = alike.marked k.dot k.kind ∙ (ap (λ (o : Option Row). marked_in o k.kind) (h k.dot ∙ cond-true _ _ _ (dot_eq-same k.dot)) ∙ unmarked_gone (T k.dot) k.kind);
       others = λ j ne. alike.marked j.dot j.kind ∙ (elim (cases_Bool (dot_eq k.dot j.dot)) [

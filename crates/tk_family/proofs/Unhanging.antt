@@ -1,256 +1,271 @@
--- A dot is taken out of the chain of the dot that it names: the chain is built anew from the same
--- dots, without that one.
-use Rattle.std.specs.FinMap as map
-use Rattle.std.proofs.Common.{◌≡◌, ◌≢◌, inl, inr, ℕ, ◌-◌, ◌≤◌, ◌||◌, ◌&&◌, Bool, true, false, cond, Option, None, Some, List, [], ◌∷◌, ◌++◌, length, ap, sym, ◌∙◌, refl, arith, subst, append_assoc, append-nil, IsSome}
-use Rattle.std.proofs.lemmas.Bool.{true≢false, cond-true, cond-false, false_from_ne_true}
-use Rattle.std.proofs.lemmas.Map.Keys.{IsDistinct-cons, IsDistinct-head, IsDistinct-tail}
+-- A dot is no child any more: the uses of the token that its link used are counted anew. Key
+-- results:
+--   HasUses-kept, HasUses-code    the uses are as they were
+--   counted_used .. twice_counted the uses that are counted anew
+use Rattle.std.proofs.Common.{◌≡◌, ◌≢◌, ◌⊎◌, inl, inr, ℕ, ◌+◌, ◌||◌, Bool, true, false, not, cond, Option, None, Some, List, [], ◌∷◌, length, take, ap, sym, ◌∙◌, refl, subst}
+use Rattle.std.proofs.lemmas.Bool.{true≢false, cases_Bool, and_parts, and_from}
+use Rattle.std.proofs.lemmas.Map.Keys.{IsDistinct-head}
+use Rattle.std.specs.BTreeSet.{BTreeSet, IsOrdered}
 use Rattle.std.specs.List.{IsDistinct}
 use Rattle.tk_handle.specs.declared.dot.Dot.{Dot}
 use Rattle.tk_handle.specs.declared.kind.Kind.{Kind}
 use Rattle.tk_handle.specs.declared.kind.Kind.TheVariants as kind
+use Rattle.tk_handle.specs.declared.token_id.TokenId.{TokenId}
+use Rattle.tk_family.specs.declared.children.Child.{Child}
 use Rattle.tk_family.specs.declared.link.Link.{Link}
+use Rattle.tk_family.specs.declared.link.Link.TheVariants.{Code}
 use Rattle.tk_family.specs.declared.row.Row.{Row}
-use Rattle.tk_family.specs.declared.row.Uses.TheVariants.{Never}
+use Rattle.tk_family.specs.declared.row.Uses.{Uses}
+use Rattle.tk_family.specs.Children.{child_cmp, others_in, users_in}
 use Rattle.tk_family.specs.Dots.{dot_eq, has}
-use Rattle.tk_family.specs.Families.{named_by}
-use Rattle.tk_family.specs.Kept.{IsChain, NamesAll, Hangs}
-use Rattle.tk_family.specs.Rows.{RowMap, Rows, table, link_in, code_in, count_in, first_in, next_in, marked_in, used_in, again_in, links_of, named_of}
-use Rattle.tk_family.specs.Takes.{KeptBut, token_at, Unhangs}
-use Rattle.tk_family.specs.Uses.{uses_it, uses_by, uses_some, uses_two}
-use Rattle.tk_family.specs.Writes.{without_users, hung}
-use Rattle.tk_family.proofs.DotLaws.{dot_eq-same, dot_eq-apart, cases_dots, has-cons, has-here, has-there, has-append, has-left, has-right, list_none, IsDistinct-middle}
-use Rattle.tk_family.proofs.Growth.{IsChain-same, all_apart}
-use Rattle.tk_family.proofs.Columns.{column}
-use Rattle.tk_family.proofs.Putting.{HungCols, hung-cols-all, RowAt, row_at}
-use Rattle.tk_family.proofs.Hanging.{Hangs-room}
-use Rattle.tk_family.proofs.UseLaws.{uses_it-apart}
+use Rattle.tk_family.specs.Families.{Links, IsUsed, IsTwice, LinksWithin}
+use Rattle.tk_family.specs.Kept.{has_dot, Hangs, IsForest}
+use Rattle.tk_family.specs.Rows.{Rows, link_in, code_in, count_in, first_in, marked_in, used_in, again_in, is_some_use, is_often, links_of, named_of}
+use Rattle.tk_family.specs.Takes.{without, with_first, HasUses, first_uses, counted}
+use Rattle.tk_family.specs.Uses.{is_code, is_refresh, uses_by}
+use Rattle.tk_family.specs.Writes.{as_uses, with_users}
+use Rattle.tk_family.proofs.DotLaws.{dot_eq-same, dot_eq-true, cases_dots, has-cons, has-here, list_none}
+use Rattle.tk_family.proofs.Adding.{Adds, Within-adds}
+use Rattle.tk_family.proofs.Growth.{IsUsed-adds, IsTwice-adds}
+use Rattle.tk_family.proofs.FamilyLaws.{use_of-within, IsTwice-within}
+use Rattle.tk_family.proofs.UseLaws.{uses_by-true, use_of-uses}
+use Rattle.tk_family.proofs.ChildLaws.{dots_of, users-has, has-users, users-distinct}
+use Rattle.tk_family.proofs.HangLaws.{without-here, without-other, first_here}
 
--- ---- lists
+pub Adds-without : (f : Links) (d : Dot) (l : Link) → f d ≡ Some l → Adds (without f d) f d l
+Adds-without f d l here = record { free = without-here f d; here = here; others = λ q ne. sym (without-other f d q ne) }
 
-chain_head : (n : Dot → Option Dot) (e : Dot) (rest : List Dot) → IsChain n (Some e) rest → (ys : List Dot) × (rest ≡ e ∷ ys) × IsChain n (n e) ys
-chain_head n e [] h = absurd (let clash : Some e ≡ None = h in cc)
-chain_head n e (y ∷ ys) h =
-    let some : Some e ≡ Some y = h.0 in
-    let same : e ≡ y = cc in
-    (ys, ap (λ (z : Dot). z ∷ ys) (sym same), subst (λ (z : Dot). IsChain n (n z) ys) (sym same) h.1)
+pub used-within : (f g : Links) → LinksWithin f g → (k : TokenId) → IsUsed f k → IsUsed g k
+used-within f g w k u = record { user = u.user; by = use_of-within f g w u.user (f u.user) k refl u.by }
 
-chain_none : (n : Dot → Option Dot) (rest : List Dot) → IsChain n None rest → rest ≡ []
-chain_none n [] h = refl
-chain_none n (y ∷ ys) h = absurd (let clash : None ≡ Some y = h.0 in cc)
+-- ---- the uses are as they were
 
--- an element in the middle of a list of distinct dots is not among those that follow
-IsDistinct-after : (a : List Dot) (x : Dot) (b : List Dot) → IsDistinct dot_eq (a ++ x ∷ b) → has b x ≡ false
-IsDistinct-after [] x b d = list_none x b (IsDistinct-head dot_eq x b d)
-IsDistinct-after (z ∷ zs) x b d = IsDistinct-after zs x b (IsDistinct-tail dot_eq z (zs ++ x ∷ b) d)
+pub HasUses-forest : (T : Rows) → IsForest T → HasUses (links_of T) T
+HasUses-forest T t = record { used = t.used; uses = t.uses; again = t.again; twice = t.twice }
 
-pub row_named : (o : Option Row) (l : Link) → link_in o ≡ Some l → RowAt o
-row_named None l h = absurd (let clash : None ≡ Some l = h in cc)
-row_named (Some r) l h = record { row = r; is = refl }
-
-pub row_first : (o : Option Row) (e : Dot) → first_in o ≡ Some e → RowAt o
-row_first None e h = absurd (let clash : None ≡ Some e = h in cc)
-row_first (Some r) e h = record { row = r; is = refl }
-
-or_false : (b : Bool) → (b || false) ≡ b
-or_false true = refl
-or_false false = refl
-
--- ---- the reset
-
-unused_cols : (o : Option Row) → (link_in (without_users o) ≡ link_in o) × (code_in (without_users o) ≡ code_in o) × (count_in (without_users o) ≡ count_in o) × (next_in (without_users o) ≡ next_in o) × (first_in (without_users o) ≡ None)
-unused_cols None = (refl, refl, refl, refl, refl)
-unused_cols (Some r) = (refl, refl, refl, refl, refl)
-
-unused_flags : (o : Option Row) (k : Kind) → (marked_in (without_users o) k ≡ marked_in o k) × (used_in (without_users o) k ≡ false) × (again_in (without_users o) k ≡ false)
-unused_flags None k = (refl, refl, refl)
-unused_flags (Some r) kind.Code = (refl, refl, refl)
-unused_flags (Some r) kind.Access = (refl, refl, refl)
-unused_flags (Some r) kind.Refresh = (refl, refl, refl)
-
-unused_row : (o : Option Row) → RowAt o → RowAt (without_users o)
-unused_row o r = record { row = record r.row { first = None; redeemed = Never; rotated = Never }; is = ap without_users r.is }
-
-kept-reset : (T M : Rows) (p : Dot) → ((q : Dot) → M q ≡ cond (dot_eq p q) (without_users (T q)) (T q)) → KeptBut T M p
-kept-reset T M p h =
-    let other : (q : Dot) → q ≢ p → M q ≡ T q = λ q ne. h q ∙ cond-false _ _ _ (dot_eq-apart p q (λ same. ne (sym same))) in
+pub HasUses-kept : (f g : Links) (T N : Rows) → HasUses f T → ((q : Dot) → f q ≡ g q) → ((k : TokenId) → used_in (N k.dot) k.kind ≡ used_in (T k.dot) k.kind) → ((k : TokenId) → again_in (N k.dot) k.kind ≡ again_in (T k.dot) k.kind) → HasUses g N
+HasUses-kept f g T N h same used again =
+    let there : LinksWithin f g = λ q l at. sym (same q) ∙ at in
+    let back : LinksWithin g f = λ q l at. same q ∙ at in
     record {
-      link = λ q. ap link_in (h q) ∙ column link_in (dot_eq p q) (without_users (T q)) (T q) (unused_cols (T q)).0;
-      code = λ q. ap code_in (h q) ∙ column code_in (dot_eq p q) (without_users (T q)) (T q) (unused_cols (T q)).1;
-      count = λ q. ap count_in (h q) ∙ column count_in (dot_eq p q) (without_users (T q)) (T q) (unused_cols (T q)).2;
-      marked = λ q k. ap (λ (o : Option Row). marked_in o k) (h q) ∙ column (λ (o : Option Row). marked_in o k) (dot_eq p q) (without_users (T q)) (T q) (unused_flags (T q) k).0;
-      first = λ q ne. ap first_in (other q ne);
-      next = λ q _. ap next_in (h q) ∙ column next_in (dot_eq p q) (without_users (T q)) (T q) (unused_cols (T q)).3;
-      used = λ q k ne. ap (λ (o : Option Row). used_in o k) (other q ne);
-      again = λ q k ne. ap (λ (o : Option Row). again_in o k) (other q ne);
+      used = λ k at. used-within f g there k (h.used k (sym (used k) ∙ at));
+      uses = λ k u. used k ∙ h.uses k (used-within g f back k u);
+      again = λ k at. IsTwice-within f g there k (h.again k (sym (again k) ∙ at));
+      twice = λ k u. again k ∙ h.twice k (IsTwice-within g f back k u);
     }
 
--- ---- the loop
-
--- the invariant: the chain of p has the dots that were visited, without d, and the rest of the old
--- chain is found by `next` from the cursor on
-pub record Rehanging (T M : Rows) (p d : Dot) (cursor : Option Dot) (left : ℕ) : Type 0 where
-  pub seen : List Dot
-  pub rest : List Dot
-  pub done : List Dot
-  pub names : NamesAll (links_of T) p (seen ++ rest)
-  pub chain : IsChain (λ q. next_in (M q)) cursor rest
-  pub built : IsChain (λ q. next_in (M q)) (first_in (M p)) done
-  pub done_seen : (e : Dot) → has done e ≡ true → (has seen e ≡ true) × (e ≢ d)
-  pub done_all : (e : Dot) → has seen e ≡ true → e ≢ d → has done e ≡ true
-  pub distinct : IsDistinct dot_eq done
-  pub kept : KeptBut T M p
-  pub used_here : (k : Kind) → used_in (M p) k ≡ uses_some (links_of T) (token_at p k) done
-  pub again_here : (k : Kind) → again_in (M p) k ≡ uses_two (links_of T) (token_at p k) done
-  pub room : length rest ≤ left
-  pub row : RowAt (M p)
-
-pub Rehanging-starts : (m : RowMap) (M : Rows) (p d : Dot) → Hangs (table m) p → IsSome (table m p) → ((q : Dot) → M q ≡ cond (dot_eq p q) (without_users (table m q)) (table m q)) → Rehanging (table m) M p d (first_in (table m p)) (map.len m)
-unfolding IsDistinct
-Rehanging-starts m M p d h row reset =
-    let T : Rows = table m in
-    let kept : KeptBut T M p = kept-reset T M p reset in
-    let here : M p ≡ without_users (T p) = reset p ∙ cond-true _ _ _ (dot_eq-same p) in
+-- a code uses no token
+pub HasUses-code : (f : Links) (T : Rows) (d : Dot) → f d ≡ Some Code → HasUses f T → HasUses (without f d) T
+HasUses-code f T d here h =
+    let a : Adds (without f d) f d Code = Adds-without f d Code here in
+    let w : LinksWithin (without f d) f = Within-adds (without f d) f d Code a in
     record {
-      seen = [];
-      rest = h.list;
-      done = [];
-      names = h.names;
-      chain = IsChain-same (λ q. next_in (T q)) (λ q. next_in (M q)) (first_in (T p)) h.list h.chain (λ e _. ap next_in (reset e) ∙ column next_in (dot_eq p e) (without_users (T e)) (T e) (unused_cols (T e)).3);
-      built = ap first_in here ∙ (unused_cols (T p)).4;
-      done_seen = λ e at. absurd (true≢false (sym at));
-      done_all = λ e at. absurd (true≢false (sym at));
-      distinct = tt;
-      kept = kept;
-      used_here = λ k. ap (λ (o : Option Row). used_in o k) here ∙ (unused_flags (T p) k).1;
-      again_here = λ k. ap (λ (o : Option Row). again_in o k) here ∙ (unused_flags (T p) k).2;
-      room = Hangs-room m p h;
-      row = subst (λ (o : Option Row). RowAt o) (sym here) (unused_row (T p) (row_at (T p) row));
+      used = λ k at. elim (IsUsed-adds (without f d) f d Code a k (h.used k at)) [ inl now ↦ absurd (let clash : None ≡ Some k = now in cc) | inr old ↦ old ];
+      uses = λ k u. h.uses k (used-within (without f d) f w k u);
+      again = λ k at. elim (IsTwice-adds (without f d) f d Code a k (h.again k at)) [ inl now ↦ absurd (let clash : None ≡ Some k = now.0 in cc) | inr old ↦ old ];
+      twice = λ k u. h.twice k (IsTwice-within (without f d) f w k u);
     }
 
-more_of : (rest : List Dot) (e : Dot) (ys : List Dot) (left : ℕ) → rest ≡ e ∷ ys → length rest ≤ left → 1 ≤ left
-more_of rest e ys left is room = let long : length rest ≡ length (e ∷ ys) = ap length is in omega arith
+-- ---- counts up to two
 
-less_of : (rest : List Dot) (e : Dot) (ys : List Dot) (left : ℕ) → rest ≡ e ∷ ys → length rest ≤ left → length ys ≤ left - 1
-less_of rest e ys left is room = let long : length rest ≡ length (e ∷ ys) = ap length is in omega arith
+abbrev total : Bool → List Child → ℕ
+total b cs = cond b 1 0 + length (take 2 cs)
 
-pub Rehanging-more : (T M : Rows) (p d e : Dot) (left : ℕ) → Rehanging T M p d (Some e) left → 1 ≤ left
-Rehanging-more T M p d e left r =
-    let head : (ys : List Dot) × (r.rest ≡ e ∷ ys) × IsChain (λ q. next_in (M q)) (next_in (M e)) ys = chain_head (λ q. next_in (M q)) e r.rest r.chain in
-    more_of r.rest e head.0 left head.1 r.room
+count_some : (b : Bool) (cs : List Child) → is_some_use (as_uses (total b cs)) ≡ true → (b ≡ true) ⊎ ((e : Dot) × (has (dots_of cs) e ≡ true))
+count_some true cs h = inl refl
+count_some false [] h = absurd (true≢false (sym h))
+count_some false (x ∷ xs) h = inr (x.child, has-here x.child (dots_of xs))
 
--- the next dot of the chain
-record Next (T M : Rows) (p d e : Dot) (seen : List Dot) : Type 0 where
-  pub ys : List Dot
-  pub names : NamesAll (links_of T) p ((seen ++ e ∷ []) ++ ys)
-  pub chain : IsChain (λ q. next_in (M q)) (next_in (M e)) ys
-  pub named : named_of (links_of T e) ≡ Some p
-  pub fresh : has seen e ≡ false
-  pub later : has ys e ≡ false
+some_first : (b : Bool) (cs : List Child) → b ≡ true → is_some_use (as_uses (total b cs)) ≡ true
+some_first true [] h = refl
+some_first true (x ∷ []) h = refl
+some_first true (x ∷ (y ∷ ys)) h = refl
+some_first false cs h = absurd (true≢false (sym h))
 
-next_of : (T M : Rows) (p d e : Dot) (left : ℕ) (r : Rehanging T M p d (Some e) left) → (n : Next T M p d e r.seen) × (length n.ys ≤ left - 1)
-next_of T M p d e left r =
-    let head : (ys : List Dot) × (r.rest ≡ e ∷ ys) × IsChain (λ q. next_in (M q)) (next_in (M e)) ys = chain_head (λ q. next_in (M q)) e r.rest r.chain in
-    let ys : List Dot = head.0 in
-    let split : NamesAll (links_of T) p (r.seen ++ e ∷ ys) = subst (λ (zs : List Dot). NamesAll (links_of T) p (r.seen ++ zs)) head.1 r.names in (
+some_more : (b : Bool) (cs : List Child) (e : Dot) → has (dots_of cs) e ≡ true → is_some_use (as_uses (total b cs)) ≡ true
+some_more b [] e h = absurd (true≢false (sym h))
+some_more true (x ∷ []) e h = refl
+some_more false (x ∷ []) e h = refl
+some_more true (x ∷ (y ∷ ys)) e h = refl
+some_more false (x ∷ (y ∷ ys)) e h = refl
+
+-- two dots of the list
+record TwoOf (list : List Dot) : Type 0 where
+  pub one : Dot
+  pub two : Dot
+  pub apart : one ≢ two
+  pub one_in : has list one ≡ true
+  pub two_in : has list two ≡ true
+
+count_two : (b : Bool) (cs : List Child) → IsDistinct dot_eq (dots_of cs) → is_often (as_uses (total b cs)) ≡ true → ((b ≡ true) × (e : Dot) × (has (dots_of cs) e ≡ true)) ⊎ TwoOf (dots_of cs)
+count_two true [] distinct h = absurd (true≢false (sym h))
+count_two true (x ∷ xs) distinct h = inl (refl, x.child, has-here x.child (dots_of xs))
+count_two false [] distinct h = absurd (true≢false (sym h))
+count_two false (x ∷ []) distinct h = absurd (true≢false (sym h))
+count_two false (x ∷ (y ∷ ys)) distinct h =
+    let none : has (y.child ∷ dots_of ys) x.child ≡ false = list_none x.child (y.child ∷ dots_of ys) (IsDistinct-head dot_eq x.child (y.child ∷ dots_of ys) distinct) in
+    let second : has (y.child ∷ dots_of ys) y.child ≡ true = has-here y.child (dots_of ys) in
+    inr (record {
+      one = x.child;
+      two = y.child;
+      apart = λ same. true≢false (sym second ∙ (ap (has (y.child ∷ dots_of ys)) (sym same) ∙ none));
+      one_in = has-here x.child (y.child ∷ dots_of ys);
+      two_in = or_later (dot_eq y.child x.child) (has (y.child ∷ dots_of ys) y.child) second;
+    })
+  where
+    or_later : (a b : Bool) → b ≡ true → (a || b) ≡ true
+    or_later true b h = refl
+    or_later false b h = h
+
+two_first : (b : Bool) (cs : List Child) (e : Dot) → b ≡ true → has (dots_of cs) e ≡ true → is_often (as_uses (total b cs)) ≡ true
+two_first true [] e first h = absurd (true≢false (sym h))
+two_first true (x ∷ []) e first h = refl
+two_first true (x ∷ (y ∷ ys)) e first h = refl
+two_first false cs e first h = absurd (true≢false (sym first))
+
+only : (x a : Dot) → has (x ∷ []) a ≡ true → a ≡ x
+only x a h = elim (has-cons x [] a h) [ inl same ↦ same | inr none ↦ absurd (true≢false (sym none)) ]
+
+two_more : (b : Bool) (cs : List Child) (x y : Dot) → x ≢ y → has (dots_of cs) x ≡ true → has (dots_of cs) y ≡ true → is_often (as_uses (total b cs)) ≡ true
+two_more b [] x y ne at_x at_y = absurd (true≢false (sym at_x))
+two_more b (c ∷ []) x y ne at_x at_y = absurd (ne (only c.child x at_x ∙ sym (only c.child y at_y)))
+two_more true (c ∷ (e ∷ es)) x y ne at_x at_y = refl
+two_more false (c ∷ (e ∷ es)) x y ne at_x at_y = refl
+
+-- ---- the uses of a token, counted anew
+
+-- d is no child any more: o is now the first child of t's dot, and the set s has the others
+pub record Recounts (f : Links) (first : Dot → Option Dot) (s : BTreeSet Child) (d : Dot) (t : TokenId) (o : Option Dot) : Type 0 where
+  pub uses : uses_by (f d) t ≡ true
+  pub hangs : Hangs (without f d) (with_first first t.dot o) (others_in s)
+  pub ordered : IsOrdered child_cmp s
+
+kept_link : (f : Links) (d e : Dot) (k : TokenId) → uses_by (without f d e) k ≡ true → without f d e ≡ f e
+kept_link f d e k by = elim (cases_dots e d) [
+  | inl same ↦ absurd (true≢false (sym by ∙ ap (λ (l : Option Link). uses_by l k) (ap (without f d) same ∙ without-here f d)))
+  | inr ne ↦ without-other f d e ne
+]
+
+-- the first child and the set have the users of t
+in_set : (f : Links) (first : Dot → Option Dot) (s : BTreeSet Child) (d : Dot) (t : TokenId) (o : Option Dot) → Recounts f first s d t o → (e : Dot) → uses_by (without f d e) t ≡ true → has_dot o e ≡ false → has (dots_of (users_in s t)) e ≡ true
+in_set f first s d t o x e by apart =
+    let at : others_in s t e ≡ true = x.hangs.rest t e ∙ and_from _ _ by (ap (λ (q : Option Dot). not (has_dot q e)) (first_here first t.dot o) ∙ ap not apart) in
+    users-has s t e at (x.hangs.ranged t e at)
+
+of_set : (f : Links) (first : Dot → Option Dot) (s : BTreeSet Child) (d : Dot) (t : TokenId) (o : Option Dot) → Recounts f first s d t o → (e : Dot) → has (dots_of (users_in s t)) e ≡ true → (uses_by (without f d e) t ≡ true) × (has_dot o e ≡ false)
+of_set f first s d t o x e e_in =
+    let parts = and_parts _ _ (sym (x.hangs.rest t e) ∙ has-users s t e e_in) in
+    (parts.0, not_true (has_dot o e) (ap (λ (q : Option Dot). not (has_dot q e)) (sym (first_here first t.dot o)) ∙ parts.1))
+  where
+    not_true : (b : Bool) → not b ≡ true → b ≡ false
+    not_true true h = absurd (true≢false (sym h))
+    not_true false h = refl
+
+of_first : (f : Links) (first : Dot → Option Dot) (s : BTreeSet Child) (d : Dot) (t : TokenId) (o : Option Dot) → Recounts f first s d t o → first_uses f o t ≡ true → (e : Dot) × (uses_by (without f d e) t ≡ true) × (has_dot o e ≡ true)
+of_first f first s d t None x h = absurd (true≢false (sym h))
+of_first f first s d t (Some e) x h =
+    let names : named_of (without f d e) ≡ Some t.dot = x.hangs.named t.dot e (first_here first t.dot (Some e)) in
+    let ne : e ≢ d = λ same. (let clash : None ≡ Some t.dot = sym (ap named_of (ap (without f d) same ∙ without-here f d)) ∙ names in cc) in
+    (e, ap (λ (l : Option Link). uses_by l t) (without-other f d e ne) ∙ h, dot_eq-same e)
+
+by_first : (f : Links) (d : Dot) (t : TokenId) (o : Option Dot) (e : Dot) → uses_by (without f d e) t ≡ true → has_dot o e ≡ true → first_uses f o t ≡ true
+by_first f d t None e by at = absurd (true≢false (sym at))
+by_first f d t (Some x) e by at = subst (λ (y : Dot). uses_by (f y) t ≡ true) (sym (dot_eq-true x e at)) (ap (λ (l : Option Link). uses_by l t) (sym (kept_link f d e t by)) ∙ by)
+
+one_dot : (o : Option Dot) (x y : Dot) → has_dot o x ≡ true → has_dot o y ≡ true → x ≡ y
+one_dot None x y h i = absurd (true≢false (sym h))
+one_dot (Some e) x y h i = sym (dot_eq-true e x h) ∙ dot_eq-true e y i
+
+pub counted_used : (f : Links) (first : Dot → Option Dot) (s : BTreeSet Child) (d : Dot) (t : TokenId) (o : Option Dot) → Recounts f first s d t o → is_some_use (counted f o s t) ≡ true → IsUsed (without f d) t
+counted_used f first s d t o x h = elim (count_some (first_uses f o t) (users_in s t) h) [
+  | inl now ↦ let r : (e : Dot) × (uses_by (without f d e) t ≡ true) × (has_dot o e ≡ true) = of_first f first s d t o x now in record { user = r.0; by = uses_by-true (without f d r.0) t r.1 }
+  | inr more ↦ record { user = more.0; by = uses_by-true (without f d more.0) t (of_set f first s d t o x more.0 more.1).0 }
+]
+
+pub used_counted : (f : Links) (first : Dot → Option Dot) (s : BTreeSet Child) (d : Dot) (t : TokenId) (o : Option Dot) → Recounts f first s d t o → IsUsed (without f d) t → is_some_use (counted f o s t) ≡ true
+used_counted f first s d t o x u =
+    let by : uses_by (without f d u.user) t ≡ true = use_of-uses (without f d u.user) t u.by in
+    elim (cases_Bool (has_dot o u.user)) [
+      | inl at ↦ some_first (first_uses f o t) (users_in s t) (by_first f d t o u.user by at)
+      | inr apart ↦ some_more (first_uses f o t) (users_in s t) u.user (in_set f first s d t o x u.user by apart)
+    ]
+
+pub counted_twice : (f : Links) (first : Dot → Option Dot) (s : BTreeSet Child) (d : Dot) (t : TokenId) (o : Option Dot) → Recounts f first s d t o → is_often (counted f o s t) ≡ true → IsTwice (without f d) t
+counted_twice f first s d t o x h = elim (count_two (first_uses f o t) (users_in s t) (users-distinct s t x.ordered) h) [
+  | inl now ↦
+      let r : (e : Dot) × (uses_by (without f d e) t ≡ true) × (has_dot o e ≡ true) = of_first f first s d t o x now.0 in
+      let more : (uses_by (without f d now.1) t ≡ true) × (has_dot o now.1 ≡ false) = of_set f first s d t o x now.1 now.2 in
       record {
-        ys = ys;
-        names = subst (λ (zs : List Dot). NamesAll (links_of T) p zs) (sym (append_assoc r.seen (e ∷ []) ys)) split;
-        chain = head.2;
-        named = split.sound e (has-right r.seen (e ∷ ys) e (has-here e ys));
-        fresh = IsDistinct-middle r.seen e ys split.distinct;
-        later = IsDistinct-after r.seen e ys split.distinct;
-      },
-      less_of r.rest e ys left head.1 r.room,
-    )
+        one = r.0;
+        two = now.1;
+        apart = λ same. true≢false (sym r.2 ∙ (ap (has_dot o) same ∙ more.1));
+        by_one = uses_by-true (without f d r.0) t r.1;
+        by_two = uses_by-true (without f d now.1) t more.0;
+      }
+  | inr both ↦ record {
+    one = both.one;
+    two = both.two;
+    apart = both.apart;
+    by_one = uses_by-true (without f d both.one) t (of_set f first s d t o x both.one both.one_in).0;
+    by_two = uses_by-true (without f d both.two) t (of_set f first s d t o x both.two both.two_in).0;
+  }
+]
 
--- the dot that is taken out is passed over
-pub Rehanging-skips : (T M : Rows) (p d e : Dot) (left : ℕ) → Rehanging T M p d (Some e) left → e ≡ d → Rehanging T M p d (next_in (M e)) (left - 1)
-Rehanging-skips T M p d e left r same =
-    let n : (n : Next T M p d e r.seen) × (length n.ys ≤ left - 1) = next_of T M p d e left r in
-    record {
-      seen = r.seen ++ e ∷ [];
-      rest = n.0.ys;
-      done = r.done;
-      names = n.0.names;
-      chain = n.0.chain;
-      built = r.built;
-      done_seen = λ q at. (has-left r.seen (e ∷ []) q (r.done_seen q at).0, (r.done_seen q at).1);
-      done_all = λ q at ne. elim (has-append r.seen (e ∷ []) q at) [
-        | inl old ↦ r.done_all q old ne
-        | inr now ↦ elim (has-cons e [] q now) [ inl one ↦ absurd (ne (one ∙ same)) | inr none ↦ absurd (true≢false (sym none)) ]
-      ];
-      distinct = r.distinct;
-      kept = r.kept;
-      used_here = r.used_here;
-      again_here = r.again_here;
-      room = n.1;
-      row = r.row;
-    }
+pub twice_counted : (f : Links) (first : Dot → Option Dot) (s : BTreeSet Child) (d : Dot) (t : TokenId) (o : Option Dot) → Recounts f first s d t o → IsTwice (without f d) t → is_often (counted f o s t) ≡ true
+twice_counted f first s d t o x u =
+    let b : Bool = first_uses f o t in
+    let cs : List Child = users_in s t in
+    let one : uses_by (without f d u.one) t ≡ true = use_of-uses (without f d u.one) t u.by_one in
+    let two : uses_by (without f d u.two) t ≡ true = use_of-uses (without f d u.two) t u.by_two in
+    elim (cases_Bool (has_dot o u.one)) [
+      | inl at_one ↦ elim (cases_Bool (has_dot o u.two)) [
+        | inl at_two ↦ absurd (u.apart (one_dot o u.one u.two at_one at_two))
+        | inr apart ↦ two_first b cs u.two (by_first f d t o u.one one at_one) (in_set f first s d t o x u.two two apart)
+      ]
+      | inr apart_one ↦ elim (cases_Bool (has_dot o u.two)) [
+        | inl at_two ↦ two_first b cs u.one (by_first f d t o u.two two at_two) (in_set f first s d t o x u.one one apart_one)
+        | inr apart_two ↦ two_more b cs u.one u.two u.apart (in_set f first s d t o x u.one one apart_one) (in_set f first s d t o x u.two two apart_two)
+      ]
+    ]
 
-named_some : (o : Option Link) (x : Dot) → named_of o ≡ Some x → (k : Link) × (o ≡ Some k)
-named_some None x h = absurd (cc)
-named_some (Some k) x h = (k, refl)
+-- ---- the row of the dot
 
--- each other dot is put into the chain again
-pub Rehanging-turns : (T M N : Rows) (p d e : Dot) (left : ℕ) → Rehanging T M p d (Some e) left → e ≢ d → ((l : Link) → link_in (M e) ≡ Some l → (q : Dot) → N q ≡ hung M e l q) → Rehanging T N p d (next_in (M e)) (left - 1)
-Rehanging-turns T M N p d e left r ne hangs =
-    let n : (n : Next T M p d e r.seen) × (length n.ys ≤ left - 1) = next_of T M p d e left r in
-    let some : (l : Link) × (links_of T e ≡ Some l) = named_some (links_of T e) p n.0.named in
-    let l : Link = some.0 in
-    let at : link_in (M e) ≡ Some l = r.kept.link e ∙ some.1 in
-    let names : named_by l ≡ Some p = sym (ap named_of some.1) ∙ n.0.named in
-    let h : HungCols M N e p l = hung-cols-all M N e p l names (row_named (M e) l at) r.row (hangs l at) in
-    let not_done : (q : Dot) → has r.done q ≡ true → q ≢ e = λ q q_in same. true≢false (sym (subst (λ (y : Dot). has r.seen y ≡ true) same (r.done_seen q q_in).0) ∙ n.0.fresh) in
-    let not_later : (q : Dot) → has n.0.ys q ≡ true → q ≢ e = λ q q_in same. true≢false (sym (subst (λ (y : Dot). has n.0.ys y ≡ true) same q_in) ∙ n.0.later) in
-    let none : has r.done e ≡ false = false_from_ne_true (has r.done e) (λ e_in. not_done e e_in refl) in
-    record {
-      seen = r.seen ++ e ∷ [];
-      rest = n.0.ys;
-      done = e ∷ r.done;
-      names = n.0.names;
-      chain = IsChain-same (λ q. next_in (M q)) (λ q. next_in (N q)) (next_in (M e)) n.0.ys n.0.chain (λ q q_in. h.next_old q (not_later q q_in));
-      built = (h.first_here, subst (λ (o : Option Dot). IsChain (λ q. next_in (N q)) o r.done) (sym h.next_here) (IsChain-same (λ q. next_in (M q)) (λ q. next_in (N q)) (first_in (M p)) r.done r.built (λ q q_in. h.next_old q (not_done q q_in))));
-      done_seen = λ q q_in. elim (has-cons e r.done q q_in) [
-        | inl same ↦ (has-right r.seen (e ∷ []) q (subst (λ (y : Dot). has (e ∷ []) y ≡ true) (sym same) (has-here e [])), λ is. ne (sym same ∙ is))
-        | inr more ↦ (has-left r.seen (e ∷ []) q (r.done_seen q more).0, (r.done_seen q more).1)
-      ];
-      done_all = λ q q_in apart. elim (has-append r.seen (e ∷ []) q q_in) [
-        | inl old ↦ has-there e r.done q (r.done_all q old apart)
-        | inr now ↦ elim (has-cons e [] q now) [ inl one ↦ subst (λ (y : Dot). has (e ∷ r.done) y ≡ true) (sym one) (has-here e r.done) | inr none ↦ absurd (true≢false (sym none)) ]
-      ];
-      distinct = IsDistinct-cons dot_eq e r.done (all_apart e r.done none) r.distinct;
-      kept = record {
-        link = λ q. elim (cases_dots q e) [
-          | inl same ↦ ap (λ (y : Dot). link_in (N y)) same ∙ (h.link_here ∙ (sym some.1 ∙ ap (links_of T) (sym same)))
-          | inr apart ↦ h.link_old q apart ∙ r.kept.link q
-        ];
-        code = λ q. h.code q ∙ r.kept.code q;
-        count = λ q. h.count q ∙ r.kept.count q;
-        marked = λ q k. h.marked q k ∙ r.kept.marked q k;
-        first = λ q apart. h.first_old q apart ∙ r.kept.first q apart;
-        next = λ q other. h.next_old q (λ same. other (ap (λ (y : Dot). named_of (links_of T y)) same ∙ n.0.named)) ∙ r.kept.next q other;
-        used = λ q k apart. h.used (token_at q k) ∙ (ap (λ (b : Bool). used_in (M q) k || b) (uses_it-apart l p (token_at q k) names apart) ∙ (or_false (used_in (M q) k) ∙ r.kept.used q k apart));
-        again = λ q k apart. h.again (token_at q k) ∙ (ap (λ (b : Bool). again_in (M q) k || (b && used_in (M q) k)) (uses_it-apart l p (token_at q k) names apart) ∙ (or_false (again_in (M q) k) ∙ r.kept.again q k apart));
-      };
-      used_here = λ k. h.used (token_at p k) ∙ (ap (λ (b : Bool). b || uses_it l (token_at p k)) (r.used_here k) ∙ ap (λ (o : Option Link). uses_some (links_of T) (token_at p k) r.done || uses_by o (token_at p k)) (sym some.1));
-      again_here = λ k. h.again (token_at p k) ∙ (ap (λ (b : Bool). b || (uses_it l (token_at p k) && used_in (M p) k)) (r.again_here k)
-          ∙ (ap (λ (b : Bool). uses_two (links_of T) (token_at p k) r.done || (uses_it l (token_at p k) && b)) (r.used_here k)
-          ∙ ap (λ (o : Option Link). uses_two (links_of T) (token_at p k) r.done || (uses_by o (token_at p k) && uses_some (links_of T) (token_at p k) r.done)) (sym some.1)));
-      room = n.1;
-      row = row_first (N p) e h.first_here;
-    }
+pub users_cols : (o : Option Row) (e : Option Dot) (k : Kind) (u : Uses) → (link_in (with_users o e k u) ≡ link_in o) × (code_in (with_users o e k u) ≡ code_in o) × (count_in (with_users o e k u) ≡ count_in o)
+users_cols None e k u = (refl, refl, refl)
+users_cols (Some r) e kind.Code u = (refl, refl, refl)
+users_cols (Some r) e kind.Access u = (refl, refl, refl)
+users_cols (Some r) e kind.Refresh u = (refl, refl, refl)
 
-pub Rehanging-ends : (T M : Rows) (p d : Dot) (left : ℕ) → Rehanging T M p d None left → Unhangs T M p d
-Rehanging-ends T M p d left r =
-    let over : r.rest ≡ [] = chain_none (λ q. next_in (M q)) r.rest r.chain in
-    let names : NamesAll (links_of T) p r.seen = subst (λ (zs : List Dot). NamesAll (links_of T) p zs) (ap (λ (zs : List Dot). r.seen ++ zs) over ∙ append-nil r.seen) r.names in
-    record {
-      kept = r.kept;
-      list = r.done;
-      chain = r.built;
-      names = λ e e_in. (names.sound e (r.done_seen e e_in).0, (r.done_seen e e_in).1);
-      all = λ e named ne. r.done_all e (names.all e named) ne;
-      distinct = r.distinct;
-      used_here = r.used_here;
-      again_here = r.again_here;
-    }
+pub users_marked : (o : Option Row) (e : Option Dot) (k : Kind) (u : Uses) (j : Kind) → marked_in (with_users o e k u) j ≡ marked_in o j
+users_marked None e k u j = refl
+users_marked (Some r) e kind.Code u kind.Code = refl
+users_marked (Some r) e kind.Code u kind.Access = refl
+users_marked (Some r) e kind.Code u kind.Refresh = refl
+users_marked (Some r) e kind.Access u kind.Code = refl
+users_marked (Some r) e kind.Access u kind.Access = refl
+users_marked (Some r) e kind.Access u kind.Refresh = refl
+users_marked (Some r) e kind.Refresh u kind.Code = refl
+users_marked (Some r) e kind.Refresh u kind.Access = refl
+users_marked (Some r) e kind.Refresh u kind.Refresh = refl
+
+pub users_first : (r : Row) (e : Option Dot) (k : Kind) (u : Uses) → first_in (with_users (Some r) e k u) ≡ e
+users_first r e kind.Code u = refl
+users_first r e kind.Access u = refl
+users_first r e kind.Refresh u = refl
+
+pub users_here : (r : Row) (e : Option Dot) (k : Kind) (u : Uses) → (is_code k || is_refresh k) ≡ true → (used_in (with_users (Some r) e k u) k ≡ is_some_use u) × (again_in (with_users (Some r) e k u) k ≡ is_often u)
+users_here r e kind.Code u h = (refl, refl)
+users_here r e kind.Access u h = absurd (true≢false (sym h))
+users_here r e kind.Refresh u h = (refl, refl)
+
+pub users_apart : (o : Option Row) (e : Option Dot) (k : Kind) (u : Uses) (j : Kind) → j ≢ k → (used_in (with_users o e k u) j ≡ used_in o j) × (again_in (with_users o e k u) j ≡ again_in o j)
+users_apart None e k u j ne = (refl, refl)
+users_apart (Some r) e kind.Code u kind.Code ne = absurd (ne refl)
+users_apart (Some r) e kind.Code u kind.Access ne = (refl, refl)
+users_apart (Some r) e kind.Code u kind.Refresh ne = (refl, refl)
+users_apart (Some r) e kind.Access u kind.Code ne = (refl, refl)
+users_apart (Some r) e kind.Access u kind.Access ne = absurd (ne refl)
+users_apart (Some r) e kind.Access u kind.Refresh ne = (refl, refl)
+users_apart (Some r) e kind.Refresh u kind.Code ne = (refl, refl)
+users_apart (Some r) e kind.Refresh u kind.Access ne = (refl, refl)
+users_apart (Some r) e kind.Refresh u kind.Refresh ne = absurd (ne refl)

@@ -8,8 +8,8 @@ use Rattle.std.specs.List.{IsDistinct}
 use Rattle.tk_handle.specs.declared.dot.Dot.{Dot}
 use Rattle.tk_handle.specs.declared.kind.Kind.{Kind}
 use Rattle.tk_family.specs.Dots.{dot_eq, has}
-use Rattle.tk_family.specs.Rows.{Rows, link_in, code_in, count_in, first_in, next_in, marked_in}
-use Rattle.tk_family.specs.Rows.{used_in, again_in, blamed_in}
+use Rattle.tk_family.specs.Rows.{Rows, link_in, code_in, count_in, first_in, marked_in, used_in}
+use Rattle.tk_family.specs.Rows.{again_in, blamed_in}
 
 -- f sends exactly n dots to c
 pub record IsCount (f : Dot → Option Dot) (c : Dot) (n : ℕ) : Type 0 where
@@ -37,7 +37,6 @@ pub record AlikeButCount (A B : Rows) : Type 0 where
   pub link : (q : Dot) → link_in (B q) ≡ link_in (A q)
   pub code : (q : Dot) → code_in (B q) ≡ code_in (A q)
   pub first : (q : Dot) → first_in (B q) ≡ first_in (A q)
-  pub next : (q : Dot) → next_in (B q) ≡ next_in (A q)
   pub marked : (q : Dot) (k : Kind) → marked_in (B q) k ≡ marked_in (A q) k
   pub used : (q : Dot) (k : Kind) → used_in (B q) k ≡ used_in (A q) k
   pub again : (q : Dot) (k : Kind) → again_in (B q) k ≡ again_in (A q) k

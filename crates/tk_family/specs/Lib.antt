@@ -10,11 +10,13 @@
 --   Rows          the rows of a forest, and their columns
 --   Packed        a row in little memory
 --   Counts        how many dots of a family are bad
---   Kept          what the rows of a forest keep
+--   Children      the children of dots beside the first of each, in a set
+--   Kept          what the rows of a forest and that set keep
 --   Writes        what the steps of a forest write
 --   Puts          what they do together
---   Uses          the uses of a token, counted along a list
+--   Uses          whether a link uses a token
 --   Takes         what removing a link or a mark does to the rows of a forest
+pub mod Children
 pub mod Counts
 pub mod Dots
 pub mod Families

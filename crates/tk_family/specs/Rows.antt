@@ -3,7 +3,7 @@
 --   Rows, RowMap, table            the row at each dot, if there is one; the rows of a map
 --   link_in, code_in               the link at a dot, the code that it is under
 --   count_in, dead_in              how many dots of a code's family are bad; whether one is
---   first_in, next_in              the chain of the dots whose links name a dot
+--   first_in, firsts_of            one of the dots whose links name a dot
 --   marked_in, used_in, again_in   by kind: a token of the dot is marked, is used, is used twice
 --   bad_in, blamed_in              the code or refresh token of the dot is marked, or used twice;
 --                                  the code of the family that is dead by that
@@ -55,15 +55,10 @@ count_in (Some row) = row.bad
 abbrev pub dead_in : Option Row → Bool
 dead_in row = nat_lt 0 (count_in row)
 
--- the first of the dots whose links name the dot
+-- one of the dots whose links name the dot
 abbrev pub first_in : Option Row → Option Dot
 first_in None = None
 first_in (Some row) = row.first
-
--- the next dot of the chain of those whose links name one dot
-abbrev pub next_in : Option Row → Option Dot
-next_in None = None
-next_in (Some row) = row.next
 
 -- ---- columns by kind
 
@@ -132,6 +127,10 @@ blamed_in row = if bad_in row then code_in row else None
 -- the links of the rows
 abbrev pub links_of : Rows → Links
 links_of T q = link_in (T q)
+
+-- one of the dots whose links name a dot, by the rows
+abbrev pub firsts_of : Rows → Dot → Option Dot
+firsts_of T q = first_in (T q)
 
 -- the marks of the rows
 abbrev pub marks_of : Rows → TokenId → Bool

@@ -1,27 +1,31 @@
 -- What removing a link or a mark does to the rows of a forest, and its steps (own).
---   without            links without the one at a dot
---   IsShort            a list has no room for all children of a dot
---   IsHung             each chain has the children of its dot, and each token its uses
---   KeptBut, Unhangs   a dot is out of the chain of the dot that it names, whose uses are counted
---                      anew
---   Unlinks            the link at a dot is gone; the codes in the other rows stay
---   Clears             a dot and what hung below it are under no code
---   Takes, Unmarks     a link is removed, or a mark
-use Rattle.std.specs.Prelude.{◌≡◌, ◌≢◌, ◌<◌, ℕ, true, false, if◌then◌else◌, List, ◌++◌, length}
-use Rattle.std.specs.Prelude.{Some, None}
-use Rattle.std.specs.List.{IsDistinct}
+--   without              links without the one at a dot
+--   IsShort              a list has no room for all children of a dot
+--   HasUses              each token has its uses
+--   KeptBut              the columns that stay if a dot is no child any more
+--   with_first           the first children, once that of a dot has changed
+--   first_uses, counted  the uses of a token, counted anew
+--   Unlinks              the link at a dot is gone; the codes in the other rows stay
+--   Clears               a dot and what hung below it are under no code
+--   Takes, Unmarks       a link is removed, or a mark
+use Rattle.std.specs.Prelude.{◌≡◌, ◌≢◌, ◌<◌, ◌+◌, ℕ, Bool, true, false, if◌then◌else◌, List, ◌++◌}
+use Rattle.std.specs.Prelude.{length, take, Option, Some, None}
+use Rattle.std.specs.BTreeSet.{BTreeSet}
 use Rattle.tk_handle.specs.declared.dot.Dot.{Dot}
 use Rattle.tk_handle.specs.declared.kind.Kind.{Kind}
 use Rattle.tk_handle.specs.declared.token_id.TokenId.{TokenId}
+use Rattle.tk_family.specs.declared.children.Child.{Child}
 use Rattle.tk_family.specs.declared.link.Link.{Link}
-use Rattle.tk_family.specs.Dots.{dot_eq, has}
+use Rattle.tk_family.specs.declared.row.Uses.{Uses}
+use Rattle.tk_family.specs.Children.{users_in}
+use Rattle.tk_family.specs.Dots.{dot_eq}
 use Rattle.tk_family.specs.Families.{Links, IsUsed, IsTwice}
-use Rattle.tk_family.specs.Kept.{IsChain, Hangs, IsForest}
+use Rattle.tk_family.specs.Kept.{IsForest}
 use Rattle.tk_family.specs.Puts.{FitsAll, Gathers}
-use Rattle.tk_family.specs.Rows.{Rows, link_in, code_in, count_in, first_in, next_in, marked_in}
-use Rattle.tk_family.specs.Rows.{used_in, again_in, links_of, marks_of, named_of}
-use Rattle.tk_family.specs.Uses.{uses_some, uses_two}
-use Rattle.tk_family.specs.Writes.{cleared}
+use Rattle.tk_family.specs.Rows.{Rows, link_in, code_in, count_in, first_in, marked_in, used_in}
+use Rattle.tk_family.specs.Rows.{again_in, links_of, marks_of}
+use Rattle.tk_family.specs.Uses.{uses_by}
+use Rattle.tk_family.specs.Writes.{as_uses, cleared}
 
 -- the links f without the one at d
 abbrev pub without : Links → Dot → Links
@@ -33,39 +37,36 @@ pub record IsShort (f : Links) (x : Dot) (above : Link) (old : List Dot) (room :
   pub fit : FitsAll f x above children
   pub short : room < length (old ++ children)
 
--- each token has its uses, and each chain has the children of its dot
-pub record IsHung (T : Rows) : Type 0 where
-  pub used : (k : TokenId) → used_in (T k.dot) k.kind ≡ true → IsUsed (links_of T) k
-  pub uses : (k : TokenId) → IsUsed (links_of T) k → used_in (T k.dot) k.kind ≡ true
-  pub again : (k : TokenId) → again_in (T k.dot) k.kind ≡ true → IsTwice (links_of T) k
-  pub twice : (k : TokenId) → IsTwice (links_of T) k → again_in (T k.dot) k.kind ≡ true
-  pub hangs : (p : Dot) → Hangs T p
+-- the rows have the uses of each token by the links f: none, one, or more
+pub record HasUses (f : Links) (T : Rows) : Type 0 where
+  pub used : (k : TokenId) → used_in (T k.dot) k.kind ≡ true → IsUsed f k
+  pub uses : (k : TokenId) → IsUsed f k → used_in (T k.dot) k.kind ≡ true
+  pub again : (k : TokenId) → again_in (T k.dot) k.kind ≡ true → IsTwice f k
+  pub twice : (k : TokenId) → IsTwice f k → again_in (T k.dot) k.kind ≡ true
 
--- each column is as it was, except those that depend on the links that name p
-pub record KeptBut (T N : Rows) (p : Dot) : Type 0 where
+-- each column is as it was, except the first child of the token's dot and the token's uses
+pub record KeptBut (T N : Rows) (t : TokenId) : Type 0 where
   pub link : (q : Dot) → link_in (N q) ≡ link_in (T q)
   pub code : (q : Dot) → code_in (N q) ≡ code_in (T q)
   pub count : (q : Dot) → count_in (N q) ≡ count_in (T q)
   pub marked : (q : Dot) (k : Kind) → marked_in (N q) k ≡ marked_in (T q) k
-  pub first : (q : Dot) → q ≢ p → first_in (N q) ≡ first_in (T q)
-  pub next : (q : Dot) → named_of (link_in (T q)) ≢ Some p → next_in (N q) ≡ next_in (T q)
-  pub used : (q : Dot) (k : Kind) → q ≢ p → used_in (N q) k ≡ used_in (T q) k
-  pub again : (q : Dot) (k : Kind) → q ≢ p → again_in (N q) k ≡ again_in (T q) k
+  pub first : (q : Dot) → q ≢ t.dot → first_in (N q) ≡ first_in (T q)
+  pub used : (k : TokenId) → k ≢ t → used_in (N k.dot) k.kind ≡ used_in (T k.dot) k.kind
+  pub again : (k : TokenId) → k ≢ t → again_in (N k.dot) k.kind ≡ again_in (T k.dot) k.kind
 
--- the token of a kind at a dot
-abbrev pub token_at : Dot → Kind → TokenId
-token_at p k = record { dot = p; kind = k }
+-- the first children, but for that of p
+abbrev pub with_first : (Dot → Option Dot) → Dot → Option Dot → Dot → Option Dot
+with_first first p o q = if dot_eq p q then o else first q
 
--- the dots that name p, except d, are the chain of p, and the uses of the tokens at p are theirs
-pub record Unhangs (T N : Rows) (p d : Dot) : Type 0 where
-  pub kept : KeptBut T N p
-  pub list : List Dot
-  pub chain : IsChain (λ q. next_in (N q)) (first_in (N p)) list
-  pub names : (e : Dot) → has list e ≡ true → (named_of (link_in (T e)) ≡ Some p) × (e ≢ d)
-  pub all : (e : Dot) → named_of (link_in (T e)) ≡ Some p → e ≢ d → has list e ≡ true
-  pub distinct : IsDistinct dot_eq list
-  pub used_here : (k : Kind) → used_in (N p) k ≡ uses_some (links_of T) (token_at p k) list
-  pub again_here : (k : Kind) → again_in (N p) k ≡ uses_two (links_of T) (token_at p k) list
+-- whether the first child, if there is one, uses the token
+abbrev pub first_uses : Links → Option Dot → TokenId → Bool
+first_uses f None t = false
+first_uses f (Some e) t = uses_by (f e) t
+
+-- the uses of a token: by the first child of its dot, and by children in the set
+abbrev pub counted : Links → Option Dot → BTreeSet Child → TokenId → Uses
+counted f first t k =
+    as_uses ((if first_uses f first k then 1 else 0) + length (take 2 (users_in t k)))
 
 -- the link at d is gone; the codes in the other rows stay
 pub record Unlinks (T N : Rows) (d : Dot) : Type 0 where
@@ -75,11 +76,7 @@ pub record Unlinks (T N : Rows) (d : Dot) : Type 0 where
   pub count_here : count_in (N d) ≡ 0
   pub marked_here : (k : Kind) → marked_in (N d) k ≡ false
   pub marked : (q : Dot) (k : Kind) → q ≢ d → marked_in (N q) k ≡ marked_in (T q) k
-  pub used : (k : TokenId) → used_in (N k.dot) k.kind ≡ true → IsUsed (links_of N) k
-  pub uses : (k : TokenId) → IsUsed (links_of N) k → used_in (N k.dot) k.kind ≡ true
-  pub again : (k : TokenId) → again_in (N k.dot) k.kind ≡ true → IsTwice (links_of N) k
-  pub twice : (k : TokenId) → IsTwice (links_of N) k → again_in (N k.dot) k.kind ≡ true
-  pub hangs : (p : Dot) → Hangs N p
+  pub uses : HasUses (links_of N) N
 
 -- d and what hangs below it, if l is the link at d, are under the code c no more
 pub record Clears (T N : Rows) (d : Dot) (l : Link) (c : Dot) : Type 0 where
@@ -96,6 +93,7 @@ pub record Takes (T N : Rows) (d : Dot) : Type 0 where
 -- the token k is not marked any more
 pub record Unmarks (T N : Rows) (k : TokenId) : Type 0 where
   pub forest : IsForest N
+  pub first : (q : Dot) → first_in (N q) ≡ first_in (T q)
   pub links : (q : Dot) → links_of N q ≡ links_of T q
   pub gone : marks_of N k ≡ false
   pub others : (j : TokenId) → j ≢ k → marks_of N j ≡ marks_of T j

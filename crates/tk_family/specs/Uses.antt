@@ -1,15 +1,14 @@
--- The uses of a token, counted along a list of dots (own).
---   is_code, is_refresh, uses_it, uses_by   a link uses a token
---   uses_some, uses_two                     a link of the list uses the token, or two links do
-use Rattle.std.specs.Prelude.{Bool, true, false, ◌&&◌, ◌||◌, List, [], ◌∷◌, Option, Some, None}
-use Rattle.tk_handle.specs.declared.dot.Dot.{Dot}
+-- Whether a link uses a token (own).
+--   is_code, is_refresh   the kinds of tokens that are used
+--   uses_it, uses_by      a link uses a token
+--   used_kind             the kind of the token that a link uses
+use Rattle.std.specs.Prelude.{Bool, true, false, ◌&&◌, Option, Some, None}
 use Rattle.tk_handle.specs.declared.kind.Kind.{Kind}
 use Rattle.tk_handle.specs.declared.kind.Kind.TheVariants as kind
 use Rattle.tk_handle.specs.declared.token_id.TokenId.{TokenId}
 use Rattle.tk_family.specs.declared.link.Link.{Link}
 use Rattle.tk_family.specs.declared.link.Link.TheVariants.{Code, Redeems, Rotates}
 use Rattle.tk_family.specs.Dots.{dot_eq}
-use Rattle.tk_family.specs.Families.{Links}
 
 -- the kind of a code
 abbrev pub is_code : Kind → Bool
@@ -34,12 +33,8 @@ abbrev pub uses_by : Option Link → TokenId → Bool
 uses_by None k = false
 uses_by (Some link) k = uses_it link k
 
--- the link at one of the dots uses the token
-abbrev pub uses_some : Links → TokenId → List Dot → Bool
-uses_some f k [] = false
-uses_some f k (e ∷ es) = uses_some f k es || uses_by (f e) k
-
--- the links at two of the dots use the token
-abbrev pub uses_two : Links → TokenId → List Dot → Bool
-uses_two f k [] = false
-uses_two f k (e ∷ es) = uses_two f k es || (uses_by (f e) k && uses_some f k es)
+-- the kind of the token that a link uses; a code uses no token
+abbrev pub used_kind : Link → Kind
+used_kind Code = kind.Access
+used_kind (Redeems code) = kind.Code
+used_kind (Rotates parent generation) = kind.Refresh

@@ -3,6 +3,7 @@
 ghost use Rattle.tk_handle.specs.declared.dot.Dot.{Dot as the_dot};
 ghost use Rattle.tk_handle.specs.declared.token_id.TokenId.{TokenId as the_token};
 
+use crate::children::Child;
 use crate::find::{is_used, top_of};
 use crate::link::Link;
 use crate::mark::mark_within;
@@ -12,6 +13,7 @@ use crate::steps::Steps;
 use crate::take::{take_at, unmark_token};
 use crate::top::Top;
 use std::alloc::{AllocError, Global};
+use std::collections::BTreeSet;
 use std::marker::Model;
 use tk_dots::DotMap;
 use tk_handle::{Dot, TokenId};
@@ -23,12 +25,13 @@ use tk_handle::{Dot, TokenId};
 /// No look-up walks: each dot keeps the code that it is under, and each code keeps how many dots of
 /// its family are bad. With n links and marks, `mark`, `unmark`, `top` and `used` cost O(log n).
 /// `put` costs O(log n) for each dot that it brings under a code and for each link that names such
-/// a dot. `take` costs O(log n) for each dot that hangs below the taken one, and for each dot that
-/// names the same dot.
+/// a dot. `take` costs O(log n) for each dot that hangs below the taken one.
 #[derive(Drop)]
 pub struct Forest {
     alloc: Global,
     rows: DotMap<PackedRow>,
+    // The children of dots, but for the first of each, which is in the row of the dot.
+    others: BTreeSet<Child>,
     // A list with room for the dots of all rows, so that listing what hangs below a dot takes no
     // memory. Its dots are of no use between calls.
     room: Vec<Dot>,
@@ -42,14 +45,15 @@ impl Model for Forest {
     ghost coded = { coded_forest };
 
     ghost use Rattle.tk_family.specs.View.{seen};
-    ghost use Rattle.tk_family.specs.Kept.{IsForest};
+    ghost use Rattle.tk_family.specs.Kept.{IsForest, IsHung};
     ghost use Rattle.tk_family.specs.Rows.{table};
     ghost use Rattle.std.specs.FinMap as map;
     ghost use Rattle.std.specs.Prelude.{◌≤◌, vec_capacity};
 
     ghost view = { λ a. seen a.rows };
 
-    ghost invariant = { λ a. IsForest (table a.rows) × (map.len a.rows ≤ vec_capacity a.room) };
+    ghost invariant = { λ a. IsForest (table a.rows) × IsHung (table a.rows) a.others
+        × (map.len a.rows ≤ vec_capacity a.room) };
 }
 
 impl Forest {
@@ -72,6 +76,7 @@ impl Forest {
         Forest {
             alloc,
             rows: DotMap::new(alloc),
+            others: BTreeSet::new(alloc),
             room: Vec::new(alloc),
         }
     }
@@ -94,7 +99,8 @@ impl Forest {
         ensures sorted { IfOk result (λ ys. IsSorted dot_cmp ys.items) }
         ensures err { OnErr result (self.new ≡ self.old) }
     {
-        put_within(self.alloc, &mut self.rows, &mut self.room, dot, &link)
+        let (rows, others) = (&mut self.rows, &mut self.others);
+        put_within(self.alloc, rows, others, &mut self.room, dot, &link)
     }
 
     /// Marks a token. The mark may be made before the token's link is put.
@@ -121,7 +127,7 @@ impl Forest {
             → set.contains self.new.marks k ≡
             (if dot_eq dot k.dot then false else set.contains self.old.marks k) }
     {
-        take_at(&mut self.rows, &mut self.room, dot)
+        take_at(&mut self.rows, &mut self.others, &mut self.room, dot)
     }
 
     /// Removes the mark of a token, if the token has one. Takes no memory.

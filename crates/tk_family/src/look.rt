@@ -2,7 +2,7 @@
 
 ghost use Rattle.std.specs.Prelude.{◌≡◌};
 ghost use Rattle.tk_family.specs.Rows.{table, link_in, code_in, count_in, dead_in, first_in};
-ghost use Rattle.tk_family.specs.Rows.{next_in, marked_in, used_in, bad_in};
+ghost use Rattle.tk_family.specs.Rows.{marked_in, used_in, bad_in};
 ghost use Rattle.tk_family.specs.Puts.{fits_at};
 ghost use Rattle.tk_family.specs.Walks.{fits_over};
 ghost use Rattle.tk_family.specs.Writes.{is_blank_row, bads};
@@ -32,22 +32,12 @@ pub(crate) fn code_at(rows: &DotMap<PackedRow>, dot: Dot) -> Option<Dot>
     }
 }
 
-/// Returns the first of the dots whose links name a dot.
+/// Returns the first child of a dot.
 pub(crate) fn first_at(rows: &DotMap<PackedRow>, dot: Dot) -> Option<Dot>
     ensures { result ≡ first_in (table rows.now dot) }
 {
     match rows.get(dot) {
         Some(row) => row.unpack().first,
-        None => None,
-    }
-}
-
-/// Returns the next dot in the chain of those whose links name one dot.
-pub(crate) fn next_at(rows: &DotMap<PackedRow>, dot: Dot) -> Option<Dot>
-    ensures { result ≡ next_in (table rows.now dot) }
-{
-    match rows.get(dot) {
-        Some(row) => row.unpack().next,
         None => None,
     }
 }

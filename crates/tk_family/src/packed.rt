@@ -13,18 +13,16 @@ enum Form {
     Rotates,
 }
 
-/// A row, in 56 bytes; a `Row` has 128. An absent dot has the serial 0. Contracts see the row.
+/// A row, in 48 bytes; a `Row` has 104. An absent dot has the serial 0. Contracts see the row.
 #[derive(Drop)]
 pub(crate) struct PackedRow {
     named_serial: u64,
     code_serial: u64,
     first_serial: u64,
-    next_serial: u64,
     bad: u64,
     named_region: u16,
     code_region: u16,
     first_region: u16,
-    next_region: u16,
     generation: u16,
     form: Form,
     marked_code: bool,
@@ -50,13 +48,11 @@ impl Model for PackedRow {
       redeemed = p.redeemed;
       rotated = p.rotated;
       first = dot_from p.first_region p.first_serial;
-      next = dot_from p.next_region p.next_serial;
     } };
 
     ghost invariant = { λ p. IsDotFrom p.named_region p.named_serial
         × IsDotFrom p.code_region p.code_serial
-        × IsDotFrom p.first_region p.first_serial
-        × IsDotFrom p.next_region p.next_serial };
+        × IsDotFrom p.first_region p.first_serial };
 }
 
 ghost use Rattle.std.specs.Prelude.{◌≡◌};
@@ -144,17 +140,14 @@ impl PackedRow {
         let (named_region, named_serial) = numbers(named_in(&row.link));
         let (code_region, code_serial) = numbers(row.code);
         let (first_region, first_serial) = numbers(row.first);
-        let (next_region, next_serial) = numbers(row.next);
         PackedRow {
             named_serial,
             code_serial,
             first_serial,
-            next_serial,
             bad: row.bad,
             named_region,
             code_region,
             first_region,
-            next_region,
             generation: generation_in(&row.link),
             form: form_of(&row.link),
             marked_code: row.marked_code,
@@ -182,7 +175,6 @@ impl PackedRow {
             redeemed: self.redeemed,
             rotated: self.rotated,
             first: dot_of(self.first_region, self.first_serial),
-            next: dot_of(self.next_region, self.next_serial),
         }
     }
 }

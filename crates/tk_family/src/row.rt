@@ -1,19 +1,21 @@
 //! What a forest keeps at a dot.
 //!
-//! The children of a dot are here the dots whose links name it, whether or not they fit. They are
-//! one chain: the row of the parent has the `first` of them, and the row of each child has the
-//! `next`. A new child becomes the `first`, so the chain begins with the child that was put latest.
+//! The children of a dot are here the dots whose links name it, whether or not they fit. The row of
+//! the parent has the `first` of them, any one. All others are in a set beside the rows, as
+//! `children` describes. A dot with one child has no entry there.
 //!
 //! ```text
-//!            parent
-//!              | first
-//!              v      next          next
-//!           child 3 ------> child 2 ------> child 1   (next: None)
+//!      rows                       set of the other children
+//!
+//!     parent                      parent, kind of the used token, child 2
+//!       | first                   parent, kind of the used token, child 3
+//!       v
+//!     child 1
 //! ```
 
 ghost use Rattle.std.specs.Prelude.{◌≡◌, Some};
 ghost use Rattle.tk_family.specs.Rows.{is_some_use, is_often};
-ghost use Rattle.tk_family.specs.Writes.{once_more, is_never};
+ghost use Rattle.tk_family.specs.Writes.{once_more, is_never, as_uses, or_dot};
 
 use crate::link::Link;
 use tk_handle::{Dot, Kind};
@@ -30,6 +32,17 @@ pub(crate) enum Uses {
 }
 
 impl Uses {
+    /// Returns the count of a number of uses.
+    pub(crate) fn of(count: usize) -> Uses
+        ensures { result ≡ as_uses count }
+    {
+        match count {
+            0 => Uses::Never,
+            1 => Uses::Once,
+            _ => Uses::Often,
+        }
+    }
+
     /// Returns the count with one use more.
     pub(crate) fn more(self) -> Uses
         ensures { result ≡ once_more self }
@@ -75,6 +88,16 @@ impl Uses {
     }
 }
 
+// Returns the first child, or `dot` if there is no first child.
+fn or_dot(first: Option<Dot>, dot: Dot) -> Option<Dot>
+    ensures { result ≡ or_dot first dot }
+{
+    match first {
+        Some(first) => Some(first),
+        None => Some(dot),
+    }
+}
+
 /// What is kept at a dot: its link, marks and uses, and what follows from all links and marks.
 #[derive(Clone, Copy)]
 pub(crate) struct Row {
@@ -95,16 +118,14 @@ pub(crate) struct Row {
     pub redeemed: Uses,
     /// How many links rotate the refresh token at the dot.
     pub rotated: Uses,
-    /// The first child of the dot.
+    /// One child of the dot, if there is one. The other children are in a set beside the rows.
     pub first: Option<Dot>,
-    /// The next sibling: the next of the dots whose links name the dot that this one names.
-    pub next: Option<Dot>,
 }
 
 impl Row {
     ghost use Rattle.tk_family.specs.Writes.{blank, is_blank, with_code, with_count, with_put};
     ghost use Rattle.tk_family.specs.Writes.{with_redeemer, with_rotator, with_marked};
-    ghost use Rattle.tk_family.specs.Writes.{without_code, without_users, without_link};
+    ghost use Rattle.tk_family.specs.Writes.{without_code, with_users, without_link};
     ghost use Rattle.tk_family.specs.Writes.{without_mark};
 
     /// Returns a row that is blank but for the link at its dot, if there is one.
@@ -121,7 +142,6 @@ impl Row {
             redeemed: Uses::Never,
             rotated: Uses::Never,
             first: None,
-            next: None,
         }
     }
 
@@ -138,7 +158,6 @@ impl Row {
             && self.redeemed.is_never()
             && self.rotated.is_never()
             && self.first.is_none()
-            && self.next.is_none()
     }
 
     /// Returns the row, under a code.
@@ -159,13 +178,12 @@ impl Row {
         row
     }
 
-    /// Returns the row with a link, in front of the next dot whose link names the same dot.
-    pub(crate) fn with_link(&self, link: Link, next: Option<Dot>) -> Row
-        ensures { with_put (Some self.now) link next ≡ Some result }
+    /// Returns the row with a link.
+    pub(crate) fn with_link(&self, link: Link) -> Row
+        ensures { with_put (Some self.now) link ≡ Some result }
     {
         let mut row = *self;
         row.link = Some(link);
-        row.next = next;
         row
     }
 
@@ -174,7 +192,7 @@ impl Row {
         ensures { with_redeemer (Some self.now) dot ≡ Some result }
     {
         let mut row = *self;
-        row.first = Some(dot);
+        row.first = or_dot(row.first, dot);
         row.redeemed = row.redeemed.more();
         row
     }
@@ -184,7 +202,7 @@ impl Row {
         ensures { with_rotator (Some self.now) dot ≡ Some result }
     {
         let mut row = *self;
-        row.first = Some(dot);
+        row.first = or_dot(row.first, dot);
         row.rotated = row.rotated.more();
         row
     }
@@ -211,19 +229,23 @@ impl Row {
         row
     }
 
-    /// Returns the row, as the row of a dot without children.
-    pub(crate) fn without_users(&self) -> Row
-        ensures { without_users (Some self.now) ≡ Some result }
+    /// Returns the row with a first child, or with none, and with the count of uses of the token of
+    /// a kind.
+    pub(crate) fn with_users(&self, first: Option<Dot>, kind: Kind, uses: Uses) -> Row
+        ensures { with_users (Some self.now) first kind uses ≡ Some result }
     {
         let mut row = *self;
-        row.first = None;
-        row.redeemed = Uses::Never;
-        row.rotated = Uses::Never;
+        row.first = first;
+        match kind {
+            Kind::Code => row.redeemed = uses,
+            Kind::Access => {}
+            Kind::Refresh => row.rotated = uses,
+        }
         row
     }
 
-    /// Returns the row without its link, what followed from the link, and its marks. The children
-    /// of the dot stay, and so do the counts of uses.
+    /// Returns the row without its link, what followed from the link, and its marks. The first
+    /// child of the dot stays, and so do the counts of uses.
     pub(crate) fn without_link(&self) -> Row
         ensures { without_link (Some self.now) ≡ Some result }
     {

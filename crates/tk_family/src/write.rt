@@ -7,15 +7,15 @@ ghost use Rattle.tk_family.specs.Counts.{IsCounted, IsCountedAs, AlikeButCount};
 ghost use Rattle.tk_family.specs.Dots.{dot_eq};
 ghost use Rattle.tk_family.specs.Rows.{table, code_in, count_in};
 ghost use Rattle.tk_family.specs.Writes.{or_blank, with_code, with_count, with_put, with_redeemer};
-ghost use Rattle.tk_family.specs.Writes.{with_rotator, with_marked, without_code, without_users};
+ghost use Rattle.tk_family.specs.Writes.{with_rotator, with_users, with_marked, without_code};
 ghost use Rattle.tk_family.specs.Writes.{without_link, without_mark, hung, bads, settled, raised};
 ghost use Rattle.tk_family.specs.Writes.{unsettled, cleared};
 ghost use Rattle.tk_handle.specs.declared.dot.Dot.{Dot as the_dot};
 
 use crate::link::Link;
-use crate::look::{bad_among, code_at, count_at, first_at, is_bad};
+use crate::look::{bad_among, code_at, count_at, is_bad};
 use crate::packed::PackedRow;
-use crate::row::Row;
+use crate::row::{Row, Uses};
 use std::alloc::AllocError;
 use tk_dots::DotMap;
 use tk_handle::{Dot, Kind};
@@ -72,15 +72,15 @@ fn set_count(rows: &mut DotMap<PackedRow>, at: Dot, count: u64)
     }
 }
 
-/// Writes a link, and the next dot of the chain of those that name the same dot.
-fn set_link(rows: &mut DotMap<PackedRow>, at: Dot, link: &Link, next: Option<Dot>)
+/// Writes a link.
+fn set_link(rows: &mut DotMap<PackedRow>, at: Dot, link: &Link)
     ensures rows { (q : the_dot)
         → table rows.new q ≡
-        (if dot_eq at q then with_put (table rows.old q) link.now next else table rows.old q) }
+        (if dot_eq at q then with_put (table rows.old q) link.now else table rows.old q) }
     ensures len { map.len rows.new ≡ map.len rows.old }
 {
     if let Some(row) = rows.get(at) {
-        let changed = row.unpack().with_link(*link, next);
+        let changed = row.unpack().with_link(*link);
         put_row(rows, at, changed);
     }
 }
@@ -137,20 +137,27 @@ fn set_uncoded(rows: &mut DotMap<PackedRow>, at: Dot)
     }
 }
 
-/// Writes that no link names a dot.
-pub(crate) fn set_unnamed(rows: &mut DotMap<PackedRow>, at: Dot)
+/// Writes the first child of a dot, or that there is none, and the count of uses of the token of a
+/// kind.
+pub(crate) fn set_users(
+    rows: &mut DotMap<PackedRow>,
+    at: Dot,
+    first: Option<Dot>,
+    kind: Kind,
+    uses: Uses,
+)
     ensures rows { (q : the_dot)
         → table rows.new q ≡
-        (if dot_eq at q then without_users (table rows.old q) else table rows.old q) }
+        (if dot_eq at q then with_users (table rows.old q) first kind uses else table rows.old q) }
     ensures len { map.len rows.new ≡ map.len rows.old }
 {
     if let Some(row) = rows.get(at) {
-        let changed = row.unpack().without_users();
+        let changed = row.unpack().with_users(first, kind, uses);
         put_row(rows, at, changed);
     }
 }
 
-/// Writes that a dot has no link and no marks. The dot's children stay, and so do the counts of
+/// Writes that a dot has no link and no marks. The dot's first child stays, and so do the counts of
 /// uses.
 pub(crate) fn set_bare(rows: &mut DotMap<PackedRow>, at: Dot)
     ensures rows { (q : the_dot)
@@ -252,21 +259,20 @@ pub(crate) fn raise(rows: &mut DotMap<PackedRow>, list: &[Dot], code: Dot)
     set_count(rows, code, count);
 }
 
-/// Writes a link, and puts it into the chain of the dot that it names.
+/// Writes a link, and its use at the dot that it names. If that dot has no first child, the link's
+/// dot becomes the first child.
 pub(crate) fn hang(rows: &mut DotMap<PackedRow>, dot: Dot, link: &Link)
     ensures rows { (q : the_dot) → table rows.new q ≡ hung (table rows.old) dot link.now q }
     ensures len { map.len rows.new ≡ map.len rows.old }
 {
     match link {
-        Link::Code => set_link(rows, dot, link, None),
+        Link::Code => set_link(rows, dot, link),
         Link::Redeems(code) => {
-            let next = first_at(rows, *code);
-            set_link(rows, dot, link, next);
+            set_link(rows, dot, link);
             set_redeemer(rows, *code, dot);
         }
         Link::Rotates { parent, .. } => {
-            let next = first_at(rows, *parent);
-            set_link(rows, dot, link, next);
+            set_link(rows, dot, link);
             set_rotator(rows, *parent, dot);
         }
     }

@@ -1,6 +1,8 @@
-use Rattle.std.proofs.Common.{sym, ◌∙◌, subst}
-use Rattle.tk_family.specs.Rows.{RowMap, Rows, table}
-use Rattle.tk_family.proofs.Taking.{Ready, Ready-whole, Ready-none, IsHung-cleared, codes_links, Takes-from}
+use Rattle.std.proofs.Common.{sym, ◌∙◌, refl, subst}
+use Rattle.tk_family.specs.Children.{others_in}
+use Rattle.tk_family.specs.Rows.{RowMap, Rows, table, links_of, firsts_of}
+use Rattle.tk_family.proofs.HangLaws.{Hangs-same}
+use Rattle.tk_family.proofs.Taking.{Ready, Ready-whole, Ready-none, HasUses-cleared, codes_links, Takes-from}
 use Rattle.tk_family.proofs.take.take_link.Goals as goal
 use Rattle.tk_family.proofs.take.take_link.Goals.{in-Some, in_default}
 
@@ -11,7 +13,16 @@ unlink-requires-clause-hung c =
       | in-Some w ↦ subst (λ (m : RowMap). Ready T (table m) c.args.dot c.args.link.now) (sym w.rows-is) (Ready-whole T (table w.clear_below.new.rows) c.args.dot c.args.link.now w.in-Some.code c.requires.forest c.requires.here (sym c.code_at.ensures ∙ w.in-Some.is) w.clear_below.ensures.clears)
       | in_default w ↦ subst (λ (m : RowMap). Ready T (table m) c.args.dot c.args.link.now) (sym w.rows-is) (Ready-none T c.args.dot c.args.link.now c.requires.forest c.requires.here (sym c.code_at.ensures ∙ w.in_default.is))
     ] in
-    IsHung-cleared T (table c.match-code_at.rows) r.list c.requires.forest r.cleared
+    Hangs-same (links_of T) (links_of (table c.match-code_at.rows)) (firsts_of T) (firsts_of (table c.match-code_at.rows)) (others_in c.args.others.now) (others_in c.args.others.now) r.cleared.link r.cleared.first (λ k e. refl) c.requires.hung
+
+pub unlink-requires-clause-known : goal.unlink-requires-clause-known
+unlink-requires-clause-known c =
+    let T : Rows = table c.args.rows.now in
+    let r : Ready T (table c.match-code_at.rows) c.args.dot c.args.link.now = elim c.match-code_at.branch [
+      | in-Some w ↦ subst (λ (m : RowMap). Ready T (table m) c.args.dot c.args.link.now) (sym w.rows-is) (Ready-whole T (table w.clear_below.new.rows) c.args.dot c.args.link.now w.in-Some.code c.requires.forest c.requires.here (sym c.code_at.ensures ∙ w.in-Some.is) w.clear_below.ensures.clears)
+      | in_default w ↦ subst (λ (m : RowMap). Ready T (table m) c.args.dot c.args.link.now) (sym w.rows-is) (Ready-none T c.args.dot c.args.link.now c.requires.forest c.requires.here (sym c.code_at.ensures ∙ w.in_default.is))
+    ] in
+    HasUses-cleared T (table c.match-code_at.rows) r.list c.requires.forest r.cleared
 
 pub unlink-requires-clause-counted : goal.unlink-requires-clause-counted
 unlink-requires-clause-counted c =

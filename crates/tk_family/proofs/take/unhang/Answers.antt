@@ -1,36 +1,29 @@
-use Rattle.std.proofs.Common.{◌≤◌, sym, ◌∙◌, arith}
-use Rattle.tk_family.specs.Rows.{table}
-use Rattle.tk_family.proofs.Unhanging.{Rehanging-starts, Rehanging-more, Rehanging-skips, Rehanging-turns, Rehanging-ends}
-use Rattle.tk_family.proofs.DotLaws.{dot_eq-true, dot_eq-false}
+use Rattle.std.proofs.Common.{refl, subst}
+use Rattle.tk_family.specs.declared.row.Uses.{Uses}
+use Rattle.tk_family.specs.Children.{others_in, token_at}
+use Rattle.tk_family.specs.Rows.{table, links_of, firsts_of}
+use Rattle.tk_family.specs.Takes.{without, with_first}
+use Rattle.tk_family.proofs.HangLaws.{Hangs-same}
+use Rattle.tk_family.proofs.Unhung.{IsRewritten, KeptBut-unhung, firsts-unhung, HasUses-unhung}
 use Rattle.tk_family.proofs.take.unhang.Goals as goal
 
-pub loop-cursor-init : goal.loop-cursor-init
-loop-cursor-init c = record {
-  rehanging = rw (c.first_at-cursor.ensures, c.len-left.ensures) (Rehanging-starts c.args.rows.now (table c.set_unnamed.new.rows) c.args.above c.args.dot c.requires.hangs c.requires.row c.set_unnamed.ensures.rows);
-  len = c.set_unnamed.ensures.len;
-}
+pub returns-clause-hung : goal.returns-clause-hung
+returns-clause-hung c =
+    let T = table c.args.rows.now in
+    let N = table c.set_users.new.rows in
+    let f = without (links_of T) c.args.dot in
+    let E = others_in c.unlist-first.new.others in
+    Hangs-same f f (with_first (firsts_of T) c.args.above c.unlist-first.result) (firsts_of N) E E (λ q. refl)
+    (firsts-unhung T N c.args.dot (token_at c.args.above c.args.kind) c.unlist-first.result c.count_uses-uses.result c.requires.known c.requires.uses c.set_users.ensures.rows) (λ k e. refl) c.unlist-first.ensures
 
-pub overflow_sub-left : goal.overflow_sub-left
-overflow_sub-left c = Rehanging-more (table c.args.rows.now) (table c.loop-cursor.rows) c.args.above c.args.dot c.in-Some.child c.loop-cursor.left (rw c.in-Some.is at c.loop-cursor.invariant.rehanging)
+pub returns-clause-kept : goal.returns-clause-kept
+returns-clause-kept c = KeptBut-unhung (table c.args.rows.now) (table c.set_users.new.rows) (token_at c.args.above c.args.kind) c.unlist-first.result c.count_uses-uses.result c.set_users.ensures.rows
 
-pub loop-cursor-smaller : goal.loop-cursor-smaller
-loop-cursor-smaller c =
-    let more : 1 ≤ c.loop-cursor.left = Rehanging-more (table c.args.rows.now) (table c.loop-cursor.rows) c.args.above c.args.dot c.in-Some.child c.loop-cursor.left (rw c.in-Some.is at c.loop-cursor.invariant.rehanging) in
-    omega arith
-
-pub loop-cursor-preserved-then-not-is_one : goal.loop-cursor-preserved-then-not-is_one
-loop-cursor-preserved-then-not-is_one c = record {
-  rehanging = rw c.next_at-cursor.ensures (Rehanging-turns (table c.args.rows.now) (table c.loop-cursor.rows) (table c.hang_again.new.rows) c.args.above c.args.dot c.in-Some.child c.loop-cursor.left (rw c.in-Some.is at c.loop-cursor.invariant.rehanging)
-      (dot_eq-false c.in-Some.child c.args.dot (sym c.is_one.ensures ∙ c.if-not-is_one.true)) c.hang_again.ensures.rows);
-  len = c.hang_again.ensures.len ∙ c.loop-cursor.invariant.len;
-}
-
-pub loop-cursor-preserved : goal.loop-cursor-preserved
-loop-cursor-preserved c = record {
-  rehanging = rw c.next_at-cursor.ensures (Rehanging-skips (table c.args.rows.now) (table c.loop-cursor.rows) c.args.above c.args.dot c.in-Some.child c.loop-cursor.left (rw c.in-Some.is at c.loop-cursor.invariant.rehanging)
-      (dot_eq-true c.in-Some.child c.args.dot (sym c.is_one.ensures ∙ c.if-not-is_one.false)));
-  len = c.loop-cursor.invariant.len;
-}
-
-pub returns-clause-unhangs : goal.returns-clause-unhangs
-returns-clause-unhangs c = Rehanging-ends (table c.args.rows.now) (table c.loop-cursor.rows) c.args.above c.args.dot c.loop-cursor.left (rw c.in_default.is at c.loop-cursor.invariant.rehanging)
+pub returns-clause-known : goal.returns-clause-known
+returns-clause-known c =
+    let T = table c.args.rows.now in
+    let N = table c.set_users.new.rows in
+    let t = token_at c.args.above c.args.kind in
+    HasUses-unhung T N c.unlist-first.new.others c.args.dot t c.unlist-first.result c.requires.known
+    (record { uses = c.requires.uses; hangs = c.unlist-first.ensures; ordered = c.count_uses-uses.ensures.ordered })
+    (subst (λ (u : Uses). IsRewritten T N t c.unlist-first.result u) c.count_uses-uses.ensures.uses c.set_users.ensures.rows)
