@@ -99,7 +99,8 @@ fn key_at(facts: &FactStore, consent: Dot) -> Option<ConsentKey>
 // Removes the key of the consent that was given at the dot, if a consent is held there.
 fn unlist(facts: &FactStore, consents: &mut BTreeSet<ConsentKey>, consent: Dot)
     ensures { (k : the_key) → contains consent_cmp consents.new k
-        ≡ (contains consent_cmp consents.old k && not (is_key_at (held_facts facts.now) consent k)) }
+        ≡ (contains consent_cmp consents.old k
+        && not (is_key_at (held_facts facts.now) consent k)) }
 {
     if let Some(key) = key_at(facts, consent) {
         consents.remove(&key);
@@ -116,7 +117,8 @@ pub(crate) fn withdraw(
     ensures ok { OnOk result ((q : the_dot) → contains dot_cmp withdrawn.new q
         ≡ cond (is_at consent q) true (contains dot_cmp withdrawn.old q)) }
     ensures unlisted { OnOk result ((k : the_key) → contains consent_cmp consents.new k
-        ≡ (contains consent_cmp consents.old k && not (is_key_at (held_facts facts.now) consent k))) }
+        ≡ (contains consent_cmp consents.old k
+        && not (is_key_at (held_facts facts.now) consent k))) }
     ensures err { OnErr result ((q : the_dot) → contains dot_cmp withdrawn.new q
         ≡ contains dot_cmp withdrawn.old q) }
     ensures listed { OnErr result (consents.new ≡ consents.old) }

@@ -11,8 +11,8 @@
 //!   out.
 //! - `status` returns the status of a handle at a moment, by one to eight look-ups.
 //!
-//! The ledger leaves three things out. It decides no request: that is for the crates above. It reads
-//! no bytes: facts come as values. It has no clock: its callers pass the moment.
+//! The ledger decides no request: that is for the crates above. It reads no bytes: facts come as
+//! values. It has no clock: its callers pass the moment.
 //!
 //! No look-up allocates memory. Facts may be from anyone and arrive in any order, and be skipped in
 //! any order: each look-up returns what the facts that are held determine. At a skipped dot each
