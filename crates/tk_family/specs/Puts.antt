@@ -91,18 +91,18 @@ pub record Hung (T N : Rows) (d : Dot) (l : Link) : Type 0 where
       → again_in (N k.dot) k.kind
       ≡ (again_in (T k.dot) k.kind || (uses_it l k && used_in (T k.dot) k.kind))
 
--- the child d of the dot with the first child o is in the set N, and it uses t
+-- N is E with the child d that uses t, if t's dot has a first child o
 abbrev pub ListsAt : Others → Others → TokenId → Dot → Option Dot → Type 0
 ListsAt E N t d None = IsSame E N
 ListsAt E N t d (Some e) =
     (k : TokenId) (q : Dot) → N k q ≡ (if is_child t d k q then true else E k q)
 
--- the dot d with a link that uses the token o is in the set N, unless it becomes the first child
+-- N is E with the child d, if d uses a token o whose dot has a first child
 abbrev pub ListsBy : (Dot → Option Dot) → Others → Others → Dot → Option TokenId → Type 0
 ListsBy first E N d None = IsSame E N
 ListsBy first E N d (Some t) = ListsAt E N t d (first t.dot)
 
--- the dot d with the link l is in the set N, unless it becomes a first child
+-- N is E with the child d, whose link is l, unless d becomes a first child
 abbrev pub Lists : Rows → Others → Others → Dot → Link → Type 0
 Lists T E N d l = ListsBy (firsts_of T) E N d (used_by l)
 

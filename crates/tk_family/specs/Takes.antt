@@ -54,7 +54,7 @@ pub record KeptBut (T N : Rows) (t : TokenId) : Type 0 where
   pub used : (k : TokenId) → k ≢ t → used_in (N k.dot) k.kind ≡ used_in (T k.dot) k.kind
   pub again : (k : TokenId) → k ≢ t → again_in (N k.dot) k.kind ≡ again_in (T k.dot) k.kind
 
--- the first children, but for that of p
+-- the first children, with o as that of p
 abbrev pub with_first : (Dot → Option Dot) → Dot → Option Dot → Dot → Option Dot
 with_first first p o q = if dot_eq p q then o else first q
 

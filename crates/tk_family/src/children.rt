@@ -110,9 +110,7 @@ pub(crate) fn list_child(
         ≡ (if is_child token.now child k e then true else others_in others.old k e)) }
     ensures err { OnErr result ((k : the_token) (e : the_dot)
         → others_in others.new k e ≡ others_in others.old k e) }
-    ensures ranged { IsDot child }
 {
-    let _ranges = (child.region(), child.serial());
     others.insert(key(token, child))?;
     Ok(())
 }
@@ -153,7 +151,7 @@ pub(crate) fn users_up_to_two(others: &BTreeSet<Child>, token: &TokenId) -> usiz
     }
 }
 
-// Takes a child whose link uses the token out of the set, if there is one.
+// Takes a child whose link uses the token out of the set, if there is one, and returns the child.
 fn take_user(others: &mut BTreeSet<Child>, token: &TokenId) -> Option<Dot>
     requires { (e : the_dot) → others_in others.old token.now e ≡ true → IsDot e }
     ensures { TakesUser (others_in others.old) (others_in others.new) token.now result }
@@ -165,7 +163,7 @@ fn take_user(others: &mut BTreeSet<Child>, token: &TokenId) -> Option<Dot>
     user
 }
 
-/// Takes a child of the dot out of the set, if there is one.
+/// Takes a child of the dot out of the set, if there is one, and returns the child.
 pub(crate) fn promote(others: &mut BTreeSet<Child>, parent: Dot) -> Option<Dot>
     requires { (k : the_token) (e : the_dot) → others_in others.old k e ≡ true → IsDot e }
     ensures { Promotes (others_in others.old) (others_in others.new) parent result }

@@ -1,8 +1,8 @@
 //! What a forest keeps at a dot.
 //!
 //! The children of a dot are here the dots whose links name it, whether or not they fit. The row of
-//! the parent has the `first` of them, any one. All others are in a set beside the rows, as
-//! `children` describes. A dot with one child has no entry there.
+//! the parent has one of them, the `first`. All others are in a set beside the rows (`children`).
+//! A dot with one child has no entry there.
 //!
 //! ```text
 //!      rows                       set of the other children

@@ -49,7 +49,8 @@ fn is_use(link: &Link, above: Dot, kind: Kind) -> bool
     }
 }
 
-/// Returns whether the link at a dot, if there is a dot, uses the token of a kind at `above`.
+/// Returns whether the first child of the dot `above`, if there is one, uses the token of a kind
+/// there.
 fn first_uses(rows: &DotMap<PackedRow>, first: &Option<Dot>, above: Dot, kind: Kind) -> bool
     ensures { result ≡ first_uses (links_of (table rows.now)) first.now (token_at above kind) }
 {
@@ -62,8 +63,8 @@ fn first_uses(rows: &DotMap<PackedRow>, first: &Option<Dot>, above: Dot, kind: K
     }
 }
 
-/// Counts the uses of the token of a kind at a dot: by the first child of the dot, if there is one,
-/// and by two other children at most.
+/// Counts the uses of the token of a kind at the dot `above`: by the first child of the dot, if
+/// there is one, and by two other children at most.
 fn count_uses(
     rows: &DotMap<PackedRow>,
     others: &BTreeSet<Child>,
@@ -82,9 +83,9 @@ fn count_uses(
     Uses::of(count)
 }
 
-/// Takes a child from the children of the dot `above`, whose token of the kind the child's link
-/// uses. Returns the first child after that: if the child was the first, another child comes out of
-/// the set for it.
+/// Takes `dot` from the children of the dot `above`. The link at `dot` uses the token of the kind
+/// at `above`. Returns the first child after that: if `dot` was the first, another child comes out
+/// of the set in its place.
 fn unlist(
     rows: &DotMap<PackedRow>,
     others: &mut BTreeSet<Child>,
@@ -104,8 +105,8 @@ fn unlist(
     first_at(rows, above)
 }
 
-/// Takes a child from the children of the dot `above`, and counts the uses of the token of the kind
-/// there anew. The child's link uses that token.
+/// Takes `dot` from the children of the dot `above`. The link at `dot` uses the token of the kind
+/// at `above`, whose uses are counted anew.
 fn unhang(
     rows: &mut DotMap<PackedRow>,
     others: &mut BTreeSet<Child>,
