@@ -1,14 +1,12 @@
 -- The URI that the reply to an authorisation request leads to. Key result:
---   decision_leads   the reply leads to a registered URI of the client, or to no URI
-use Rattle.std.proofs.Common.{◌≡◌, ℕ, Bool, true, false, if◌then◌else◌, List, [], ◌∷◌, codes, Option, Some, None, Ok, Err, IfOk, Contains, bytes_eq, refl, ap, sym, subst, arith}
+--   decision_leads   the reply leads to a URI that matches one of the client's, or to no URI
+use Rattle.std.proofs.Common.{◌≡◌, ℕ, Bool, true, false, if◌then◌else◌, List, codes, Option, Some, None, Ok, Err, IfOk, refl, ap, sym, subst}
 use Rattle.std.specs.Option.{option_and_then}
 use Rattle.std.specs.Prelude.{Result}
-use Rattle.std.specs.List.{list_any}
-use Rattle.std.proofs.lemmas.Map.Views.{Contains-from_any}
-use Rattle.std.proofs.lemmas.Slice.Eq.{bytes_eq-Decides}
 use Rattle.tk_handle.specs.declared.dot.Dot.{Dot}
 use Rattle.tk_handle.specs.ClientId.{client_in}
-use Rattle.tk_match.specs.Pick.{Picked, Uri, Missing, Unknown, picked, only_uri}
+use Rattle.tk_match.proofs.PickLaws.{picked_matches, picked_meant}
+use Rattle.tk_match.specs.Pick.{Picked, Uri, Missing, Unknown, picked}
 use Rattle.tk_store.specs.FactSet.{FactSet}
 use Rattle.tk_ledger.specs.Views.{client_view}
 use Rattle.tk_ledger.specs.ViewFields.{ClientFields}
@@ -29,23 +27,7 @@ use Rattle.tk_authorize.specs.Authorization.{decided_by, authorization_of}
 use Rattle.tk_authorize.specs.Judged.{judged_at, target_of, judged_by_redirect, judged_by_view, judged_by_client, judged_by_id, judged_of, target_names}
 use Rattle.tk_authorize.specs.Registered.{IsRegistered, LeadsToClient}
 
--- the URI of a list with one URI is in the list
-only_listed : (uris : List (List ℕ)) (uri : List ℕ) → only_uri uris ≡ Uri uri → Contains uris uri
-only_listed [] uri h = cc
-only_listed (x ∷ []) uri h = let same : x ≡ uri = cc in (0, omega arith, same)
-only_listed (x ∷ y ∷ uris) uri h = cc
-
--- a URI that was sent and is found in the list is in the list
-sent_listed : (uris : List (List ℕ)) (sent uri : List ℕ) (b : Bool) → list_any (bytes_eq sent) uris ≡ b → (if b then Uri sent else Unknown) ≡ Uri uri → Contains uris uri
-sent_listed uris sent uri true is h = let same : sent ≡ uri = cc in subst (Contains uris) same (Contains-from_any (λ x y e. (bytes_eq-Decides x y).0 e) sent uris is)
-sent_listed uris sent uri false is h = cc
-
--- the URI that is picked from a list is in the list
-picked_listed : (uris : List (List ℕ)) (sent : Option (List ℕ)) (uri : List ℕ) → picked uris sent ≡ Uri uri → Contains uris uri
-picked_listed uris None uri h = only_listed uris uri h
-picked_listed uris (Some sent) uri h = sent_listed uris sent uri (list_any (bytes_eq sent) uris) refl h
-
--- a judgement leads to a registered URI or to no URI
+-- a judgement leads to a URI that matches a registered one, or to no URI
 abbrev LeadsTo : FactSet → Pairs → Judged → Type 0
 LeadsTo F params (Refused why) = Unit {0}
 LeadsTo F params (Denied target why) = IsRegistered F params target.uri
@@ -65,7 +47,8 @@ by_redirect F rules params subject client view named added live (Uri uri) is =
       named = named;
       added = added;
       live = live;
-      registered = picked_listed view.redirects _ uri is;
+      meant = picked_meant view.redirects (value_of (codes "redirect_uri") params) uri is;
+      registered = picked_matches view.redirects (value_of (codes "redirect_uri") params) uri is;
     })
 
 by_live : (F : FactSet) (rules : ChallengeRules) (params : Pairs) (subject : Option (List ℕ)) (client : Dot) (view : ClientFields) → option_and_then client_in (value_of (codes "client_id") params) ≡ Some client → client_view F client ≡ Some view → (b : Bool) → view.live ≡ b → LeadsTo F params (if b then judged_by_redirect F rules params subject client view (picked view.redirects (value_of (codes "redirect_uri") params)) else Refused refusal.RetiredClient)
@@ -88,7 +71,7 @@ by_duplicate : (F : FactSet) (rules : ChallengeRules) (params : Pairs) (subject 
 by_duplicate F rules params subject true = tt
 by_duplicate F rules params subject false = by_id F rules params subject _ refl
 
--- a redirect leads to the registered URI that it is made of
+-- a redirect leads to the URI that it is made of
 redirect_leads : (F : FactSet) (params : Pairs) (uri name value : List ℕ) (state : Option (List ℕ)) → IsRegistered F params uri → LeadsToClient F params (redirect_reply uri name value state)
 redirect_leads F params uri name value state known = record { uri = uri; known = known; pairs = with_state name value state; location_is = refl }
 
@@ -98,7 +81,7 @@ decided_leads F params place now words state (Refused why) known = tt
 decided_leads F params place now words state (Denied target why) known = redirect_leads F params target.uri _ _ state known
 decided_leads F params place now words state (Approved target approval) known = redirect_leads F params target.uri _ _ state known
 
--- the reply to an authorisation request leads to a registered URI or to no URI
+-- the reply to an authorisation request leads to a URI that matches a registered one, or to no URI
 leads : (F : FactSet) (place : Place) (now : ℕ) (words : List ℕ) (request : RequestFields) → LeadsToClient F request.params (authorization_of F place now words request).reply
 leads F place now words request =
     decided_leads F request.params place now words _ (judged_of F place.choices.challenge request.params request.subject) (by_duplicate F place.choices.challenge request.params request.subject (has_twice target_names request.params))

@@ -33,7 +33,7 @@ use Rattle.sha2.specs.Sha256.{sha256}
 use Rattle.tk_handle.specs.declared.dot.Dot.{Dot}
 use Rattle.tk_handle.specs.ClientId.{client_in}
 use Rattle.tk_handle.specs.ConsentId.{consent_in}
-use Rattle.tk_match.specs.Redirects.{registration_refusal}
+use Rattle.tk_match.specs.Redirects.{client_refusal}
 use Rattle.tk_scope.specs.Scope.{scope_of}
 use Rattle.tk_fact.specs.declared.client_kind.ClientKind.{ClientKind}
 use Rattle.tk_fact.specs.declared.client_kind.ClientKind.TheVariants.{Public, Confidential, Resource}
@@ -118,9 +118,9 @@ client_kind_asked kind secret =
 abbrev pub is_space : ℕ → Bool
 is_space b = b == 32
 
--- the redirection URIs, if the list may be registered
+-- the redirection URIs, if the list may be registered: `Chosen` refuses more of them
 abbrev pub registered : List (List ℕ) → Option (List (List ℕ))
-registered uris = if is_none (registration_refusal uris) then Some uris else None
+registered uris = if is_none (client_refusal uris) then Some uris else None
 
 -- the judgement of a new client by its redirection URIs, which must be a list to be registered
 abbrev pub registered_to : ClientKind → List ℕ → Option (List (List ℕ)) → Administered

@@ -1,8 +1,9 @@
 -- The judgement of an administration request by the region's choices (own).
---   registered_among  a client is added, where its redirection URIs may be of another kind
+--   may_register      which redirection URIs the region registers
+--   registered_among  a client is added, if the region registers its redirection URIs
 --   consented_again   a consent is given, where one that is held may be good
 --   chosen            the judgement by the choices
-use Rattle.std.specs.Prelude.{Option, Some, None, if◌then◌else◌}
+use Rattle.std.specs.Prelude.{ℕ, Bool, List, Option, Some, None, if◌then◌else◌}
 use Rattle.std.specs.List.{list_all}
 use Rattle.tk_handle.specs.declared.dot.Dot.{Dot}
 use Rattle.tk_fact.specs.declared.client_added.ClientAdded as added
@@ -10,6 +11,7 @@ use Rattle.tk_fact.specs.declared.consent_given.ConsentGiven as given
 use Rattle.tk_store.specs.FactSet.{FactSet}
 use Rattle.tk_ledger.specs.Clients.{consent_for}
 use Rattle.tk_match.specs.RedirectKinds.{is_listed}
+use Rattle.tk_match.specs.Redirects.{is_absolute}
 use Rattle.tk_match.specs.declared.redirect_kinds.RedirectKinds.{RedirectKinds}
 use Rattle.tk_message.specs.declared.choices.Choices.{Choices}
 use Rattle.tk_message.specs.declared.choices.ConsentReuse.{ConsentReuse}
@@ -23,12 +25,16 @@ use Rattle.tk_authorize.specs.declared.administered.Administered.TheVariants.{
 }
 use Rattle.tk_authorize.specs.declared.admin_refusal.AdminRefusal.TheVariants.{BadRedirects}
 
--- a client is added: with the URIs that the profile registers, or only if each URI is of one of the
--- kinds
+-- the URIs that the region registers: absolute URLs of any scheme, but none at any port; or only
+-- URIs of the kinds
+abbrev pub may_register : Option RedirectKinds → List (List ℕ) → Bool
+may_register None uris = list_all is_absolute uris
+may_register (Some kinds) uris = list_all (is_listed kinds) uris
+
+-- a client is added, if the region registers each of its URIs
 abbrev pub registered_among : Option RedirectKinds → added.ClientAdded → Administered
-registered_among None client = Registers client
-registered_among (Some kinds) client =
-    if list_all (is_listed kinds) client.redirects then Registers client else Refused BadRedirects
+registered_among kinds client =
+    if may_register kinds client.redirects then Registers client else Refused BadRedirects
 
 -- the consent that is held, if there is one, or else the new one
 abbrev pub held_or_given : Option Dot → given.ConsentGiven → Administered

@@ -44,8 +44,8 @@ abbrev pub target_of : Dot → List ℕ → Pairs → Target
 target_of client uri params =
     record { client = client; uri = uri; sent = is_some (value_of (codes "redirect_uri") params) }
 
--- the judgement by the redirection URI. There must be one, and it must be registered (RFC 6749,
--- 3.1.2.3)
+-- the judgement by the redirection URI. There must be one, and it must match a registered one (RFC
+-- 6749, 3.1.2.3; RFC 8252, 7.3)
 abbrev pub judged_by_redirect : FactSet → ChallengeRules → Pairs → Option (List ℕ) → Dot
     → ClientFields → Picked → Judged
 judged_by_redirect F rules params subject client view Missing = Refused refusal.MissingRedirect

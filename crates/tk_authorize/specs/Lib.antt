@@ -6,7 +6,7 @@
 --   Approval        approval_of, what a code is issued for
 --   Judged          judged_of, the cases of a request in their order
 --   Authorization   authorization_of, the decision of a request
---   Registered      LeadsToClient, a reply leads to a registered URI or to no URI
+--   Registered      LeadsToClient, a reply leads to a URI that matches a registered one, or to none
 -- For administration requests:
 --   Administered        administered_of, the cases of each endpoint in their order
 --   Chosen              chosen, a judgement by the region's choices

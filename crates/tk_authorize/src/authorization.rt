@@ -38,8 +38,8 @@ pub fn decide_authorize(
         now words.now request.now) }
     ensures passes { IfOk result (λ d. Passes d.made) }
 
-    // The reply sends the browser to a registered URI of the client that the request names, or to
-    // no URI.
+    // The reply sends the browser to a URI that matches a registered one of the client that the
+    // request names, or to no URI.
     ensures leads { IfOk result (λ d.
         LeadsToClient (held_facts ledger.now) request.now.params d.reply) }
 {

@@ -11,6 +11,7 @@ use std::alloc::{AllocError, Global};
 use tk_fact::{ClientAdded, ConsentGiven};
 use tk_handle::Dot;
 use tk_ledger::Ledger;
+use tk_match::Redirects;
 use tk_message::{Choices, ConsentReuse, RedirectKinds};
 
 // Returns the judgement by the choices of the region.
@@ -47,13 +48,24 @@ fn choose_client(
     ensures value { IfOk result (λ a. a ≡ spec.registered_among kinds client) }
     ensures sound { IfOk result IsSoundAdministered }
 {
-    let Some(kinds) = kinds else {
-        return Ok(Administered::Registers(client));
-    };
-    if client.redirects.are_among(alloc, kinds)? {
+    if may_register(alloc, kinds, &client.redirects)? {
         Ok(Administered::Registers(client))
     } else {
         Ok(Administered::Refused(AdminRefusal::BadRedirects))
+    }
+}
+
+// Returns whether the region registers the redirection URIs. Without kinds each must be absolute.
+fn may_register(
+    alloc: Global,
+    kinds: Option<RedirectKinds>,
+    redirects: &Redirects,
+) -> Result<bool, AllocError>
+    ensures { IfOk result (λ may. may ≡ spec.may_register kinds redirects.now) }
+{
+    match kinds {
+        Some(kinds) => redirects.are_among(alloc, kinds),
+        None => redirects.are_absolute(alloc),
     }
 }
 

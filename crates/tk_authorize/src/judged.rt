@@ -130,7 +130,7 @@ fn bytes_of(text: Option<&str>) -> Option<&[u8]>
     }
 }
 
-// Returns the target at a registered URI.
+// Returns the target at the URI that the request means.
 fn find_target(alloc: Global, client: Dot, uri: &[u8], sent: bool) -> Result<Target, AllocError>
     requires { is_uri uri.now ≡ true }
     ensures { IfOk result (λ target. target ≡ record {
@@ -142,7 +142,7 @@ fn find_target(alloc: Global, client: Dot, uri: &[u8], sent: bool) -> Result<Tar
     match Uri::read(alloc, uri) {
         Ok(uri) => Ok(Target { client, uri, sent }),
         Err(RedirectError::Memory) => Err(AllocError),
-        Err(_) => unreachable!("a registered URI is one"),
+        Err(_) => unreachable!("a URI that is picked is one"),
     }
 }
 

@@ -205,7 +205,7 @@ fn split_spaces(alloc: Global, text: &[u8]) -> Result<Vec<&[u8]>, AllocError>
 fn read_redirects(alloc: Global, uris: &[&[u8]]) -> Result<Option<Redirects>, AllocError>
     ensures { IfOk result (λ redirects. redirects ≡ spec.registered (map (λ x. x.now) uris.now)) }
 {
-    match Redirects::new(alloc, uris) {
+    match Redirects::of_client(alloc, uris) {
         Ok(redirects) => Ok(Some(redirects)),
         Err(RedirectError::Memory) => Err(AllocError),
         Err(RedirectError::Empty | RedirectError::TooMany | RedirectError::Malformed) => Ok(None),

@@ -1,3 +1,4 @@
+pub mod AnyPortLaws
 pub mod AsciiTexts
-pub mod Picks
+pub mod PickLaws
 pub mod UriLists

@@ -1,7 +1,8 @@
 -- The kinds of redirection URIs that a region registers (RFC 9700, 2.6; RFC 8252, 7 and 8.4).
 --   is_https, is_loopback, is_app   what a URL of each kind is
 --   is_among                        a URL is of one of some kinds
---   is_listed                       a text is read as a URL of one of some kinds
+--   is_listed                       a text is read as a URL of one of some kinds, or is at any
+--                                   port
 use Rattle.std.specs.Prelude.{
   ℕ,
   Bool,
@@ -23,6 +24,7 @@ use Rattle.std.specs.Str.{bytes_eq}
 use Rattle.url.specs.Host.{host_text}
 use Rattle.url.specs.Parser.{Parsed, parse_url}
 use Rattle.url.specs.Parts.{Parts, nonempty_host}
+use Rattle.tk_match.specs.AnyPort.{is_any_port}
 use Rattle.tk_match.specs.declared.redirect_kinds.RedirectKinds.{RedirectKinds}
 
 -- a page of an application: its scheme is `https` (RFC 8252, 7.2)
@@ -55,6 +57,8 @@ abbrev pub is_read_among : RedirectKinds → Parsed Parts → Bool
 is_read_among kinds (Ok url) = is_among kinds url
 is_read_among kinds (Err e) = false
 
--- the text is read as a URL of one of the kinds
+-- the text is a URI of this machine at any port, and that is one of the kinds; or is read as a URL
+-- of one of the kinds (RFC 8252, 7)
 abbrev pub is_listed : RedirectKinds → List ℕ → Bool
-is_listed kinds uri = is_read_among kinds (parse_url None uri)
+is_listed kinds uri =
+    kinds.loopback && is_any_port uri || is_read_among kinds (parse_url None uri)

@@ -5,12 +5,14 @@
 --   redirects_of           the list, if it breaks no rule
 --   ReadsAsUrl, Refuses    the crate `url` reads a text as a URL, or refuses it
 --   registration_refusal   the first rule that a list breaks if its URIs must be URLs too
-use Rattle.std.specs.Prelude.{◌≡◌, ℕ, Bool, ◌&&◌, ◌==◌, not, nat_lt, nat_le, is_none, is_some}
+--   client_refusal         the same, if URIs at any port are taken
+use Rattle.std.specs.Prelude.{◌≡◌, ℕ, Bool, ◌&&◌, ◌||◌, ◌==◌, not, nat_lt, nat_le, is_none, is_some}
 use Rattle.std.specs.Prelude.{is_ok, if◌then◌else◌, List, length, Option, None, Some, Ok, Err}
 use Rattle.std.specs.List.{list_all}
 use Rattle.url.specs.Parser.{parse_url, IsOutOfRoom}
 use Rattle.url.specs.Parts.{Parts}
 use Rattle.url.specs.declared.error.ParseError.{ParseError}
+use Rattle.tk_match.specs.AnyPort.{is_any_port}
 use Rattle.tk_match.specs.declared.redirects.RedirectError.{RedirectError}
 use Rattle.tk_match.specs.declared.redirects.RedirectError.TheVariants.{Empty, TooMany, Malformed}
 
@@ -61,4 +63,15 @@ abbrev pub registration_refusal : List (List ℕ) → Option RedirectError
 registration_refusal uris =
     if is_some (redirects_refusal uris) then redirects_refusal uris
     else if list_all is_absolute uris then None
+    else Some Malformed
+
+-- a URL, or a URI of this machine at any port (RFC 8252, 7.3)
+abbrev pub is_registrable : List ℕ → Bool
+is_registrable uri = is_any_port uri || is_absolute uri
+
+-- the first rule that a list of URIs breaks if each must be a URL, or of this machine at any port
+abbrev pub client_refusal : List (List ℕ) → Option RedirectError
+client_refusal uris =
+    if is_some (redirects_refusal uris) then redirects_refusal uris
+    else if list_all is_registrable uris then None
     else Some Malformed

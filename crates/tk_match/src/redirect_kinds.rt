@@ -6,17 +6,19 @@ pub struct RedirectKinds {
     /// A page of an application: the scheme is `https`.
     pub https: bool,
     /// A program on this machine: the scheme is `http`, and the host is 127.0.0.1, [::1] or
-    /// localhost.
+    /// localhost. Its port may be `*`, which stands for any port.
     pub loopback: bool,
     /// An application on a device: the scheme has a dot.
     pub app: bool,
 }
 
-ghost use Rattle.std.specs.Prelude.{◌≡◌, ◌==◌, IfOk, OnOk, false, true};
+ghost use Rattle.std.specs.Prelude.{◌≡◌, ◌==◌, IfOk, OnOk, None, false, true};
 ghost use Rattle.std.specs.List.{list_all, list_any};
 ghost use Rattle.std.specs.Option.{option_copied};
+ghost use Rattle.url.specs.Parser.{parse_url};
 ghost use Rattle.tk_match.specs.RedirectKinds as spec;
 
+use crate::any_port::is_any_port;
 use crate::uri::Uri;
 use std::alloc::{AllocError, Global};
 use url::{ParseError, Url};
@@ -37,9 +39,19 @@ pub(crate) fn are_listed(
     Ok(true)
 }
 
-// Returns whether the text is read as a URL of one of the kinds.
+// Returns whether the text is at any port, if `loopback` is listed, or a URL of one of the kinds.
 fn is_listed(alloc: Global, kinds: RedirectKinds, uri: &str) -> Result<bool, AllocError>
     ensures { IfOk result (λ listed. listed ≡ spec.is_listed kinds uri.now) }
+{
+    if kinds.loopback && is_any_port(uri.as_bytes()) {
+        return Ok(true);
+    }
+    is_url_listed(alloc, kinds, uri)
+}
+
+// Returns whether the text is read as a URL of one of the kinds.
+fn is_url_listed(alloc: Global, kinds: RedirectKinds, uri: &str) -> Result<bool, AllocError>
+    ensures { IfOk result (λ listed. listed ≡ spec.is_read_among kinds (parse_url None uri.now)) }
 {
     match Url::parse(alloc, uri) {
         Ok(url) => Ok(is_among(kinds, &url)),

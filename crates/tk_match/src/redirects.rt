@@ -55,12 +55,13 @@ ghost use Rattle.std.specs.Prelude.{IsErrOf, IsTrue, None, Some, true, false, ma
 ghost use Rattle.std.specs.List.{list_all};
 ghost use Rattle.std.specs.Option.{option_copied};
 ghost use Rattle.std.specs.Str.{IsUtf8};
-ghost use Rattle.tk_match.specs.Pick.{picked, shown_pick, IfUri};
+ghost use Rattle.tk_match.specs.Pick.{picked, shown_pick, IfUri, Matches};
 ghost use Rattle.tk_match.specs.RedirectKinds.{is_listed};
 ghost use Rattle.tk_match.specs.Redirects.{is_uri, redirects_refusal, redirects_of};
 ghost use Rattle.tk_match.specs.Redirects.{registration_refusal, is_absolute, ReadsAsUrl, Refuses};
+ghost use Rattle.tk_match.specs.Redirects.{client_refusal, is_registrable};
 
-use crate::pick::{Pick, only_uri, registered_uri};
+use crate::pick::{Pick, only_uri, sent_uri};
 use crate::redirect_kinds::{RedirectKinds, are_listed};
 use std::alloc::{AllocError, Global};
 
@@ -94,6 +95,32 @@ impl Redirects {
         Ok(redirects)
     }
 
+    /// Returns the list of URIs, checked for a registration that takes URIs at any port (RFC 8252,
+    /// 7.3).
+    ///
+    /// Each URI must be a URL, as for [`Redirects::new`], or `http://127.0.0.1:*`, `http://[::1]:*`
+    /// or `http://localhost:*`, then nothing or a path. Returns the first error that applies, in
+    /// the order of [`RedirectError`]. `Memory` is also returned if a URL is too long for `url`.
+    pub fn of_client(alloc: Global, uris: &[&[u8]]) -> Result<Redirects, RedirectError>
+        ensures ok { IfOk result (λ r. redirects_of (map (λ x. x.now) uris.now) ≡ Some r) }
+        ensures registrable { OnOk result (client_refusal (map (λ x. x.now) uris.now) ≡ None) }
+        ensures empty { IsErrOf result RedirectError.Empty
+            → client_refusal (map (λ x. x.now) uris.now) ≡ Some RedirectError.Empty }
+        ensures too_many { IsErrOf result RedirectError.TooMany
+            → client_refusal (map (λ x. x.now) uris.now) ≡ Some RedirectError.TooMany }
+        ensures bad { IsErrOf result RedirectError.Malformed
+            → client_refusal (map (λ x. x.now) uris.now) ≡ Some RedirectError.Malformed }
+
+        // A URL that `url` refuses because it is too long is never reported as `Malformed`.
+        ensures refused { IsErrOf result RedirectError.Malformed
+            → (redirects_refusal (map (λ x. x.now) uris.now) ≡ Some RedirectError.Malformed)
+            ⊎ Any Refuses (map (λ x. x.now) uris.now) }
+    {
+        let redirects = Redirects::kept(alloc, uris)?;
+        check_registrable(alloc, redirects.uris())?;
+        Ok(redirects)
+    }
+
     /// Returns the list of URIs, as another region registered it.
     ///
     /// The URIs need not be absolute URLs. Returns the first error that applies, in the order of
@@ -123,6 +150,19 @@ impl Redirects {
         }
         let uris = read_each(alloc, uris)?;
         Ok(Redirects { uris })
+    }
+
+    /// Returns whether each URI is an absolute URL. A URI at any port is none.
+    ///
+    /// Fails if memory runs out, or if a URL is too long for `url`.
+    pub fn are_absolute(&self, alloc: Global) -> Result<bool, AllocError>
+        ensures { IfOk result (λ absolute. absolute ≡ list_all is_absolute self.now) }
+    {
+        match check_absolute(alloc, self.uris()) {
+            Ok(()) => Ok(true),
+            Err(RedirectError::Memory) => Err(AllocError),
+            Err(_) => Ok(false),
+        }
     }
 
     /// Returns whether each URI is of one of the kinds.
@@ -163,15 +203,17 @@ impl Redirects {
         same_uris(&self.uris, &other.uris)
     }
 
-    /// Returns the registered URI that a request means, given the URI that it sent (RFC 6749,
-    /// 3.1.2.3).
-    pub fn pick(&self, sent: Option<&[u8]>) -> Pick<'_>
+    /// Returns the URI that a request means, given the URI that it sent (RFC 6749, 3.1.2.3; RFC
+    /// 8252, 7.3).
+    pub fn pick<'a>(&'a self, sent: Option<&'a [u8]>) -> Pick<'a>
         ensures value { shown_pick result ≡ picked self.now (option_copied sent.entry) }
         ensures uri { IfUri result (λ uri. IsTrue (is_uri uri)) }
         ensures utf8 { IfUri result IsUtf8 }
+        ensures matches { IfUri result (λ uri.
+            Any (λ registered. Matches registered uri) self.now) }
     {
         match sent {
-            Some(sent) => registered_uri(&self.uris, sent),
+            Some(sent) => sent_uri(&self.uris, sent),
             None => only_uri(&self.uris),
         }
     }
@@ -215,6 +257,20 @@ fn check_absolute(alloc: Global, uris: &[Uri]) -> Result<(), RedirectError>
 {
     for uri in uris {
         uri.check_absolute(alloc)?;
+    }
+    Ok(())
+}
+
+// Fails with `Malformed` at the first URI that is neither an absolute URL nor at any port.
+fn check_registrable(alloc: Global, uris: &[Uri]) -> Result<(), RedirectError>
+    ensures ok { OnOk result (list_all is_registrable uris.now ≡ true) }
+    ensures err { IfErr result (λ e. (e ≡ RedirectError.Malformed) ⊎ (e ≡ RedirectError.Memory)) }
+    ensures bad { IsErrOf result RedirectError.Malformed
+        → list_all is_registrable uris.now ≡ false }
+    ensures refused { IsErrOf result RedirectError.Malformed → Any Refuses uris.now }
+{
+    for uri in uris {
+        uri.check_registrable(alloc)?;
     }
     Ok(())
 }

@@ -24,7 +24,9 @@ impl Model for Uri {
 ghost use Rattle.std.specs.Prelude.{◌≡◌, ◌↔◌, ◌⊎◌, true, false, IfOk, OnOk, IfErr, IsErrOf, IsTrue};
 ghost use Rattle.std.specs.List.{list_all};
 ghost use Rattle.tk_match.specs.Redirects.{is_uri, is_uri_byte, is_absolute, Refuses};
+ghost use Rattle.tk_match.specs.Redirects.{is_registrable};
 
+use crate::any_port::is_any_port;
 use crate::redirects::RedirectError;
 use std::alloc::{AllocError, Global};
 use url::{ParseError, Url};
@@ -96,10 +98,25 @@ impl Uri {
             Err(_) => Err(RedirectError::Malformed),
         }
     }
+
+    // A URI at any port isn't read as a URL.
+    pub(crate) fn check_registrable(&self, alloc: Global) -> Result<(), RedirectError>
+        ensures ok { OnOk result (is_registrable self.now ≡ true) }
+        ensures err { IfErr result (λ e.
+            (e ≡ RedirectError.Malformed) ⊎ (e ≡ RedirectError.Memory)) }
+        ensures bad { IsErrOf result RedirectError.Malformed → is_registrable self.now ≡ false }
+        ensures refused { IsErrOf result RedirectError.Malformed → Refuses self.now }
+    {
+        if is_any_port(self.as_bytes()) {
+            Ok(())
+        } else {
+            self.check_absolute(alloc)
+        }
+    }
 }
 
 // Returns whether the text is 1 to 512 visible ASCII bytes without `#`.
-fn is_uri(text: &[u8]) -> bool
+pub(crate) fn is_uri(text: &[u8]) -> bool
     ensures { result ≡ is_uri text.now }
 {
     (1..=MAX_BYTES).contains(&text.len()) && has_uri_bytes(text)

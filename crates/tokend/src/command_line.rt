@@ -193,7 +193,7 @@ fn serve_command<'a>(alloc: Global) -> Result<Command<'a>, AllocError>
         ("consent", Takes::Word("new"),
             "What is given if a good consent is held: a new one, or the held one without a fact"),
         ("redirects", Takes::List,
-            "The kinds of redirection URIs that a new client may have: https, loopback, app [default: every absolute URL]"),
+            "The kinds of redirection URIs that a new client may have: https, loopback (at any port too), app [default: every absolute URL]"),
         ("refresh-seen", Takes::Word("all"),
             "Who sees a refresh token at /introspect: all, its client and resource servers; or client, its client alone"),
         ("challenge", Takes::List,
