@@ -138,12 +138,16 @@ def start(parts):
                        rows)
 
 
-def uses(parts):
-    it, which, rows = part(parts, "uses"), ("lowest serials", "highest serials"), []
-    for size in it.numbers("uses (.*): lowest serials in ms"):
-        name = "uses %s: " % format(size, ",")
-        rows.append([format(size, ",")] + [it.cell("%s%s in ms" % (name, one)) for one in which])
-    return it, text_of(["redemptions of a code", *(one + ", ms" for one in which)], rows)
+def sized(command, head, which, unit):
+    """A table with a line for each size, and a column for each of some times."""
+    def made(parts):
+        it, rows = part(parts, command), []
+        for size in it.numbers("%s (.*): %s in %s" % (command, which[0], unit)):
+            name = "%s %s: " % (command, format(size, ","))
+            rows.append([format(size, ",")] + [it.cell("%s%s in %s" % (name, one, unit))
+                                               for one in which])
+        return it, text_of([head, *("%s, %s" % (one, unit) for one in which)], rows)
+    return made
 
 
 def signouts(parts):
@@ -154,14 +158,6 @@ def signouts(parts):
         name = "codes %s: " % format(size, ",")
         rows.append([format(size, ",")] + [it.cell("%s%s in ms" % (name, one)) for one in pushes])
     return it, text_of(["codes of the subject", *(one + ", ms" for one in pushes)], rows)
-
-
-def consents(parts):
-    it, which, rows = part(parts, "consents"), ("withdrawn", "for another scope"), []
-    for size in it.numbers("consents (.*): withdrawn in µs"):
-        name = "consents %s: " % format(size, ",")
-        rows.append([format(size, ",")] + [it.cell("%s%s in µs" % (name, one)) for one in which])
-    return it, text_of(["consents before", *(one + ", µs" for one in which)], rows)
 
 
 def push(parts):
@@ -304,8 +300,10 @@ def pruned(parts):
 ALL = {
     "speed": speed, "logged": logged, "calls": calls, "profile": profile, "proxied": proxied,
     "clients": clients, "turns": turns, "growth": growth, "generations": generations,
-    "memory": memory, "start": start, "prunes": plain("prunes", ["a prune", ""]), "uses": uses,
-    "signouts": signouts, "consents": consents, "push": push,
+    "memory": memory, "start": start, "prunes": plain("prunes", ["a prune", ""]),
+    "uses": sized("uses", "redemptions of a code", ("lowest serials", "highest serials"), "ms"),
+    "signouts": signouts, "push": push,
+    "consents": sized("consents", "consents before", ("withdrawn", "for another scope"), "µs"),
     "carried": plain("carried", ["`carry` to an empty server", ""]), "revoked": revoked,
     "fanned": fanned, "scaled": scaled, "spread": spread, "cells": cells, "peers": peers,
     "beside": beside, "ledger": ledger, "pruned": pruned,
