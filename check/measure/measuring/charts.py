@@ -43,13 +43,16 @@ set logscale xy
 set xrange [80:130000]
 set xtics ("fresh" 100, "1,000" 1000, "10,000" 10000, "100,000" 100000)
 """
-BARS = """
-set logscale y
-set yrange [0.1:*]
-set format y "%g"
+PLAIN_BARS = """
+set yrange [0:*]
 set style data histogram
 set style histogram clustered gap 1
 set bmargin 4
+"""
+BARS = PLAIN_BARS + """
+set logscale y
+set yrange [0.1:*]
+set format y "%g"
 """
 
 
@@ -88,6 +91,18 @@ def clients(parts):
     return Chart("clients", "introspections a second", settings, LINES, curves)
 
 
+def turns(parts):
+    """How many requests a second of clients that keep their connections, beside Redis."""
+    it, form = part(parts, "turns"), "%s, kept, %s, clients %d: requests a second"
+    bars = [("%s\\n%d clients\\n%s" % (kind, many, log), kind, log, many)
+            for kind, log in (("introspect", "no log"), ("refresh", "1 ms a sync"))
+            for many in (16, 64)]
+    curves = [(name, [(bar, it.median(form % (one or kind, log, many)))
+                      for bar, kind, log, many in bars])
+              for name, one in (("tokend", None), ("Redis: GET, SET", "Redis"))]
+    return Chart("", "requests a second", PLAIN_BARS + "set bmargin 5", "using 2:xtic(1)", curves)
+
+
 def sites(parts):
     """How long `carry` is at work for a day of a million logins, by the number of sites."""
     costs, most = paper.Costs(parts), paper.SITES[-1]
@@ -98,12 +113,14 @@ def sites(parts):
     return Chart("sites", "hours of carry", "set yrange [0:*]\nset xtics 1, 1", LINES, curves)
 
 
-ALL = {"growth": growth, "memory": memory, "delay": delay, "clients": clients, "sites": sites}
+ALL = {"growth": growth, "memory": memory, "delay": delay, "clients": clients, "turns": turns,
+       "sites": sites}
 TITLES = {
     "growth": "Introspections a second, by the logins that a server holds",
     "memory": "Memory in MiB, by the logins that a server holds",
     "delay": "From a revocation until another region knows it, in ms",
     "clients": "Introspections a second, by the clients at the same time",
+    "turns": "Requests a second of clients that keep their connections, beside Redis",
     "sites": "Hours that carry is at work for a day of a million logins, by sites"}
 
 
