@@ -37,6 +37,7 @@ use Rattle.tk_bundle.specs.Bundle.{magic, max_items, bundle, horizon_bytes, Hori
 use Rattle.tk_bundle.specs.Front.{◌>>=◌, or_cut, malformed_if, cut_if, opening, least_header}
 use Rattle.tk_bundle.specs.Front.{horizon_size, header, skipped, skipped_many, walk}
 
+-- a walk over items goes on behind the next one
 pub walk_more : (count i : ℕ) (now next : List ℕ) (total : Result (List ℕ) FrontError) → i < count
     → skipped now ≡ Ok next → skipped_many (count - i) now ≡ total
     → skipped_many (count - (i + 1)) next ≡ total
@@ -46,6 +47,7 @@ walk_more count i now next total lt h so_far =
     let one : skipped_many (count - i) now ≡ skipped_many (count - (i + 1)) next = rw (k, h) refl in
     sym one ∙ so_far
 
+-- a walk over items fails as the next one does
 pub walk_fail : (count i : ℕ) (now : List ℕ) (e : FrontError) (total : Result (List ℕ) FrontError)
     → i < count → skipped now ≡ Err e → skipped_many (count - i) now ≡ total → total ≡ Err e
 unfolding skipped_many
@@ -54,6 +56,7 @@ walk_fail count i now e total lt h so_far =
     let one : skipped_many (count - i) now ≡ Err e = rw (k, h) refl in
     sym so_far ∙ one
 
+-- a walk over all items ends at what is left
 pub walk_done : (count i : ℕ) (now : List ℕ) (total : Result (List ℕ) FrontError) → count ≤ i
     → skipped_many (count - i) now ≡ total → total ≡ Ok now
 unfolding skipped_many
@@ -134,6 +137,7 @@ opening_exact = both_exact _ _ (bytes_exact (length magic)) byte_exact
 header_exact : (digit : ℕ) → IsExact (header digit)
 header_exact digit = both_exact _ _ (bytes_exact (horizon_size digit)) u16_exact
 
+-- what a walk leaves lies behind a bundle
 pub walk_ends : (bytes rest : List ℕ) → IsBytes bytes → walk bytes ≡ Ok rest → Ends bytes rest
 walk_ends bytes rest fits e =
     let s = test_ok (ltb (length bytes) least_header) Cut (or_cut (opening.read bytes) >>= opened)
@@ -187,6 +191,7 @@ horizon_length : (digit : ℕ) (o : Option ℕ) → HorizonFits digit o
 horizon_length digit None fits = rw fits refl
 horizon_length digit (Some h) fits = rw fits.1 (number_length w64 h)
 
+-- the walk over the spelling of a bundle ends behind it
 pub walk_bundle : (b : BundleFields) (rest : List ℕ) → bundle.Fits b
     → walk (bundle.spell b ++ rest) ≡ Ok rest
 walk_bundle b rest fits =
@@ -340,18 +345,21 @@ cut_before more (Err Malformed) longer h whole some = absurd cc
 cut_before more (Err Cut) longer h whole some = refl
 cut_before more (Err Memory) longer h whole some = absurd h
 
+-- the walk over a proper beginning of a bundle is cut
 pub walk_torn : (bytes : List ℕ) (b : BundleFields) (rest : List ℕ) → bundle.Fits b
     → bytes ++ rest ≡ bundle.spell b → rest ≢ [] → walk bytes ≡ Err Cut
 walk_torn bytes b rest fits e some =
     cut_before rest (walk bytes) (walk (bytes ++ rest)) (walk_goes_on bytes rest)
     (ap walk (e ∙ sym (append-nil (bundle.spell b))) ∙ walk_bundle b [] fits) some
 
+-- no walk ends over a proper beginning of a bundle
 pub torn_walked : (bytes left : List ℕ) (b : BundleFields) (rest : List ℕ) → walk bytes ≡ Ok left
     → bundle.Fits b → bytes ++ rest ≡ bundle.spell b → rest ≢ [] → ⊥
 torn_walked bytes left b rest ok fits e some = let t = walk_torn bytes b rest fits e some in cc
 
 -- ---- the bytes before the rest
 
+-- the bytes before the rest, and the rest, are the bytes
 pub Ends-take : (bytes rest : List ℕ) → Ends bytes rest
     → (take (length bytes - length rest) bytes ++ rest ≡ bytes) × (length rest ≤ length bytes)
 Ends-take bytes rest p =
@@ -364,10 +372,12 @@ Ends-take bytes rest p =
     ∙ take_at front rest (length bytes - length rest) (sym n) in
     (ap (λ (t : List ℕ). t ++ rest) taken ∙ sym p.1.parts, omega arith)
 
+-- bytes that begin with a bundle are not refused
 pub front_refused : (bytes : List ℕ) (d : FrontError) (b : BundleFields) (rest : List ℕ)
     → walk bytes ≡ Err d → bundle.Fits b → bytes ≡ bundle.spell b ++ rest → ⊥
 front_refused bytes d b rest refused fits e = let t = ap walk e ∙ walk_bundle b rest fits in cc
 
+-- bytes that begin with a bundle are parted behind it
 pub front_split : (bytes left : List ℕ) (b : BundleFields) (rest : List ℕ) → walk bytes ≡ Ok left
     → bundle.Fits b → bytes ≡ bundle.spell b ++ rest
     → (take (length bytes - length left) bytes ≡ bundle.spell b)
@@ -383,6 +393,7 @@ front_split bytes left b rest ok fits e =
       n,
     )
 
+-- bytes begin with one bundle at most
 pub front_is : (bytes left : List ℕ) (a b : BundleFields) (rest : List ℕ) → walk bytes ≡ Ok left
     → bundle.Fits a → take (length bytes - length left) bytes ≡ bundle.spell a → bundle.Fits b
     → bytes ≡ bundle.spell b ++ rest

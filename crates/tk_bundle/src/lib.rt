@@ -2,26 +2,20 @@
 //!
 //! A bundle is a list of at most 128 items, strictly ascending by dot. An item is a fact, or the
 //! mark that the fact of a dot was skipped. A bundle with a mark has the horizon up to which its
-//! sender skipped facts. A bundle has exactly one spelling.
+//! sender skipped facts. A bundle has exactly one spelling. Nothing is taken in here: that is for
+//! the regions.
 //!
 //! - `make` writes a page: what a store knows, above a cursor, and a version vector does not cover.
-//!   `pages_complete` states that a receiver of all pages misses nothing.
-//! - `single` writes a record of a log: the bundle of one fact. `news` writes that of a bundle that
-//!   is taken in: what a store doesn't drop of it, if the bundle changes the store.
-//! - `Bundle::read` reads bytes that may be hostile, and reserves no memory for a number that they
-//!   only claim.
-//! - `read_front` reads the first bundle of many, and tells apart bytes that end too early and
-//!   bytes that are no bundle.
+//! - `single` writes a record of a log, the bundle of one fact, and `news` that of a bundle that is
+//!   taken in: what a store doesn't drop of it, if the bundle changes the store.
+//! - `Bundle::read` reads bytes that may be hostile. `read_front` reads the first bundle of many,
+//!   and tells apart bytes that end too early and bytes that are no bundle.
 //!
-//! The bytes have versions, in one table. A version has the kinds of facts of the versions before
-//! it, and more. A bundle has the first version that has all of its items: `OTB3` if one of them is
-//! a mark, otherwise `OTB2` if one is a sign-out, otherwise `OTB1` (`versions_told`). A log may
-//! hold bundles of all versions.
+//! A bundle has the first version that has all of its items: `OTB3` if one of them is a mark,
+//! otherwise `OTB2` if one is a sign-out, otherwise `OTB1` (`versions_told`).
 //!
-//! In reading order: `Version`, `Item`, `Page`, `make`, `single`, `Bundle`, `read_front`. The
-//! definitions are in `specs/`: `BundleFields` for what contracts see, `Versions` for the table of
-//! versions, `Items` and `Bundle` for the bytes, `Page` and `Paging` for what a vector does not
-//! cover, `Front` for the walk over lengths.
+//! In reading order: `Version`, `Item`, `Page`, `make`, `single`, `Bundle`, `read_front`. Of
+//! `specs/`: `BundleFields`, `Versions`, `Items`, `Bundle`, `Page`, `Paging`, `Front`.
 #![tactic(auto)]
 
 mod bundle;

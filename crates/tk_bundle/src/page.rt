@@ -21,7 +21,6 @@ ghost use Rattle.std.specs.List.{AllByRecursion, flat_map};
 ghost use Rattle.tk_format.specs.Format.{number};
 ghost use Rattle.tk_handle.specs.Moment.{moment};
 ghost use Rattle.tk_fact.specs.Check.{refusal_of};
-ghost use Rattle.tk_store.specs.Paging as paging;
 ghost use Rattle.tk_bundle.specs.BundleFields.{of_facts};
 ghost use Rattle.tk_bundle.specs.Items.{item, mark_at};
 ghost use Rattle.tk_bundle.specs.Versions.{newest_kind, version_with};

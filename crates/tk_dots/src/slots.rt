@@ -1,9 +1,9 @@
 //! The places of one page.
 
-ghost use Rattle.std.specs.Prelude.{◌≡◌, ◌<◌, ◌≤◌, ◌+◌, ◌-◌, ◌==◌, ℕ, [], None, Some, IsSome};
+ghost use Rattle.std.specs.Prelude.{◌≡◌, ◌<◌, ◌≤◌, ◌+◌, ◌-◌, ◌==◌, ℕ, None, Some};
 ghost use Rattle.std.specs.Prelude.{is_some, if◌then◌else◌, option_copied, option_map};
 ghost use Rattle.std.specs.Prelude.{slice_index_or, vec_len, vec_capacity, OnOk, OnErr, IfOk};
-ghost use Rattle.std.specs.Prelude.{length, max};
+ghost use Rattle.std.specs.Prelude.{max};
 ghost use Rattle.tk_dots.specs.Pages.{FirstFrom, EndsFull};
 
 use std::alloc::{AllocError, Global};

@@ -9,7 +9,13 @@ use Rattle.tk_handle.proofs.FormatLaws.{dot_field_exact, moment_exact, token_exa
 use Rattle.tk_fact.specs.declared.body.Body.TheVariants as bodies
 use Rattle.tk_fact.specs.Kinds as fields
 use Rattle.tk_fact.specs.FactBytes.{kinds, body, passes, fact, max_bytes, framed}
-use Rattle.tk_fact.specs.FieldLaws.{digest_exact, client_kind_exact, scope_exact, subject_exact, uri_exact}
+use Rattle.tk_fact.specs.FieldLaws.{
+  digest_exact,
+  client_kind_exact,
+  scope_exact,
+  subject_exact,
+  uri_exact,
+}
 use Rattle.tk_fact.specs.FieldLaws.{redirects_exact, flag_exact, challenge_exact, minted_exact}
 
 -- the law of the fields of ClientAdded

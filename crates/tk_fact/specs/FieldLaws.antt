@@ -22,9 +22,19 @@ use Rattle.tk_match.specs.declared.redirects.RedirectError.{RedirectError}
 use Rattle.tk_match.specs.declared.challenge.ChallengeError.{ChallengeError}
 use Rattle.tk_match.specs.Challenge.{ChallengeFields, challenge_of, min_verifier_bytes}
 use Rattle.tk_match.specs.Challenge.{max_verifier_bytes, is_verifier, is_unreserved}
-use Rattle.tk_fact.specs.declared.client_kind.ClientKind.TheVariants.{Public, Confidential, Resource}
+use Rattle.tk_fact.specs.declared.client_kind.ClientKind.TheVariants.{
+  Public,
+  Confidential,
+  Resource,
+}
 use Rattle.tk_fact.specs.Subject.{is_visible, max_subject_bytes, is_subject}
-use Rattle.tk_fact.specs.Fields.{digest_field, client_kinds, client_kind_field, printed_scope_of, scope_field}
+use Rattle.tk_fact.specs.Fields.{
+  digest_field,
+  client_kinds,
+  client_kind_field,
+  printed_scope_of,
+  scope_field,
+}
 use Rattle.tk_fact.specs.Fields.{subject_field, uri_field, redirects_field, flag_code, flag_of}
 use Rattle.tk_fact.specs.Fields.{flag_field, challenge_tag, challenge_bytes, challenge_rest}
 use Rattle.tk_fact.specs.Fields.{ChallengeFits, challenge_with, challenge_cases, challenge_field}

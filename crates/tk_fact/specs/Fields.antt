@@ -19,7 +19,11 @@ use Rattle.tk_match.specs.Redirects.{is_uri, redirects_of}
 use Rattle.tk_match.specs.Challenge.{ChallengeFields, is_verifier}
 use Rattle.tk_handle.specs.Moment.{moment}
 use Rattle.tk_fact.specs.declared.client_kind.ClientKind.{ClientKind}
-use Rattle.tk_fact.specs.declared.client_kind.ClientKind.TheVariants.{Public, Confidential, Resource}
+use Rattle.tk_fact.specs.declared.client_kind.ClientKind.TheVariants.{
+  Public,
+  Confidential,
+  Resource,
+}
 use Rattle.tk_fact.specs.declared.minted_token.MintedToken.{MintedToken}
 use Rattle.tk_fact.specs.Subject.{is_subject}
 

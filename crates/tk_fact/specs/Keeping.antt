@@ -1,6 +1,7 @@
 -- For which token a fact is kept (own). When that token's family is over, the fact may be skipped.
 --   kept_for       the token for which a fact is kept, if there is one
 --   is_passing     a fact is kept for a token; the facts of the other kinds last
+--   names_of       the dot that a fact names
 use Rattle.std.specs.Prelude.{◌≡◌, Bool, true, false, Option, Some, None, is_some}
 use Rattle.tk_handle.specs.declared.dot.Dot.{Dot}
 use Rattle.tk_handle.specs.declared.kind.Kind.TheVariants.{Code, Refresh}
@@ -26,6 +27,14 @@ is_passing (RefreshRotated f) = true
 is_passing (ReuseSeen f) = true
 is_passing body = false
 
--- the two agree
+-- the dot that a fact names: of the code that it redeems, of the refresh token that it rotates, or
+-- of the token that it saw used again. The facts that last are left out
+abbrev pub names_of : Body → Option Dot
+names_of (CodeRedeemed f) = Some f.code
+names_of (RefreshRotated f) = Some f.parent
+names_of (ReuseSeen f) = Some f.token.dot
+names_of body = None
+
+-- a fact is kept for a token exactly if it is of a kind that passes
 abbrev pub PassingIsKept : Type 0
 PassingIsKept = (d : Dot) (b : Body) → is_passing b ≡ is_some (kept_for d b)

@@ -8,7 +8,13 @@ use Rattle.tk_handle.specs.Moment.{moment}
 use Rattle.tk_handle.specs.DotBytes.{dot_field}
 use Rattle.tk_handle.specs.TokenId.{token}
 use Rattle.tk_match.specs.Challenge.{ChallengeFields}
-use Rattle.tk_fact.specs.Fields.{digest_field, client_kind_field, scope_field, subject_field, uri_field}
+use Rattle.tk_fact.specs.Fields.{
+  digest_field,
+  client_kind_field,
+  scope_field,
+  subject_field,
+  uri_field,
+}
 use Rattle.tk_fact.specs.Fields.{redirects_field, flag_field, challenge_field, minted_field}
 use Rattle.tk_fact.specs.declared.client_added.ClientAdded.{ClientAdded}
 use Rattle.tk_fact.specs.declared.client_retired.ClientRetired.{ClientRetired}
@@ -24,7 +30,11 @@ use Rattle.tk_fact.specs.declared.subject_out.SubjectOut.{SubjectOut}
 -- ClientAdded: the client kind, the scope, the redirection URIs
 abbrev pub client_added : Format ClientAdded
 client_added = shaped
-    (λ (client_kind, (scope, redirects)). record { client_kind = client_kind; scope = scope; redirects = redirects })
+    (λ (client_kind, (scope, redirects)). record {
+      client_kind = client_kind;
+      scope = scope;
+      redirects = redirects;
+    })
     (λ f. (f.client_kind, (f.scope, f.redirects)))
     (client_kind_field ⊗ (scope_field ⊗ redirects_field))
 

@@ -22,12 +22,22 @@ use Rattle.tk_handle.specs.declared.dot.Dot.{Dot}
 use Rattle.tk_handle.specs.DotBytes.{dot_field}
 use Rattle.tk_handle.specs.Moment.{moment}
 use Rattle.tk_fact.specs.declared.client_kind.ClientKind.{ClientKind}
-use Rattle.tk_fact.specs.declared.client_kind.ClientKind.TheVariants.{Public, Confidential, Resource}
+use Rattle.tk_fact.specs.declared.client_kind.ClientKind.TheVariants.{
+  Public,
+  Confidential,
+  Resource,
+}
 use Rattle.tk_fact.specs.declared.minted_token.MintedToken.{MintedToken}
 use Rattle.tk_fact.specs.declared.body.Body.{Body}
 use Rattle.tk_fact.specs.declared.body.Body.TheVariants as bodies
 use Rattle.tk_fact.specs.Subject.{max_subject_bytes}
-use Rattle.tk_fact.specs.Fields.{client_kinds, client_kind_field, scope_field, redirects_field, ChallengeFits}
+use Rattle.tk_fact.specs.Fields.{
+  client_kinds,
+  client_kind_field,
+  scope_field,
+  redirects_field,
+  ChallengeFits,
+}
 use Rattle.tk_fact.specs.Fields.{challenge_field, minted_field}
 use Rattle.tk_fact.specs.FactBytes.{kinds, body, fact, max_bytes, framed}
 use Rattle.tk_fact.specs.FieldLaws.{both_true, kept_list, few, subject_short, uri_short}

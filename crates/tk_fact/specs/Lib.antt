@@ -5,7 +5,7 @@
 --   Kinds       the format of the fields of each kind together
 --   FactBytes   fact_bytes, the spelling of a fact; framed, a fact behind its length
 --   Tokens      minted_of, the tokens that a fact mints; uses_of, the token that it uses
---   Keeping     kept_for, the token for which a fact is kept; is_passing
+--   Keeping     kept_for, the token for which a fact is kept; is_passing; names_of
 --   FieldLaws, FactLaws   reading and spelling undo each other
 --   LengthLaws  a fact that has a spelling has at most 8,192 bytes
 pub mod Check

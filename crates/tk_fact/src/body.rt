@@ -14,8 +14,8 @@
 //!    `specs/LengthLaws.antt`: its row in `body_short`; a fact has 8,192 bytes at most.
 //! 5. `specs/Check.antt`, `src/check.rt`: the rules that such a fact must keep.
 //! 6. `specs/Tokens.antt`, `src/tokens.rt`: whether the kind mints tokens or uses one;
-//!    `specs/Keeping.antt`, `src/keeping.rt`: for which token such a fact is kept. The compiler does
-//!    not ask for these rows.
+//!    `specs/Keeping.antt`, `src/keeping.rt`: for which token such a fact is kept. The compiler
+//!    does not ask for these rows.
 //! 7. `check/rows/bytes_facts.rows` at the top of the repository: its bytes at its limits, and one
 //!    past each among the bytes of no fact, where the kind 11 becomes 12.
 //!    `check/rows/bytes_made.rows`: a region that makes such a fact. `must-fail/`: an edit for what

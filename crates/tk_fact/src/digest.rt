@@ -1,6 +1,5 @@
 //! The field of a SHA-256 digest.
 
-ghost use Rattle.std.specs.Prelude.{◌≡◌};
 ghost use Rattle.tk_fact.specs.Fields.{digest_field};
 ghost use Rattle.tk_format.specs.Reading.{Reads};
 

@@ -27,7 +27,7 @@ impl Model for Fact {
 ghost use Rattle.std.specs.Prelude.{◌≡◌, ◌≢◌, ◌≤◌, ◌++◌, ◌↔◌, length, false, None, Some, IfOk};
 ghost use Rattle.std.specs.Prelude.{IfErr, IsErrOf, IsTrue, OnErr, OnOk};
 ghost use Rattle.tk_fact.specs.FactBytes.{passes};
-ghost use Rattle.tk_format.specs.Reading.{Gets, GetsAll};
+ghost use Rattle.tk_format.specs.Reading.{GetsAll};
 
 use crate::check::{FactError, check_body};
 use std::alloc::{AllocError, Global};

@@ -4,9 +4,9 @@
 --   users-has, has-users                 the span has exactly the children that use the token
 --   users-distinct                       each once
 --   first_listed, none_listed            the first of them
-use Rattle.std.proofs.Common.{◌≡◌, ◌≢◌, ◌⊎◌, inl, inr, ℕ, ◌≤◌, ◌<◌, Bool, true, false, cond, ◌&&◌, not, List, [], ◌∷◌, Option, Some, None, length, take, map, filter, refl, sym, ap, subst, ◌∙◌, arith}
+use Rattle.std.proofs.Common.{◌≡◌, ◌≢◌, ◌⊎◌, inl, inr, Bool, true, false, cond, ◌&&◌, not, List, [], ◌∷◌, Option, Some, None, length, take, map, filter, refl, sym, ap, subst, ◌∙◌}
 use Rattle.std.proofs.lemmas.Bool.{true≢false, cases_Bool, cond-true, cond-false, or_cases, or_left, or_right, and_parts, and_from, false_from_ne_true}
-use Rattle.std.proofs.lemmas.Cmp.{ranked, by_ranked, on_total, then_total, tied_itself}
+use Rattle.std.proofs.lemmas.Cmp.{on_total, then_total, tied_itself}
 use Rattle.std.proofs.lemmas.Map.Lookups.{exact_unsigned}
 use Rattle.std.proofs.lemmas.Map.Keys.{IsDistinct-cons}
 use Rattle.std.specs.BTreeMap.{is_at}
@@ -15,18 +15,19 @@ use Rattle.std.specs.BTreeSet.{BTreeSet, IsOrdered, keys_between}
 use Rattle.std.specs.Cmp.{IsTotalOrder, nat_cmp_total}
 use Rattle.std.specs.List.{IsDistinct, AllByRecursion, list_any}
 use Rattle.std.specs.List.Sorted.{IsStrictlySortedBy}
-use Rattle.std.specs.Ordering.{nat_cmp, eq_by_cmp, ordering_then, ordering_reverse, is_eq, is_lt, is_le}
+use Rattle.std.specs.Ordering.{nat_cmp, eq_by_cmp, ordering_then, is_eq, is_lt, is_le}
 use Rattle.std.specs.declared.cmp.Ordering.{Ordering}
 use Rattle.std.specs.declared.cmp.Ordering.TheVariants.{Less, Equal, Greater}
 use Rattle.std.specs.declared.ops.Bound.TheVariants.{Included}
 use Rattle.tk_handle.specs.declared.dot.Dot.{Dot}
 use Rattle.tk_handle.specs.declared.kind.Kind.TheVariants as kind
 use Rattle.tk_handle.specs.declared.token_id.TokenId.{TokenId}
-use Rattle.tk_handle.specs.Dot.{IsDot, dot_cmp, dot_cmp_total}
+use Rattle.tk_handle.specs.Dot.{IsDot, dot_cmp, dot_cmp_total, least_dot, greatest_dot}
 use Rattle.tk_handle.specs.Kind.{kind_number}
 use Rattle.tk_handle.specs.TokenId.{token_cmp}
+use Rattle.tk_handle.proofs.SpanLaws.{not_past, between, from_first, to_last}
 use Rattle.tk_family.specs.declared.children.Child.{Child}
-use Rattle.tk_family.specs.Children.{child_cmp, child_key, is_child, least_dot, greatest_dot, Others, others_in, users_in, first_user, token_at, IsSame, TakesUser, Promotes}
+use Rattle.tk_family.specs.Children.{child_cmp, child_key, is_child, Others, others_in, users_in, first_user, token_at, IsSame, TakesUser, Promotes}
 use Rattle.tk_family.specs.Dots.{dot_eq, has}
 use Rattle.tk_family.proofs.DotLaws.{dot_eq-true, dot_eq-same, has-cons, has-here, has-there}
 use Rattle.tk_family.proofs.Viewing.{exact_tokens}
@@ -97,41 +98,6 @@ span_is s k a b first last =
 
 abbrev in_range : TokenId → Child → Bool
 in_range k e = range_contains child_cmp (Included (child_key k least_dot)) (Included (child_key k greatest_dot)) e
-
-number_le : (a b : ℕ) → a ≤ b → (nat_cmp a b ≡ Less) ⊎ (nat_cmp a b ≡ Equal)
-number_le a b le = by_ranked (a < b) (a ≡ b) (b < a) (nat_cmp a b) (ranked a b (nat_cmp a b) refl) (λ o _. inl o) (λ o _. inr o) (λ _ h. absurd (apart a b le h))
-  where
-    apart : (a b : ℕ) → a ≤ b → ¬ (b < a)
-    apart a b le h = omega arith
-
-dot_le : (a b : Dot) → a.region ≤ b.region → a.serial ≤ b.serial → is_le (dot_cmp a b) ≡ true
-dot_le a b r s = elim (number_le a.region b.region r) [
-  | inl less ↦ ap (λ o. is_le (ordering_then o (nat_cmp a.serial b.serial))) less
-  | inr same ↦ ap (λ o. is_le (ordering_then o (nat_cmp a.serial b.serial))) same ∙ elim (number_le a.serial b.serial s) [
-    | inl less ↦ ap is_le less
-    | inr equal ↦ ap is_le equal
-  ]
-]
-
-not_past : (o : Ordering) → is_le o ≡ true → not (is_lt (ordering_reverse o)) ≡ true
-not_past Less h = refl
-not_past Equal h = refl
-not_past Greater h = h
-
--- what is not below the first and not above the last of two that begin alike begins so, too
-between : (o r t : Ordering) → is_le (ordering_then o r) ≡ true → not (is_lt (ordering_then o t)) ≡ true → o ≡ Equal
-between Less r t h i = absurd (true≢false (sym i))
-between Equal r t h i = refl
-between Greater r t h i = absurd (true≢false (sym h))
-
-from_first : (q : Dot) → IsDot q → is_le (dot_cmp least_dot q) ≡ true
-from_first q h = dot_le least_dot q (some h.0.0) (some h.1.0)
-  where
-    some : {n : ℕ} → 0 < n → 1 ≤ n
-    some h = h
-
-to_last : (q : Dot) → IsDot q → is_le (dot_cmp q greatest_dot) ≡ true
-to_last q h = dot_le q greatest_dot h.0.1 h.1.1
 
 -- each dot in range has its entry in the span
 in_span : (k : TokenId) (q : Dot) → IsDot q → in_range k (child_key k q) ≡ true

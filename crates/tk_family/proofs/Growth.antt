@@ -7,12 +7,13 @@ use Rattle.tk_handle.specs.declared.dot.Dot.{Dot}
 use Rattle.tk_handle.specs.declared.kind.Kind.{Kind}
 use Rattle.tk_handle.specs.declared.kind.Kind.TheVariants as kind
 use Rattle.tk_handle.specs.declared.token_id.TokenId.{TokenId}
+use Rattle.tk_handle.specs.Kind.{is_code, is_refresh}
 use Rattle.tk_family.specs.Laws.{passing}
 use Rattle.tk_family.specs.declared.link.Link.{Link}
 use Rattle.tk_family.specs.declared.link.Link.TheVariants.{Code, Redeems, Rotates}
 use Rattle.tk_family.specs.Dots.{dot_eq, has}
 use Rattle.tk_family.specs.Families.{Links, used_by, grant_at, use_of, IsParent, IsPath, IsUnder, IsTwice, IsBad, IsDead, LinksWithin, IsUsed}
-use Rattle.tk_family.specs.Uses.{is_code, is_refresh, uses_it}
+use Rattle.tk_family.specs.Uses.{uses_it}
 use Rattle.tk_family.specs.Counts.{IsCounted}
 use Rattle.tk_family.specs.Rows.{Rows, code_in, dead_in, used_in, again_in, bad_at, bad_in, blamed_in, links_of, marks_of}
 use Rattle.tk_family.specs.Kept.{IsForest}

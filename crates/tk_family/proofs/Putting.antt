@@ -7,6 +7,7 @@ use Rattle.tk_handle.specs.declared.dot.Dot.{Dot}
 use Rattle.tk_handle.specs.declared.kind.Kind.{Kind}
 use Rattle.tk_handle.specs.declared.kind.Kind.TheVariants as kind
 use Rattle.tk_handle.specs.declared.token_id.TokenId.{TokenId}
+use Rattle.tk_handle.specs.Kind.{is_code, is_refresh}
 use Rattle.tk_family.specs.declared.link.Link.{Link}
 use Rattle.tk_family.specs.declared.link.Link.TheVariants.{Code, Redeems, Rotates}
 use Rattle.tk_family.specs.declared.row.Row.{Row}
@@ -16,7 +17,7 @@ use Rattle.tk_family.specs.declared.row.Uses.{Uses}
 use Rattle.tk_family.specs.declared.row.Uses.TheVariants.{Never, Once, Often}
 use Rattle.tk_family.specs.Counts.{IsCount, IsCounted, IsCountedAs, AlikeButCount}
 use Rattle.tk_family.specs.Rows.{is_some_use, is_often, Rows, link_in, code_in, count_in, first_in, marked_in, used_in, again_in, bad_in, blamed_in, links_of}
-use Rattle.tk_family.specs.Uses.{uses_it, is_code, is_refresh}
+use Rattle.tk_family.specs.Uses.{uses_it}
 use Rattle.tk_family.specs.Children.{token_at}
 use Rattle.tk_family.specs.Kept.{has_dot}
 use Rattle.tk_family.specs.Puts.{Hung, first_after}

@@ -11,6 +11,7 @@ use Rattle.tk_handle.specs.declared.dot.Dot.{Dot}
 use Rattle.tk_handle.specs.declared.kind.Kind.{Kind}
 use Rattle.tk_handle.specs.declared.kind.Kind.TheVariants as kind
 use Rattle.tk_handle.specs.declared.token_id.TokenId.{TokenId}
+use Rattle.tk_handle.specs.Kind.{is_code, is_refresh}
 use Rattle.tk_family.specs.declared.children.Child.{Child}
 use Rattle.tk_family.specs.declared.link.Link.{Link}
 use Rattle.tk_family.specs.declared.link.Link.TheVariants.{Code}
@@ -22,7 +23,7 @@ use Rattle.tk_family.specs.Families.{Links, IsUsed, IsTwice, LinksWithin}
 use Rattle.tk_family.specs.Kept.{has_dot, Hangs, IsForest}
 use Rattle.tk_family.specs.Rows.{Rows, link_in, code_in, count_in, first_in, marked_in, used_in, again_in, is_some_use, is_often, links_of, named_of}
 use Rattle.tk_family.specs.Takes.{without, with_first, HasUses, first_uses, counted}
-use Rattle.tk_family.specs.Uses.{is_code, is_refresh, uses_by}
+use Rattle.tk_family.specs.Uses.{uses_by}
 use Rattle.tk_family.specs.Writes.{as_uses, with_users}
 use Rattle.tk_family.proofs.DotLaws.{dot_eq-same, dot_eq-true, cases_dots, has-cons, has-here, list_none}
 use Rattle.tk_family.proofs.Adding.{Adds, Within-adds}

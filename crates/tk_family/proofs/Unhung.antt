@@ -6,6 +6,7 @@ use Rattle.std.specs.BTreeSet.{BTreeSet}
 use Rattle.tk_handle.specs.declared.dot.Dot.{Dot}
 use Rattle.tk_handle.specs.declared.kind.Kind.{Kind}
 use Rattle.tk_handle.specs.declared.token_id.TokenId.{TokenId}
+use Rattle.tk_handle.specs.Kind.{is_code, is_refresh}
 use Rattle.tk_family.specs.declared.children.Child.{Child}
 use Rattle.tk_family.specs.declared.link.Link.{Link}
 use Rattle.tk_family.specs.declared.link.Link.TheVariants.{Code, Redeems, Rotates}
@@ -15,7 +16,7 @@ use Rattle.tk_family.specs.Dots.{dot_eq}
 use Rattle.tk_family.specs.Families.{Links, use_of, IsUsed, IsTwice, LinksWithin}
 use Rattle.tk_family.specs.Rows.{Rows, link_in, code_in, count_in, first_in, marked_in, used_in, again_in, is_some_use, is_often, links_of, firsts_of}
 use Rattle.tk_family.specs.Takes.{without, with_first, HasUses, KeptBut, counted}
-use Rattle.tk_family.specs.Uses.{is_code, is_refresh, uses_by}
+use Rattle.tk_family.specs.Uses.{uses_by}
 use Rattle.tk_family.specs.Writes.{with_users}
 use Rattle.tk_family.proofs.DotLaws.{dot_eq-same, dot_eq-apart, dot_eq-true}
 use Rattle.tk_family.proofs.Adding.{Adds, Within-adds}

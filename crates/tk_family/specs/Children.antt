@@ -1,7 +1,6 @@
 -- The children of dots beside the first of each, in a set (own).
 --   child_cmp, child_key      the entries of children, and their order
 --   is_child                  two children are equal
---   least_dot, greatest_dot   the least and the greatest dot
 --   Others, others_in         which children are in the set, by the token that the child uses
 --   users_in, first_user      the children that use a token
 --   token_at                  a token by its dot and kind
@@ -18,9 +17,8 @@ use Rattle.tk_handle.specs.declared.dot.Dot.{Dot}
 use Rattle.tk_handle.specs.declared.kind.Kind.{Kind}
 use Rattle.tk_handle.specs.declared.kind.Kind.TheVariants as kind
 use Rattle.tk_handle.specs.declared.token_id.TokenId.{TokenId}
-use Rattle.tk_handle.specs.Dot.{dot_cmp}
+use Rattle.tk_handle.specs.Dot.{dot_cmp, least_dot, greatest_dot}
 use Rattle.tk_handle.specs.Kind.{kind_number}
-use Rattle.tk_handle.specs.Ranges.{greatest_region, greatest_serial}
 use Rattle.tk_family.specs.declared.children.Child.{Child}
 
 -- the order of children: by parent, then by the kind of the token that is used, then by child
@@ -36,14 +34,6 @@ child_key k e = record { parent = k.dot; kind = kind_number k.kind; child = e }
 -- the child c that uses t is the child e that uses k
 abbrev pub is_child : TokenId → Dot → TokenId → Dot → Bool
 is_child t c k e = eq_by_cmp child_cmp (child_key t c) (child_key k e)
-
--- the least dot
-abbrev pub least_dot : Dot
-least_dot = record { region = 1; serial = 1 }
-
--- the greatest dot
-abbrev pub greatest_dot : Dot
-greatest_dot = record { region = greatest_region; serial = greatest_serial }
 
 -- whether a child that uses a token is in a set
 abbrev pub Others : Type 0

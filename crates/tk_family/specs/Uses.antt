@@ -1,26 +1,14 @@
 -- Whether a link uses a token (own).
---   is_code, is_refresh   the kinds of tokens that are used
 --   uses_it, uses_by      a link uses a token
 --   used_kind             the kind of the token that a link uses
 use Rattle.std.specs.Prelude.{Bool, true, false, ◌&&◌, Option, Some, None}
 use Rattle.tk_handle.specs.declared.kind.Kind.{Kind}
 use Rattle.tk_handle.specs.declared.kind.Kind.TheVariants as kind
+use Rattle.tk_handle.specs.Kind.{is_code, is_refresh}
 use Rattle.tk_handle.specs.declared.token_id.TokenId.{TokenId}
 use Rattle.tk_family.specs.declared.link.Link.{Link}
 use Rattle.tk_family.specs.declared.link.Link.TheVariants.{Code, Redeems, Rotates}
 use Rattle.tk_family.specs.Dots.{dot_eq}
-
--- the kind of a code
-abbrev pub is_code : Kind → Bool
-is_code kind.Code = true
-is_code kind.Access = false
-is_code kind.Refresh = false
-
--- the kind of a refresh token
-abbrev pub is_refresh : Kind → Bool
-is_refresh kind.Code = false
-is_refresh kind.Access = false
-is_refresh kind.Refresh = true
 
 -- the link uses the token
 abbrev pub uses_it : Link → TokenId → Bool

@@ -14,19 +14,19 @@ pub(crate) struct Child {
 
 ghost use Rattle.std.specs.Prelude.{◌≡◌, OnOk, OnErr, true, false, if◌then◌else◌, take, length};
 ghost use Rattle.std.specs.BTreeSet.{IsOrdered};
-ghost use Rattle.tk_family.specs.Children.{child_cmp, child_key, least_dot, greatest_dot, is_child};
+ghost use Rattle.tk_family.specs.Children.{child_cmp, child_key, is_child};
 ghost use Rattle.tk_family.specs.Children.{others_in, users_in, first_user, TakesUser, Promotes};
 ghost use Rattle.tk_family.specs.Families.{used_by};
 ghost use Rattle.tk_family.specs.Uses.{used_kind};
 ghost use Rattle.tk_handle.specs.declared.dot.Dot.{Dot as the_dot};
 ghost use Rattle.tk_handle.specs.declared.token_id.TokenId.{TokenId as the_token};
-ghost use Rattle.tk_handle.specs.Dot.{IsDot};
+ghost use Rattle.tk_handle.specs.Dot.{IsDot, least_dot, greatest_dot};
 
 use crate::link::Link;
 use std::alloc::AllocError;
 use std::collections::BTreeSet;
 use std::ops::Bound;
-use tk_handle::{Kind, RegionNumber, Serial, TokenId};
+use tk_handle::{Kind, TokenId};
 
 /// Returns the token that a link uses, if the link uses one.
 pub(crate) fn used(link: &Link) -> Option<TokenId>
@@ -56,21 +56,6 @@ pub(crate) fn used_kind(link: &Link) -> Kind
     }
 }
 
-// Returns the least and the greatest dot.
-fn dot_range() -> (Dot, Dot)
-    ensures least { result.0 ≡ least_dot }
-    ensures greatest { result.1 ≡ greatest_dot }
-{
-    let (Some(first), Some(last)) = (RegionNumber::new(1), RegionNumber::new(u16::MAX)) else {
-        unreachable!()
-    };
-    let (Some(least), Some(greatest)) = (Dot::new(first, 1), Dot::new(last, Serial::GREATEST))
-    else {
-        unreachable!()
-    };
-    (least, greatest)
-}
-
 // Returns the entry of a child whose link uses a token.
 fn key(token: &TokenId, child: Dot) -> Child
     ensures { result ≡ child_key token.now child }
@@ -87,8 +72,7 @@ pub(crate) fn span(token: &TokenId) -> (Child, Child)
     ensures first { result.0 ≡ child_key token.now least_dot }
     ensures last { result.1 ≡ child_key token.now greatest_dot }
 {
-    let (least, greatest) = dot_range();
-    (key(token, least), key(token, greatest))
+    (key(token, Dot::least()), key(token, Dot::greatest()))
 }
 
 impl Child {

@@ -1,4 +1,15 @@
 //! Families, kept so that look-ups are fast.
+//!
+//! A forest has a row for each dot. `IsForest` of `specs/Kept.antt` states what the rows keep:
+//!
+//! - each dot under a code has the name of that code;
+//! - each code has the number of the bad dots of its family. A dot is bad if its code or refresh
+//!   token is marked, or used twice. The family is dead if the number is not 0;
+//! - each token has the number of links that use it: none, one, or more.
+//!
+//! The dots whose links name a dot hang below that dot, whether or not they fit, also if it has no
+//! link yet. One of them is in the row of that dot. The others are in a set beside the rows: an
+//! entry for each further use of a token. `Hangs` of `specs/Kept.antt` states what both keep.
 
 ghost use Rattle.tk_handle.specs.declared.dot.Dot.{Dot as the_dot};
 ghost use Rattle.tk_handle.specs.declared.token_id.TokenId.{TokenId as the_token};

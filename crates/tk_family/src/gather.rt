@@ -1,8 +1,8 @@
 //! Gathering all that hangs below a dot, in a list that is its own queue.
 
 ghost use Rattle.std.specs.FinMap as map;
-ghost use Rattle.std.specs.Prelude.{◌≡◌, ◌<◌, ◌≤◌, ◌++◌, ◌∷◌, [], None, true, OnOk, OnErr, IfOk};
-ghost use Rattle.std.specs.Prelude.{IsSome, if◌then◌else◌, length, vec_capacity};
+ghost use Rattle.std.specs.Prelude.{◌≡◌, ◌<◌, ◌≤◌, ◌++◌, ◌∷◌, [], None, OnOk, OnErr, IfOk};
+ghost use Rattle.std.specs.Prelude.{IsSome, if◌then◌else◌, vec_capacity};
 ghost use Rattle.tk_family.specs.declared.link.Link.{Link as the_link};
 ghost use Rattle.tk_family.specs.Kept.{IsHung};
 ghost use Rattle.tk_family.specs.Puts.{fits_at, with_link, IsFull, Pushes, Gathers};

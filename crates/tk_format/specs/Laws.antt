@@ -1,17 +1,94 @@
 -- The law of each way to make a format: a value that is read is spelled by the bytes taken, and a
 -- spelling is read as its value. The laws that formats cite end in `_exact`.
-use Rattle.std.proofs.Common.{◌≡◌, ℕ, zero, suc, ◌^◌, ◌<◌, ◌≤◌, Bool, true, false, cond, eqb, ltb, nat_le, List, [], ◌∷◌, ◌++◌, length, take, drop, Option, Some, None, refl, sym, ap, subst, ◌∙◌, append_assoc, arith}
+use Rattle.std.proofs.Common.{
+  ◌≡◌,
+  ℕ,
+  zero,
+  suc,
+  ◌^◌,
+  ◌<◌,
+  ◌≤◌,
+  Bool,
+  true,
+  false,
+  cond,
+  eqb,
+  ltb,
+  nat_le,
+  List,
+  [],
+  ◌∷◌,
+  ◌++◌,
+  length,
+  take,
+  drop,
+  Option,
+  Some,
+  None,
+  refl,
+  sym,
+  ap,
+  subst,
+  ◌∙◌,
+  append_assoc,
+  arith,
+}
 use Rattle.std.specs.Int.{Width, w16, w64, byte_len, from_be_bytes, to_be_bytes}
 use Rattle.std.specs.List.{AllByRecursion, flat_map}
 use Rattle.std.specs.Str.{bytes_eq}
 use Rattle.std.proofs.lemmas.Bool.{eqb-true, le-ltb, ltb-false}
 use Rattle.std.proofs.lemmas.List.{drop_at, length-append, length-take, take-append-drop, take_at}
 use Rattle.std.proofs.lemmas.List.Concat.{flat_map-cons}
-use Rattle.std.proofs.lemmas.Nat.{be_bytes_2, be_bytes_8, from_be_bytes-to_be_bytes_2, from_be_bytes-to_be_bytes_8}
+use Rattle.std.proofs.lemmas.Nat.{
+  be_bytes_2,
+  be_bytes_8,
+  from_be_bytes-to_be_bytes_2,
+  from_be_bytes-to_be_bytes_8,
+}
 use Rattle.std.proofs.lemmas.Option.{cond_some}
 use Rattle.std.proofs.lemmas.Slice.Eq.{bytes_eq-Decides}
-use Rattle.tk_format.specs.Format.{◌>>=◌, Format, number_spelling, number_at, bytes_at, text_spelling, text_at, number, byte, byte_at_front, bytes_of, nothing, ◌⊗◌, text, only, shaped, read_many, counted, whole, sized, repeated, after, coded, choice, via, partly}
-use Rattle.tk_format.specs.Exact.{IsBytes, IsBytes-drop, IsBytes-take, IsExact, Takes, Takes-then, bind_some, chosen_some, guard_some, some_is, whole_again, whole_takes}
+use Rattle.tk_format.specs.Format.{
+  ◌>>=◌,
+  Format,
+  number_spelling,
+  number_at,
+  bytes_at,
+  text_spelling,
+  text_at,
+  number,
+  byte,
+  byte_at_front,
+  bytes_of,
+  nothing,
+  ◌⊗◌,
+  text,
+  only,
+  shaped,
+  read_many,
+  counted,
+  whole,
+  sized,
+  repeated,
+  after,
+  coded,
+  choice,
+  via,
+  partly,
+}
+use Rattle.tk_format.specs.Exact.{
+  IsBytes,
+  IsBytes-drop,
+  IsBytes-take,
+  IsExact,
+  Takes,
+  Takes-then,
+  bind_some,
+  chosen_some,
+  guard_some,
+  some_is,
+  whole_again,
+  whole_takes,
+}
 
 -- ---- numbers
 

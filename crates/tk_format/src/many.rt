@@ -1,6 +1,6 @@
 //! Reading several values of one type.
 
-ghost use Rattle.std.specs.Prelude.{◌≡◌, List, ℕ, Option};
+ghost use Rattle.std.specs.Prelude.{List, ℕ, Option};
 ghost use Rattle.tk_format.specs.Reading.{GetsBy, GetsManyBy};
 
 use crate::{ReadError, Reader};

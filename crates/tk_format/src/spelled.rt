@@ -1,6 +1,6 @@
 //! Reading a value that takes all of the bytes.
 
-ghost use Rattle.std.specs.Prelude.{◌≡◌, ◌≢◌, List, ℕ, IfOk, IsErrOf};
+ghost use Rattle.std.specs.Prelude.{◌≡◌, ◌≢◌, IfOk, IsErrOf};
 ghost use Rattle.tk_format.specs.Exact.{IsExact};
 ghost use Rattle.tk_format.specs.Format.{Format};
 ghost use Rattle.tk_format.specs.Reading.{Gets, GetsAll};

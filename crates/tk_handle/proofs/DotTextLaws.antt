@@ -2,7 +2,7 @@
 --   parted_back, parted_found   `parted_in` finds the dot of a text, and nothing in any other text
 --   reads_id                    a reader that agrees with `id_in` reads exactly the ids of dots
 --   parted_injective            two dots with one text are equal
-use Rattle.std.proofs.Common.{◌≡◌, ◌≢◌, ℕ, ◌+◌, ◌<◌, ◌≤◌, ◌^◌, true, false, ◌&&◌, ◌==◌, cond, List, [], ◌∷◌, ◌++◌, length, get_or, take, drop, Option, Some, None, IfSome, IfNone, MatchOption, suc, refl, sym, ap, subst, ◌∙◌, arith, decimal, inl, inr}
+use Rattle.std.proofs.Common.{◌≡◌, ◌≢◌, ℕ, ◌+◌, ◌<◌, ◌≤◌, ◌^◌, true, false, ◌&&◌, ◌==◌, cond, List, [], ◌∷◌, ◌++◌, length, get_or, take, drop, Option, Some, None, IfSome, IfNone, suc, refl, sym, ap, subst, ◌∙◌, arith, decimal, inl, inr}
 use Rattle.std.specs.Int.{IsInRange}
 use Rattle.std.specs.List.{position_or_len, before_first, after_first}
 use Rattle.std.proofs.lemmas.Bool.{cases_lt}

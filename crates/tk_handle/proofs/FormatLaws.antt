@@ -1,15 +1,12 @@
 -- The law of each format of this crate: a value that is read is spelled by the bytes taken, and a
 -- spelling is read as its value.
-use Rattle.std.proofs.Common.{◌≡◌, ℕ, true, eqb, cond, [], ◌∷◌, Some, None, refl, sym, arith}
-use Rattle.std.proofs.lemmas.Bool.Decides.{nat_tests}
+use Rattle.std.proofs.Common.{◌≡◌, ℕ, eqb, cond, [], ◌∷◌, Some, None, refl, sym}
 use Rattle.tk_format.specs.Exact.{IsExact, some_is}
 use Rattle.tk_format.specs.Laws.{u16_exact, u64_exact, both_exact, only_exact, shaped_exact, repeated_exact, after_exact, coded_exact, case_takes}
 use Rattle.tk_handle.specs.declared.kind.Kind.{Kind}
 use Rattle.tk_handle.specs.declared.kind.Kind.TheVariants.{Code, Access, Refresh}
-use Rattle.tk_handle.specs.declared.dot.Dot.{Dot}
-use Rattle.tk_handle.specs.Dot.{IsDot}
 use Rattle.tk_handle.specs.DotBytes.{dot_field}
-use Rattle.tk_handle.specs.Ranges.{IsRegion, IsSerial, is_region, is_serial, is_moment}
+use Rattle.tk_handle.specs.Ranges.{is_region, is_serial, is_moment}
 use Rattle.tk_handle.specs.Moment.{moment}
 use Rattle.tk_handle.specs.Kind.{kind_number, kind_of, kind}
 use Rattle.tk_handle.specs.TokenId.{token}

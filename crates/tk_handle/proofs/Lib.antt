@@ -2,3 +2,4 @@ pub mod DotTextLaws
 pub mod FormatLaws
 pub mod HandleLaws
 pub mod SortedEntriesLaws
+pub mod SpanLaws

@@ -2,6 +2,7 @@
 --   IsDot       a dot that a program can hold
 --   dot_cmp     the order of dots: by region, then by serial
 --   coded_dot   a dot as a pair of numbers
+--   least_dot, greatest_dot   the dots at both ends of the order
 use Rattle.std.specs.Prelude.{ℕ, refl}
 use Rattle.std.proofs.Common.{ap}
 use Rattle.std.specs.Ordering.{nat_cmp, ordering_then}
@@ -12,7 +13,7 @@ use Rattle.std.specs.FinMap.{IsAntisymmetric}
 use Rattle.std.proofs.lemmas.Cmp.{on_total, then_total}
 use Rattle.std.proofs.lemmas.Map.Lookups.{exact_pairs, exact_unsigned}
 use Rattle.tk_handle.specs.declared.dot.Dot.{Dot}
-use Rattle.tk_handle.specs.Ranges.{IsRegion, IsSerial}
+use Rattle.tk_handle.specs.Ranges.{IsRegion, IsSerial, greatest_region, greatest_serial}
 
 -- a dot that a program can hold: region and serial are in their ranges
 abbrev pub IsDot : Dot → Type 0
@@ -21,6 +22,14 @@ IsDot d = IsRegion d.region × IsSerial d.serial
 -- the order of dots: by region, then by serial
 abbrev pub dot_cmp : Dot → Dot → Ordering
 dot_cmp a b = ordering_then (nat_cmp a.region b.region) (nat_cmp a.serial b.serial)
+
+-- the least dot
+abbrev pub least_dot : Dot
+least_dot = record { region = 1; serial = 1 }
+
+-- the greatest dot
+abbrev pub greatest_dot : Dot
+greatest_dot = record { region = greatest_region; serial = greatest_serial }
 
 -- the code of a dot: a pair of numbers
 abbrev pub coded_dot : Coded Dot

@@ -27,6 +27,7 @@ impl Model for Dot {
 ghost use Rattle.std.specs.Prelude.{◌≡◌, ◌++◌, OnOk};
 ghost use Rattle.std.specs.Option.{SomeIff};
 ghost use Rattle.tk_format.specs.Reading.{Reads};
+ghost use Rattle.tk_handle.specs.Dot.{least_dot, greatest_dot};
 ghost use Rattle.tk_handle.specs.Ranges.{IsRegion, IsSerial};
 
 use crate::region::RegionNumber;
@@ -49,6 +50,26 @@ impl Dot {
             region: region.number(),
             serial,
         })
+    }
+
+    /// Returns the least dot: serial 1 of region 1.
+    pub fn least() -> Dot
+        ensures { result ≡ least_dot }
+    {
+        Dot {
+            region: 1,
+            serial: 1,
+        }
+    }
+
+    /// Returns the greatest dot: the greatest serial of region 65,535.
+    pub fn greatest() -> Dot
+        ensures { result ≡ greatest_dot }
+    {
+        Dot {
+            region: u16::MAX,
+            serial: Serial::GREATEST,
+        }
     }
 
     /// Returns the region that made the fact.

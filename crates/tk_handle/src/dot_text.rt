@@ -2,7 +2,7 @@
 
 ghost use Rattle.std.specs.Prelude.{◌≡◌, ◌==◌, ◌<◌, IfSome, IfNone, Some, length, position};
 ghost use Rattle.std.specs.List.{before_first, after_first};
-ghost use Rattle.tk_handle.specs.DotText.{colon, dot_at, dot_text, parted_in, IsDotText};
+ghost use Rattle.tk_handle.specs.DotText.{dot_at, dot_text, parted_in, IsDotText};
 ghost use Rattle.tk_handle.specs.DotText.{IsNoDotText};
 
 use crate::dot::Dot;

@@ -19,7 +19,11 @@ use Rattle.tk_handle.specs.declared.kind.Kind.TheVariants.{Code, Access, Refresh
 use Rattle.tk_handle.specs.declared.token_id.TokenId.{TokenId}
 use Rattle.tk_match.specs.Challenge.{ChallengeFields}
 use Rattle.tk_fact.specs.declared.client_kind.ClientKind.{ClientKind}
-use Rattle.tk_fact.specs.declared.client_kind.ClientKind.TheVariants.{Public, Confidential, Resource}
+use Rattle.tk_fact.specs.declared.client_kind.ClientKind.TheVariants.{
+  Public,
+  Confidential,
+  Resource,
+}
 use Rattle.tk_fact.specs.declared.minted_token.MintedToken.{MintedToken}
 use Rattle.tk_fact.specs.declared.body.Body.{Body}
 use Rattle.tk_fact.specs.declared.body.Body.TheVariants as bodies

@@ -2,15 +2,14 @@
 
 ghost use Rattle.std.specs.Prelude.{◌≡◌, ◌++◌, ◌<◌, ◌^◌, OnOk};
 ghost use Rattle.tk_listing.specs.Calendar as spec;
-ghost use Rattle.tk_handle.specs.Ranges.{IsMoment};
 
 use std::alloc::AllocError;
 use tk_format::Writer;
 use tk_handle::Moment;
 
-/// A day of the Gregorian calendar.
+// A day of the Gregorian calendar.
 #[derive(Clone, Copy)]
-pub struct Date {
+pub(crate) struct Date {
     /// The year, from 1970 to 9999 for a moment.
     pub year: u64,
     /// The month, from 1.
@@ -19,8 +18,8 @@ pub struct Date {
     pub day: u64,
 }
 
-/// Returns the date of the day that begins that many days after 1970-01-01.
-pub fn date_of(days: u64) -> Date
+// Returns the date of the day that begins that many days after 1970-01-01.
+pub(crate) fn date_of(days: u64) -> Date
     requires { days < 2 ^ 40 }
     ensures { result ≡ spec.date_of days }
 {

@@ -38,9 +38,9 @@ fn put_item(writer: &mut Writer, horizon: &Option<Moment>, item: &Item) -> Resul
     }
 }
 
-/// Writes the line of a fact.
+// Writes the line of a fact.
 #[tactic(auto, unfolding(crate::specs::Lines::fact_line))]
-pub fn put_fact(writer: &mut Writer, dot: Dot, body: &Body) -> Result<(), AllocError>
+pub(crate) fn put_fact(writer: &mut Writer, dot: Dot, body: &Body) -> Result<(), AllocError>
     ensures { OnOk result (writer.new ≡ writer.old ++ spec.fact_line dot body.now) }
 {
     begin(writer, dot, kind_name(body))?;
@@ -99,8 +99,8 @@ fn put_horizon(writer: &mut Writer, horizon: &Option<Moment>) -> Result<(), Allo
     }
 }
 
-/// Writes the lines of a vector's entries, ascending by region.
-pub fn put_vector(writer: &mut Writer, vector: &VersionVector) -> Result<(), AllocError>
+// Writes the lines of a vector's entries, ascending by region.
+pub(crate) fn put_vector(writer: &mut Writer, vector: &VersionVector) -> Result<(), AllocError>
     ensures { OnOk result (writer.new ≡ writer.old ++ spec.vector_lines vector.now) }
 {
     put_regions(writer, vector)

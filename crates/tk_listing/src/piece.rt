@@ -1,7 +1,6 @@
 //! A bundle or a vector at the front of bytes.
 
 ghost use Rattle.std.specs.Prelude.{◌≡◌, ◌≤◌, false, length, true};
-ghost use Rattle.tk_vector.specs.VectorBytes.{magic};
 ghost use Rattle.tk_listing.specs.Pieces as spec;
 ghost use Rattle.tk_listing.specs.Pieces.{ReadsPiece};
 
@@ -13,25 +12,25 @@ use tk_vector::VersionVector;
 // The bytes that begin a vector.
 const MAGIC: &[u8] = b"OTV1";
 
-/// What stands one behind the other in an input.
+// What stands one behind the other in an input.
 #[derive(Drop)]
-pub enum Piece {
+pub(crate) enum Piece {
     /// A bundle.
     Bundle(Bundle),
     /// A version vector.
     Vector(VersionVector),
 }
 
-/// Reads the bundle or the vector at the front of the bytes, and returns it with the number of
-/// bytes that it takes.
-///
-/// Bytes that begin as a vector does are read as a vector, all others as a bundle.
-///
-/// # Errors
-///
-/// `Cut` if the bytes end before the bundle or the vector does. `Malformed` if neither is at the
-/// front. `Memory` if memory runs out.
-pub fn read_piece(alloc: Global, bytes: &[u8]) -> Result<(Piece, usize), FrontError>
+// Reads the bundle or the vector at the front of the bytes, and returns it with the number of
+// bytes that it takes.
+//
+// Bytes that begin as a vector does are read as a vector, all others as a bundle.
+//
+// # Errors
+//
+// `Cut` if the bytes end before the bundle or the vector does. `Malformed` if neither is at the
+// front. `Memory` if memory runs out.
+pub(crate) fn read_piece(alloc: Global, bytes: &[u8]) -> Result<(Piece, usize), FrontError>
     ensures { ReadsPiece bytes.now result }
 {
     if is_vector(bytes) {

@@ -12,7 +12,7 @@ use std::alloc::{AllocError, Global};
 use std::io::{Read, Write};
 use tk_bundle::FrontError;
 use tk_format::Writer;
-use tk_put::put_all;
+use tk_put::{put_all, rest_of};
 
 // How many bytes of an input are read at once, at most.
 const READ_AT_ONCE: usize = 65_536;
@@ -175,15 +175,6 @@ fn print_pieces<O: Write>(alloc: Global, bytes: &[u8], output: &mut O) -> (usize
         }
     }
     (used, End::More)
-}
-
-// Returns the bytes behind the first `used` ones.
-#[tactic(auto, using(std::proofs::lemmas::List::take_rest))]
-fn rest_of(bytes: &[u8], used: usize) -> &[u8]
-    requires { used ≤ length bytes.now }
-    ensures { result.now ≡ drop used bytes.now }
-{
-    &bytes[used..]
 }
 
 // Prints the first bundle or vector of the bytes.

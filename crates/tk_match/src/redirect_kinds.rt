@@ -12,7 +12,7 @@ pub struct RedirectKinds {
     pub app: bool,
 }
 
-ghost use Rattle.std.specs.Prelude.{◌≡◌, ◌==◌, IfOk, OnOk, None, false, true};
+ghost use Rattle.std.specs.Prelude.{◌≡◌, ◌==◌, IfOk, None, false, true};
 ghost use Rattle.std.specs.List.{list_all, list_any};
 ghost use Rattle.std.specs.Option.{option_copied};
 ghost use Rattle.url.specs.Parser.{parse_url};

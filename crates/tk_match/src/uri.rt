@@ -57,7 +57,8 @@ impl Uri {
     /// out. No other error is returned.
     pub fn read(alloc: Global, text: &[u8]) -> Result<Uri, RedirectError>
         ensures ok { IfOk result (λ uri. (uri ≡ text.now) × IsTrue (is_uri text.now)) }
-        ensures err { IfErr result (λ e. (e ≡ RedirectError.Malformed) ⊎ (e ≡ RedirectError.Memory)) }
+        ensures err { IfErr result (λ e.
+            (e ≡ RedirectError.Malformed) ⊎ (e ≡ RedirectError.Memory)) }
         ensures bad { IsErrOf result RedirectError.Malformed → is_uri text.now ≡ false }
     {
         if !is_uri(text) {
@@ -88,7 +89,8 @@ impl Uri {
     // A URL that is too long for `url` is refused with `Memory`.
     pub(crate) fn check_absolute(&self, alloc: Global) -> Result<(), RedirectError>
         ensures ok { OnOk result (is_absolute self.now ≡ true) }
-        ensures err { IfErr result (λ e. (e ≡ RedirectError.Malformed) ⊎ (e ≡ RedirectError.Memory)) }
+        ensures err { IfErr result (λ e.
+            (e ≡ RedirectError.Malformed) ⊎ (e ≡ RedirectError.Memory)) }
         ensures bad { IsErrOf result RedirectError.Malformed → is_absolute self.now ≡ false }
         ensures refused { IsErrOf result RedirectError.Malformed → Refuses self.now }
     {

@@ -1,8 +1,8 @@
 //! Writes pieces to an output: `put_all`. A failed output has the beginning of the pieces.
 
-ghost use Rattle.std.specs.Prelude.{◌≡◌, ◌≤◌, drop, length};
 ghost use Rattle.tk_put.specs.Put.{Prints, joined_text};
 
+use crate::rest::rest_of;
 use std::io::{self, ErrorKind, Write};
 
 /// Writes the pieces in order, in as many calls as the output needs.
@@ -48,13 +48,4 @@ fn put<O: Write>(output: &mut O, bytes: &[u8]) -> io::Result<()>
         }
     }
     Err(io::Error::from(ErrorKind::Other))
-}
-
-// Returns the bytes after the first `written` ones.
-#[tactic(auto, using(std::proofs::lemmas::List::take_rest))]
-fn rest_of(bytes: &[u8], written: usize) -> &[u8]
-    requires { written ≤ length bytes.now }
-    ensures { result.now ≡ drop written bytes.now }
-{
-    &bytes[written..]
 }

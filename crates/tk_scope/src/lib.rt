@@ -7,8 +7,8 @@
 //! In reading order:
 //!
 //! - [`ScopeError`], why a text is refused, in the order of the tests;
-//! - [`Scope`], with `read`, `within`, `text`, `copy` and `same`, limited to [`MAX_BYTES`] and
-//!   [`MAX_TOKENS`].
+//! - [`Scope`], with `read`, `within`, `text`, `copy` and `same`, limited to [`MAX_BYTES`] and 32
+//!   tokens.
 //!
 //! Contracts see a `Scope` as the bytes of its printed form. Therefore equal sets are equal values.
 //! `specs/Scope.antt` defines what the contracts cite.
@@ -21,4 +21,4 @@ mod scope;
 mod tokens;
 
 pub use error::ScopeError;
-pub use scope::{MAX_BYTES, MAX_TOKENS, Scope};
+pub use scope::{MAX_BYTES, Scope};

@@ -38,9 +38,9 @@ use std::alloc::{AllocError, Global};
 /// The greatest length in bytes of a scope as it is written. This limit is our own.
 pub const MAX_BYTES: usize = 1024;
 
-/// The greatest number of tokens of a scope as it is written, counting repeated ones. This limit is
-/// our own.
-pub const MAX_TOKENS: usize = 32;
+// The greatest number of tokens of a scope as it is written, counting repeated ones. This limit is
+// our own.
+const MAX_TOKENS: usize = 32;
 
 impl Scope {
     /// Reads a scope from a text.

@@ -78,6 +78,7 @@ abbrev body_slot : Option Body → Slot
 body_slot (Some b) = Held b
 body_slot None = Skipped
 
+-- nothing of a slot is lost by `slot_body`
 pub slot_again : (s : Slot) → body_slot (slot_body s) ≡ s
 slot_again (Held b) = refl
 slot_again Skipped = refl

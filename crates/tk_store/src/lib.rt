@@ -1,25 +1,21 @@
 //! Facts by their dots, no two at one dot, and the dots at which facts were skipped.
 //!
 //! A `FactStore` holds the facts of one region. What it knows of a dot is a slot: a fact that is
-//! held, or the mark that one was skipped.
+//! held, or the mark that one was skipped. What facts mean for tokens is for the crates above.
 //!
 //! - `add` joins one fact to the store or refuses it, and `take_back` undoes an addition.
-//! - `skip` drops a fact and keeps its dot known. `skipped` and `slot` look a dot up.
-//! - `horizon` returns the moment up to which families that are over may be skipped, and
-//!   `raise_horizon` raises it.
-//! - `get` looks a fact up. `next_after` and `facts` walk the facts in the order of the dots,
-//!   without making a list of them.
-//! - `vector` returns the front of the store.
-//! - `since` returns the first dots, above a cursor, that a version vector does not cover.
-//! - `next_dot` returns the dot of a region's next fact.
-//! - `agrees` returns whether two stores can be joined, and `Join` joins them.
-//!
-//! Only `facts`, `agrees` and the methods of `Join` walk over all slots.
+//! - `skip` drops a fact and keeps its dot known. `skipped`, `slot` and `get` look a dot up.
+//! - `horizon` returns the moment up to which families that are over may be skipped.
+//! - `next_after` and `facts` walk the facts in the order of the dots, without a list of them.
+//! - `vector` returns the front of the store. `since` returns the first dots, above a cursor, that
+//!   a version vector doesn't cover. `next_dot` returns the dot of a region's next fact.
+//! - `agrees` returns whether two stores can be joined, and `Join` joins them. These and `facts`
+//!   walk over all slots, nothing else does.
 //!
 //! Contracts see a store as a finite map from dots to slots, and a horizon. The store keeps a map
 //! by dot (`table`) and the front (`advance`); the crates above see neither. The definitions are in
-//! `specs/`: `FactSet` and `Slots` first, then `StoreFields`, `Adding`, `Skipping`, `SlotOrder`,
-//! `Walk`, `Beyond`, `Front`, `Paging`.
+//! `specs/`: `FactSet`, `Slots`, `StoreFields`, `Adding`, `Skipping`, then those of walks and
+//! pages.
 #![tactic(auto)]
 
 mod advance;

@@ -3,7 +3,7 @@
 //!
 //! A turn holds replies back until the log has kept the records behind them. If the log fails, no
 //! reply of that turn is sent. A request that isn't whole yet changes nothing. A turn decides at
-//! most [`MAX_REQUESTS`] requests of each connection, so no client keeps the others out.
+//! most `MAX_REQUESTS` requests of each connection, so no client keeps the others out.
 //!
 //! - `service`: `Service`, what decides requests. It is a trait, so that this crate stands on no
 //!   region.
@@ -26,6 +26,5 @@ mod turn;
 
 pub use link::{Link, send};
 pub use log::{Log, LogFailed};
-pub use requests::MAX_REQUESTS;
 pub use service::{Outcome, Service};
 pub use turn::take_turn;

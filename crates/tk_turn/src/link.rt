@@ -212,8 +212,8 @@ impl Link {
         &self.output[self.sent..self.ready]
     }
 
-    /// Notes that the first `count` bytes of those that may be sent were sent.
-    pub fn note_sent(&mut self, count: usize)
+    // Notes that the first `count` bytes of those that may be sent were sent.
+    pub(crate) fn note_sent(&mut self, count: usize)
         requires { count ≤ length self.old.ready }
         ensures { self.new ≡ with_ready self.old (drop count self.old.ready) }
     {

@@ -1,13 +1,14 @@
 //! The requests of one connection: `decide_all`.
 
-ghost use Rattle.std.specs.Prelude.{◌≡◌, ◌++◌, ◌≤◌, ◌<◌, ℕ, List, length, drop};
+ghost use Rattle.std.specs.Prelude.{◌≡◌, ◌++◌, ◌≤◌, ◌<◌, length, drop};
 ghost use Rattle.tk_turn.specs.Requests.{AreRequests, Requests};
 
 use crate::service::{Outcome, Service};
+use tk_put::rest_of;
 
-/// How many requests of a connection one turn decides at most. With the number of connections that
-/// a turn has, this bounds the turn: a client that sends many requests at once keeps nobody out.
-pub const MAX_REQUESTS: usize = 16;
+// How many requests of a connection one turn decides at most. With the number of connections that
+// a turn has, this bounds the turn: a client that sends many requests at once keeps nobody out.
+pub(crate) const MAX_REQUESTS: usize = 16;
 
 // How far the requests of a connection went.
 #[derive(Clone, Copy)]
@@ -48,13 +49,4 @@ pub(crate) fn decide_all<S: Service>(
             };
         }
     }
-}
-
-// Returns the bytes from a place on.
-#[tactic(auto, using(std::proofs::lemmas::List::take_rest))]
-fn rest_of(bytes: &[u8], at: usize) -> &[u8]
-    requires { at ≤ length bytes.now }
-    ensures { result.now ≡ drop at bytes.now }
-{
-    &bytes[at..]
 }

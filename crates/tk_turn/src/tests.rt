@@ -4,7 +4,8 @@ ghost use Rattle.std.specs.Prelude.{◌≡◌, ◌++◌, ◌<◌, ◌≤◌, ◌
 ghost use Rattle.tk_turn.specs.Outcomes.{goes_on, taken_of};
 ghost use Rattle.tk_turn.specs.Turns.{AreWithin};
 
-use crate::{Link, Log, LogFailed, MAX_REQUESTS, Outcome, Service, send, take_turn};
+use crate::requests::MAX_REQUESTS;
+use crate::{Link, Log, LogFailed, Outcome, Service, send, take_turn};
 use std::alloc::{AllocError, Global};
 use std::test::Fail;
 

@@ -2,7 +2,7 @@
 //!
 //! A region sends its vector to request the facts that it lacks. It has the facts that the vector
 //! covers: those whose serial is at most the entry of their region. A region without an entry
-//! counts as 0.
+//! counts as 0. A vector says nothing of facts above a gap, and nothing of what the facts are.
 //!
 //! Contracts see a `VersionVector` as a finite map from region numbers to serials. The definitions
 //! are in `specs/`:

@@ -1,6 +1,6 @@
 //! The text of a version vector.
 
-ghost use Rattle.std.specs.Prelude.{◌≡◌, IfOk, IsErrOf, OnOk};
+ghost use Rattle.std.specs.Prelude.{◌≡◌, IfOk, IsErrOf};
 ghost use Rattle.tk_vector.specs.VectorText.{AreNoDots, IsDotsText, IsNoVectorText, IsVectorText};
 ghost use Rattle.tk_vector.specs.VectorText.{vector_of};
 

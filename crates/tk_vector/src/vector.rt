@@ -31,7 +31,7 @@ ghost use Rattle.std.specs.Ordering.{nat_cmp};
 ghost use Rattle.std.specs.FinMap as map;
 ghost use Rattle.tk_handle.specs.Ranges.{greatest_serial};
 ghost use Rattle.tk_handle.specs.SortedEntries.{IsAt, IsGap};
-ghost use Rattle.tk_vector.specs.Join.{IsJoin, JoinLaws};
+ghost use Rattle.tk_vector.specs.Join.{JoinLaws};
 ghost use Rattle.tk_vector.specs.VectorOrder.{Below, AllAtMost, RaisedBy};
 ghost use Rattle.tk_vector.specs.VersionVector.{entry, raised, lowered, Covers};
 
