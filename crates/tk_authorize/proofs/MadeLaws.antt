@@ -2,7 +2,7 @@
 --   authorizes_alone    authorisation requests
 --   administers_alone   administration requests
 use Rattle.std.proofs.Common.{◌≡◌, ℕ, true, false, List, codes, Option, None, IfSome, refl}
-use Rattle.tk_fact.specs.Tokens.{uses_of}
+use Rattle.tk_fact.specs.Keeping.{names_of}
 use Rattle.tk_store.specs.FactSet.{FactSet}
 use Rattle.tk_params.specs.Params.{value_of}
 use Rattle.tk_message.specs.RequestFields.{RequestFields}
@@ -18,16 +18,16 @@ use Rattle.tk_authorize.specs.declared.administered.Administered.TheVariants as 
 use Rattle.tk_authorize.specs.declared.judged.Judged.{Judged}
 use Rattle.tk_authorize.specs.declared.judged.Judged.TheVariants as judged
 
--- a decision makes no fact that uses a token
+-- a decision makes no fact that names a token's dot
 abbrev MakesAlone : Decision → Type 0
-MakesAlone d = IfSome d.made (λ b. uses_of b ≡ None)
+MakesAlone d = IfSome d.made (λ b. names_of b ≡ None)
 
 decides_alone : (place : Place) (now : ℕ) (words : List ℕ) (sent : Option (List ℕ)) (j : Judged) → MakesAlone (decided_by place now words sent j)
 decides_alone place now words sent (judged.Refused why) = tt
 decides_alone place now words sent (judged.Denied target why) = tt
 decides_alone place now words sent (judged.Approved target approval) = refl
 
-pub authorizes_alone : (F : FactSet) (place : Place) (now : ℕ) (words : List ℕ) (request : RequestFields) → IfSome (authorization_of F place now words request).made (λ b. uses_of b ≡ None)
+pub authorizes_alone : (F : FactSet) (place : Place) (now : ℕ) (words : List ℕ) (request : RequestFields) → IfSome (authorization_of F place now words request).made (λ b. names_of b ≡ None)
 authorizes_alone F place now words request = decides_alone place now words (kept_state (value_of (codes "state") request.params)) (judged_of F place.choices.challenge request.params request.subject)
 
 carried_out_alone : (place : Place) (a : Administered) → MakesAlone (administered_by place a)
@@ -43,5 +43,5 @@ carried_out_alone place (administered.Withdraws consent false) = tt
 carried_out_alone place (administered.AlreadyOut subject) = tt
 carried_out_alone place (administered.SignsOut sign_out) = refl
 
-pub administers_alone : (F : FactSet) (place : Place) (now : ℕ) (request : RequestFields) → IfSome (administration_of F place now request).made (λ b. uses_of b ≡ None)
+pub administers_alone : (F : FactSet) (place : Place) (now : ℕ) (request : RequestFields) → IfSome (administration_of F place now request).made (λ b. names_of b ≡ None)
 administers_alone F place now request = carried_out_alone place (chosen F place.choices (administered_of F now request))

@@ -1,6 +1,6 @@
 -- The URI that the reply to an authorisation request leads to. Key result:
 --   decision_leads   the reply leads to a URI that matches one of the client's, or to no URI
-use Rattle.std.proofs.Common.{◌≡◌, ℕ, Bool, true, false, if◌then◌else◌, List, codes, Option, Some, None, Ok, Err, IfOk, refl, ap, sym, subst}
+use Rattle.std.proofs.Common.{◌≡◌, ℕ, Bool, true, false, if◌then◌else◌, List, [], ◌∷◌, codes, Option, Some, None, Ok, Err, IfOk, refl, ap, sym, subst}
 use Rattle.std.specs.Option.{option_and_then}
 use Rattle.std.specs.Prelude.{Result}
 use Rattle.tk_handle.specs.declared.dot.Dot.{Dot}
@@ -73,7 +73,8 @@ by_duplicate F rules params subject false = by_id F rules params subject _ refl
 
 -- a redirect leads to the URI that it is made of
 redirect_leads : (F : FactSet) (params : Pairs) (uri name value : List ℕ) (state : Option (List ℕ)) → IsRegistered F params uri → LeadsToClient F params (redirect_reply uri name value state)
-redirect_leads F params uri name value state known = record { uri = uri; known = known; pairs = with_state name value state; location_is = refl }
+redirect_leads F params uri name value None known = record { uri = uri; known = known; first = (name, value); others = []; location_is = refl }
+redirect_leads F params uri name value (Some state) known = record { uri = uri; known = known; first = (name, value); others = (codes "state", state) ∷ []; location_is = refl }
 
 -- the reply leads to the URI that the judgement leads to
 decided_leads : (F : FactSet) (params : Pairs) (place : Place) (now : ℕ) (words : List ℕ) (state : Option (List ℕ)) (judged : Judged) → LeadsTo F params judged → LeadsToClient F params (decided_by place now words state judged).reply

@@ -36,7 +36,11 @@ use Rattle.tk_handle.specs.ConsentId.{consent_in}
 use Rattle.tk_match.specs.Redirects.{client_refusal}
 use Rattle.tk_scope.specs.Scope.{scope_of}
 use Rattle.tk_fact.specs.declared.client_kind.ClientKind.{ClientKind}
-use Rattle.tk_fact.specs.declared.client_kind.ClientKind.TheVariants.{Public, Confidential, Resource}
+use Rattle.tk_fact.specs.declared.client_kind.ClientKind.TheVariants.{
+  Public,
+  Confidential,
+  Resource,
+}
 use Rattle.tk_fact.specs.Subject.{is_visible, is_subject}
 use Rattle.tk_store.specs.FactSet.{FactSet}
 use Rattle.tk_ledger.specs.SignOuts.{is_signed_out}
@@ -137,7 +141,8 @@ registered_with client_kind (Some scope) redirects =
 -- the judgement of a new client by its kind and secret
 abbrev pub registered_as : Result ClientKind AdminRefusal → List ℕ → List ℕ → Administered
 registered_as (Err why) scope redirects = Refused why
-registered_as (Ok client_kind) scope redirects = registered_with client_kind (scope_of scope) redirects
+registered_as (Ok client_kind) scope redirects =
+    registered_with client_kind (scope_of scope) redirects
 
 -- the judgement of a new client by its parameters: kind, scope and redirection URIs are required
 abbrev pub registered_by : Option (List ℕ) → Option (List ℕ) → Option (List ℕ) → Option (List ℕ)
@@ -185,7 +190,12 @@ client_named params =
 abbrev pub shown_at : Dot → Option ClientFields → Administered
 shown_at d None = Refused UnknownClient
 shown_at d (Some client) =
-    Shows (record { client = d; client_kind = client.client_kind; live = client.live; scope = client.scope })
+    Shows (record {
+      client = d;
+      client_kind = client.client_kind;
+      live = client.live;
+      scope = client.scope;
+    })
 
 -- the judgement that shows the client of an id
 abbrev pub shown_by : FactSet → Result Dot AdminRefusal → Administered

@@ -2,7 +2,7 @@
 -- 10.15; RFC 8252, 7.3).
 --   IsMeant          a URI is the one that was sent, or the only one of the client
 --   IsRegistered     a URI matches a registered one of the live client that the parameters name
---   IsAtRegistered   a location is such a URI with parameters in its query
+--   IsAtRegistered   a location is such a URI with parameters in its query, one at least
 --   LeadsToClient    a reply leads to such a URI or to no URI
 use Rattle.std.specs.Prelude.{◌≡◌, ◌⊎◌, ℕ, true, List, [], ◌∷◌, codes, Option, Some, None}
 use Rattle.std.specs.Prelude.{IfSome, Any}
@@ -35,12 +35,13 @@ pub record IsRegistered (F : FactSet) (params : Pairs) (uri : List ℕ) : Type 0
   pub meant : IsMeant (value_of (codes "redirect_uri") params) view.redirects uri
   pub registered : Any (λ registered. Matches registered uri) view.redirects
 
--- the location is such a URI with parameters in its query (RFC 6749, 4.1.2 and 4.1.2.1)
+-- the location is such a URI with one parameter or more in its query (RFC 6749, 4.1.2 and 4.1.2.1)
 pub record IsAtRegistered (F : FactSet) (params : Pairs) (location : List ℕ) : Type 0 where
   pub uri : List ℕ
   pub known : IsRegistered F params uri
-  pub pairs : Pairs
-  pub location_is : location ≡ reply_of uri pairs
+  pub first : List ℕ × List ℕ
+  pub others : Pairs
+  pub location_is : location ≡ reply_of uri (first ∷ others)
 
 -- the reply leads to a URI that matches a registered one of the client that the parameters name, or
 -- to no URI (RFC 6749, 3.1.2.4 and 10.15)

@@ -147,7 +147,8 @@ fn decide_withdrawn(alloc: Global, consent: Dot, live: bool) -> Result<Decision,
 
 // Names a subject that is signed out already, without a fact.
 fn decide_already_out(alloc: Global, subject: &Subject) -> Result<Decision, AllocError>
-    ensures { IfOk result (λ d. d ≡ answered (json_reply StatusCode.Ok (subject_body subject.now))) }
+    ensures { IfOk result (λ d. d
+        ≡ answered (json_reply StatusCode.Ok (subject_body subject.now))) }
 {
     let reply = Told::Subject(subject).reply(alloc)?;
     Ok(Decision::answer(reply))

@@ -1,8 +1,7 @@
 //! Judgements of requests that give or withdraw a consent (RFC 6749, 4.1).
 
-ghost use Rattle.std.specs.Prelude.{◌≡◌, IfOk, Some, IsTrue};
+ghost use Rattle.std.specs.Prelude.{◌≡◌, IfOk, Some};
 ghost use Rattle.std.specs.Option.{option_copied};
-ghost use Rattle.tk_fact.specs.Subject.{is_subject};
 ghost use Rattle.tk_store.specs.StoreFields.{held_facts};
 ghost use Rattle.tk_params.specs.Params.{has_twice};
 ghost use Rattle.tk_authorize.specs.Administered as spec;

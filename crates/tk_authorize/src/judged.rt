@@ -3,7 +3,6 @@
 
 ghost use Rattle.std.specs.Prelude.{◌≡◌, IfOk, Some, true};
 ghost use Rattle.std.specs.Option.{option_copied};
-ghost use Rattle.std.specs.Str.{IsUtf8};
 ghost use Rattle.tk_match.specs.Redirects.{is_uri};
 ghost use Rattle.tk_params.specs.Params.{has_twice};
 ghost use Rattle.tk_store.specs.StoreFields.{held_facts};

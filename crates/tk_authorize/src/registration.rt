@@ -1,6 +1,6 @@
 //! Judgements of requests that add a client (RFC 6749, 2).
 
-ghost use Rattle.std.specs.Prelude.{◌≡◌, IfOk, OnOk, Ok as Found, Some, map, codes};
+ghost use Rattle.std.specs.Prelude.{◌≡◌, IfOk, Ok as Found, Some, map};
 ghost use Rattle.std.specs.List.{list_all, slice_split};
 ghost use Rattle.std.specs.Option.{option_copied};
 ghost use Rattle.tk_fact.specs.Subject.{is_visible};
@@ -152,7 +152,8 @@ fn register_as(
     scope: &str,
     redirects: &str,
 ) -> Result<Administered, AllocError>
-    ensures value { IfOk result (λ a. a ≡ spec.registered_as (Found client_kind) scope.now redirects.now) }
+    ensures value { IfOk result (λ a. a
+        ≡ spec.registered_as (Found client_kind) scope.now redirects.now) }
     ensures sound { IfOk result IsSoundAdministered }
 {
     match Scope::read(alloc, scope.as_bytes()) {
@@ -171,7 +172,8 @@ fn register_with(
     scope: Scope,
     redirects: &str,
 ) -> Result<Administered, AllocError>
-    ensures value { IfOk result (λ a. a ≡ spec.registered_with client_kind (Some scope) redirects.now) }
+    ensures value { IfOk result (λ a. a
+        ≡ spec.registered_with client_kind (Some scope) redirects.now) }
     ensures sound { IfOk result IsSoundAdministered }
 {
     match split_redirects(alloc, redirects) {

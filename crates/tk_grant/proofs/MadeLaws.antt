@@ -1,7 +1,7 @@
 -- The tokens that the token endpoint mints end with their family, and it uses what was minted. Key
 -- result:
 --   grants_within   the decisions
-use Rattle.std.proofs.Common.{◌≡◌, ◌≢◌, ℕ, ◌≤◌, ◌==◌, nat_le, Bool, true, false, not, cond, List, codes, Option, None, Some, IfSome, refl, sym, ap, subst, ◌∙◌, arith}
+use Rattle.std.proofs.Common.{◌≡◌, ◌≢◌, ℕ, ◌≤◌, ◌==◌, ◌+◌, nat_le, Bool, true, false, not, cond, List, codes, Option, None, Some, IfSome, refl, sym, ap, subst, ◌∙◌, arith}
 use Rattle.std.proofs.lemmas.Bool.{true≢false}
 use Rattle.std.proofs.lemmas.Bool.Decides.{nat_tests}
 use Rattle.std.specs.FinMap as map
@@ -14,16 +14,22 @@ use Rattle.tk_handle.specs.declared.handle.Handle.{Handle}
 use Rattle.tk_handle.specs.declared.kind.Kind.{Kind}
 use Rattle.tk_handle.specs.declared.kind.Kind.TheVariants as kind
 use Rattle.tk_handle.specs.declared.token_id.TokenId.{TokenId}
-use Rattle.tk_family.specs.Families.{IsUnder}
+use Rattle.tk_family.specs.declared.link.Link.{Link}
+use Rattle.tk_family.specs.declared.link.Link.TheVariants.{Redeems, Rotates}
+use Rattle.tk_family.specs.Families.{IsUnder, fits}
 use Rattle.tk_fact.specs.Check.{max_generations}
+use Rattle.tk_fact.specs.Tokens.{MintedFields, minted_of}
+use Rattle.tk_fact.specs.declared.body.Body.{Body}
+use Rattle.tk_fact.specs.declared.body.Body.TheVariants as body
 use Rattle.tk_store.specs.FactSet.{FactSet}
 use Rattle.tk_store.specs.Slots.{is_skipped}
 use Rattle.tk_store.specs.StoreFields.{StoreFields, held_facts}
+use Rattle.std.specs.Option.{option_and_then}
 use Rattle.tk_store.proofs.PutLaws.{none_is_not_some}
 use Rattle.tk_ledger.specs.Bodies.{is_same_dot}
 use Rattle.tk_ledger.specs.StandingFields.{StandingFields}
-use Rattle.tk_ledger.specs.Status.{status_here, status_in}
-use Rattle.tk_ledger.specs.Tokens.{links_in, issued_at, minted_in}
+use Rattle.tk_ledger.specs.Status.{generation_of, status_here, status_in}
+use Rattle.tk_ledger.specs.Tokens.{link_of, links_in, issued_at, minted_in}
 use Rattle.tk_ledger.specs.declared.status.State.{State}
 use Rattle.tk_ledger.specs.declared.status.State.TheVariants as state
 use Rattle.tk_ledger.specs.declared.status.Status.{Status}
@@ -42,7 +48,7 @@ use Rattle.tk_grant.specs.Granted.{earlier, ends_at, granted_by, grant_of}
 use Rattle.tk_grant.specs.Judged.{judged_by_type, judged_by_caller, judged_of, known_names}
 use Rattle.tk_grant.specs.Redeemed.{meets_challenge, names_uri, redeemed_of}
 use Rattle.tk_grant.specs.Rotated.{rotated_by, rotated_of}
-use Rattle.tk_grant.specs.Within.{IsCodeOf, IsWithin}
+use Rattle.tk_grant.specs.Within.{IsCodeOf, IsRotatable, IsWithin}
 use Rattle.tk_grant.specs.declared.gate.Gate.{Gate}
 use Rattle.tk_grant.specs.declared.gate.Gate.TheVariants.{Shut, Reuse, Open}
 use Rattle.tk_grant.specs.declared.judged.Judged.{Judged}
@@ -56,10 +62,11 @@ record IsOpenFor (F : FactSet) (id : TokenId) (s : StandingFields) : Type 0 wher
   minted : minted_in (map.get F) id ≢ None
   under : IsUnder (links_in (map.get F)) id.dot s.code
   issued : IsCodeOf F s.code s.family_end
+  rotates : id.kind ≡ kind.Refresh → IsRotatable F id.dot (s.generation + 1)
 
 abbrev OpensFor : FactSet → Gate → Type 0
 OpensFor F (Shut why) = Unit {0}
-OpensFor F (Reuse id) = Unit {0}
+OpensFor F (Reuse id) = minted_in (map.get F) id ≢ None
 OpensFor F (Open id s) = IsOpenFor F id s
 
 kind_is : (a b : Kind) → kind_number a == kind_number b ≡ true → a ≡ b
@@ -86,12 +93,28 @@ known_is P now h s = by (is_skipped P.slots h.id.dot)
     by true e = absurd (no_wrong e)
     by false e = e
 
+-- what minted a refresh token is the parent of a rotation of the next generation
+rotatable : (b : Body) (m : MintedFields) (d : Dot) → minted_of b kind.Refresh ≡ Some m → (above : Link) × (link_of b ≡ Some above) × (fits (Rotates d (generation_of b + 1)) above ≡ true)
+rotatable (body.CodeRedeemed f) m d h = (Redeems f.code, refl, refl)
+rotatable (body.RefreshRotated f) m d h = (Rotates f.parent f.generation, refl, same_number (f.generation + 1))
+  where
+    same_number : (n : ℕ) → n == n ≡ true
+    same_number n = grind (arith, nat_tests)
+rotatable b m d h = absurd (none_is_not_some m h)
+
 open_for : (P : StoreFields) (now : ℕ) (h : Handle) (k : Kind) (s : StandingFields) → h.id.kind ≡ k → status_here P now h ≡ Known s → IsOpenFor (held_facts P) (record { dot = h.id.dot; kind = k }) s
 open_for P now h k s same e =
     let x : Knows (held_facts P) now h s = known_parts (held_facts P) now h s (known_is P now h s e) in
     record {
       minted = some_known (minted_in (map.get (held_facts P)) (record { dot = h.id.dot; kind = k })) x.minted (ap (λ (y : Kind). minted_in (map.get (held_facts P)) (record { dot = h.id.dot; kind = y })) (sym same) ∙ x.mints);
       under = subst (IsUnder (links_in (map.get (held_facts P))) h.id.dot) (ap (λ (y : StandingFields). y.code) x.standing) x.under;
+      rotates = λ is.
+          let made = ap (option_and_then (λ (b : Body). minted_of b h.id.kind)) (sym x.here) ∙ x.mints in
+          let above = rotatable x.body x.minted h.id.dot (ap (minted_of x.body) (sym is ∙ sym same) ∙ made) in (
+            above.0,
+            ap (option_and_then link_of) x.here ∙ above.1,
+            ap (λ n. fits (Rotates h.id.dot (n + 1)) above.0) (sym (ap (λ (y : StandingFields). y.generation) x.standing)) ∙ above.2,
+          );
       issued = (x.root.issued, ap (issued_at (map.get (held_facts P))) (sym (ap (λ (y : StandingFields). y.code) x.standing)) ∙ x.issues, sym (ap (λ (y : StandingFields). y.family_end) x.standing));
     }
 
@@ -100,7 +123,7 @@ module _ (F : FactSet) (id : TokenId) (client : Dot) where
   by_state s state.Dead o = tt
   by_state s state.Withdrawn o = tt
   by_state s state.Over o = tt
-  by_state s state.Used o = tt
+  by_state s state.Used o = o.minted
   by_state s state.Past o = tt
   by_state s state.Ended o = tt
   by_state s state.Live o = o
@@ -141,10 +164,10 @@ module _ (P : StoreFields) (now : ℕ) where
 -- what is granted is of a code that was issued, or of a minted refresh token
 abbrev IsGrantFor : FactSet → Judged → Type 0
 IsGrantFor F (judged.Refused why) = Unit {0}
-IsGrantFor F (judged.Reused id) = Unit {0}
+IsGrantFor F (judged.Reused id) = minted_in (map.get F) id ≢ None
 IsGrantFor F (judged.Redeems grant) = IsCodeOf F grant.from grant.family_end
 IsGrantFor F (judged.Rotates generation grant) =
-    (minted_in (map.get F) (record { dot = grant.from; kind = kind.Refresh }) ≢ None) × (c : Dot) × IsUnder (links_in (map.get F)) grant.from c × IsCodeOf F c grant.family_end
+    IsRotatable F grant.from generation × (c : Dot) × IsUnder (links_in (map.get F)) grant.from c × IsCodeOf F c grant.family_end
 
 module _ (F : FactSet) where
   either : (t : Bool) (a b : Judged) → IsGrantFor F a → IsGrantFor F b → IsGrantFor F (cond t a b)
@@ -153,7 +176,7 @@ module _ (F : FactSet) where
 
   redeems : (params : Pairs) (g : Gate) → OpensFor F g → IsGrantFor F (redeemed_of params g)
   redeems params (Shut why) o = tt
-  redeems params (Reuse id) o = tt
+  redeems params (Reuse id) o = o
   redeems params (Open id s) o =
       either (not (names_uri s.issued.sent s.issued.uri (value_of (codes "redirect_uri") params))) (judged.Refused refusal.WrongRedirect) _ tt
       (either (not (meets_challenge s.issued.challenge (value_of (codes "code_verifier") params))) (judged.Refused refusal.WrongVerifier) _ tt o.issued)
@@ -161,7 +184,7 @@ module _ (F : FactSet) where
   rotates_by : (id : TokenId) (s : StandingFields) (scope : Option (List ℕ)) → id.kind ≡ kind.Refresh → IsOpenFor F id s → IsGrantFor F (rotated_by id.dot s scope)
   rotates_by id s None k o = tt
   rotates_by id s (Some scope) k o = (
-    subst (λ (y : Kind). minted_in (map.get F) (record { dot = id.dot; kind = y }) ≢ None) k o.minted,
+    o.rotates k,
     s.code,
     o.under,
     o.issued,
@@ -174,7 +197,7 @@ module _ (F : FactSet) where
 
   rotates : (params : Pairs) (g : Gate) → IsOfKind kind.Refresh g → OpensFor F g → IsGrantFor F (rotated_of params g)
   rotates params (Shut why) k o = tt
-  rotates params (Reuse id) k o = tt
+  rotates params (Reuse id) k o = o
   rotates params (Open id s) k o =
       either (nat_le max_generations s.generation) (judged.Refused refusal.LastGeneration) _ tt
       (rotates_by id s (scope_asked s.scope (value_of (codes "scope") params)) k o)
@@ -239,7 +262,7 @@ cut now life moment = earlier_le (moment_plus now life) moment
 
 granted_within : (F : FactSet) (place : Place) (now : ℕ) (words : List ℕ) (j : Judged) → IsGrantFor F j → MakesWithin F (granted_by place now words j)
 granted_within F place now words (judged.Refused why) g = tt
-granted_within F place now words (judged.Reused id) g = tt
+granted_within F place now words (judged.Reused id) g = g
 granted_within F place now words (judged.Redeems grant) g = (grant.family_end, g, cut now place.lives.access grant.family_end, cut now place.lives.refresh grant.family_end)
 granted_within F place now words (judged.Rotates generation grant) g =
     (g.0, g.1, g.2, grant.family_end, g.3, cut now place.lives.access grant.family_end, cut now place.lives.refresh grant.family_end)

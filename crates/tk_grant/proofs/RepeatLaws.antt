@@ -15,7 +15,7 @@ use Rattle.tk_store.specs.FactSet.{FactSet}
 use Rattle.tk_store.specs.StoreFields.{held_facts}
 use Rattle.tk_store.proofs.PutLaws.{none_is_not_some, some_injective}
 use Rattle.tk_ledger.specs.StandingFields.{StandingFields}
-use Rattle.tk_ledger.specs.Status.{status_here}
+use Rattle.tk_ledger.specs.Status.{status_here, is_live}
 use Rattle.tk_ledger.specs.declared.status.Status.{Status}
 use Rattle.tk_ledger.specs.declared.status.Status.TheVariants.{Unseen, Wrong, Broken, Known}
 use Rattle.tk_ledger.proofs.HereLaws.{here_known}
@@ -28,7 +28,7 @@ use Rattle.tk_message.specs.ReplyFields.{ReplyFields}
 use Rattle.tk_message.specs.declared.status_code.StatusCode.TheVariants.{Ok}
 use Rattle.tk_grant.specs.Granted.{access_handle, access_token, granted_by, refresh_handle}
 use Rattle.tk_grant.specs.Laws.{RepeatsReply}
-use Rattle.tk_grant.specs.Repeat.{has_same, have_same, is_live, live_as, live_in, repeat_by}
+use Rattle.tk_grant.specs.Repeat.{has_same, have_same, live_as, live_in, repeat_by}
 
 -- comparing each borrowed name is comparing their texts
 pub same_among : (names : List (Bor (List ℕ))) (a b : Pairs) → list_all (λ name. has_same name.now a b) names ≡ have_same (map (λ x. x.now) names) a b

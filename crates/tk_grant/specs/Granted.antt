@@ -2,6 +2,7 @@
 --   ends_at         a token's expiry: its life after the moment, cut at the family's end
 --   access_token    the access token that a fact mints
 --   refresh_token   the refresh token that a fact mints
+--   redemption, rotation   the fact that is made of a grant
 --   granted_by      the decision by a judgement
 --   grant_of        the decision of a request
 use Rattle.std.specs.Prelude.{ℕ, ◌-◌, nat_le, List, [], ◌∷◌, Some, slice_index, if◌then◌else◌}
@@ -10,7 +11,9 @@ use Rattle.tk_handle.specs.declared.kind.Kind.TheVariants as kind
 use Rattle.tk_handle.specs.declared.handle.Handle.{Handle}
 use Rattle.tk_handle.specs.Moment.{moment_plus}
 use Rattle.tk_fact.specs.declared.body.Body.TheVariants.{CodeRedeemed, RefreshRotated, ReuseSeen}
+use Rattle.tk_fact.specs.declared.code_redeemed.CodeRedeemed as redeemed
 use Rattle.tk_fact.specs.declared.minted_token.MintedToken.{MintedToken}
+use Rattle.tk_fact.specs.declared.refresh_rotated.RefreshRotated as rotated
 use Rattle.tk_store.specs.StoreFields.{StoreFields}
 use Rattle.tk_ledger.specs.Status.{digest_of}
 use Rattle.tk_message.specs.declared.decision.Decision.{Decision}
@@ -74,6 +77,25 @@ granted_reply place now words grant = json_reply Ok
     (ends_at now place.lives.access grant.family_end - now)
     (refresh_handle (next_in place) words) grant.access)
 
+-- the redemption of a code: both tokens start at the moment (RFC 6749, 4.1.3)
+abbrev pub redemption : Place → ℕ → List ℕ → Grant → redeemed.CodeRedeemed
+redemption place now words grant = record {
+  code = grant.from;
+  start = now;
+  access = access_token place now words grant;
+  refresh = refresh_token place now words grant;
+}
+
+-- the rotation of a refresh token into a generation: both tokens start at the moment (RFC 6749, 6)
+abbrev pub rotation : Place → ℕ → List ℕ → ℕ → Grant → rotated.RefreshRotated
+rotation place now words generation grant = record {
+  parent = grant.from;
+  generation = generation;
+  start = now;
+  access = access_token place now words grant;
+  refresh = refresh_token place now words grant;
+}
+
 -- the decision by a judgement: an error (RFC 6749, 5.2); a reuse, which is an error and makes a
 -- fact (RFC 6749, 4.1.2 and 10.4); tokens for a code (RFC 6749, 4.1.4) or for a refresh token (RFC
 -- 6749, 6), with the fact that minted them
@@ -83,22 +105,11 @@ granted_by place now words (Reused id) =
     record { reply = error_reply InvalidGrant; made = Some (ReuseSeen (record { token = id })) }
 granted_by place now words (Redeems grant) = record {
   reply = granted_reply place now words grant;
-  made = Some (CodeRedeemed (record {
-    code = grant.from;
-    start = now;
-    access = access_token place now words grant;
-    refresh = refresh_token place now words grant;
-  }));
+  made = Some (CodeRedeemed (redemption place now words grant));
 }
 granted_by place now words (Rotates generation grant) = record {
   reply = granted_reply place now words grant;
-  made = Some (RefreshRotated (record {
-    parent = grant.from;
-    generation = generation;
-    start = now;
-    access = access_token place now words grant;
-    refresh = refresh_token place now words grant;
-  }));
+  made = Some (RefreshRotated (rotation place now words generation grant));
 }
 
 -- the decision of a token request

@@ -12,9 +12,7 @@ use Rattle.tk_handle.specs.declared.dot.Dot.{Dot}
 use Rattle.tk_handle.specs.declared.handle.Handle.{Handle}
 use Rattle.tk_store.specs.StoreFields.{StoreFields}
 use Rattle.tk_ledger.specs.StandingFields.{StandingFields}
-use Rattle.tk_ledger.specs.Status.{status_here}
-use Rattle.tk_ledger.specs.declared.status.State.{State}
-use Rattle.tk_ledger.specs.declared.status.State.TheVariants as state
+use Rattle.tk_ledger.specs.Status.{is_live, status_here}
 use Rattle.tk_ledger.specs.declared.status.Status.{Status}
 use Rattle.tk_ledger.specs.declared.status.Status.TheVariants.{Unseen, Wrong, Broken, Known}
 use Rattle.tk_params.specs.Params.{Pairs, has_twice, value_of}
@@ -28,6 +26,7 @@ use Rattle.tk_message.specs.declared.request.Endpoint.{Endpoint}
 use Rattle.tk_message.specs.declared.request.Endpoint.TheVariants as endpoint
 use Rattle.tk_message.specs.declared.status_code.StatusCode.TheVariants.{Ok}
 use Rattle.tk_grant.specs.Granted.{access_handle, ends_at, refresh_handle}
+use Rattle.tk_grant.specs.Judged.{known_names}
 use Rattle.tk_grant.specs.declared.judged.Grant.{Grant}
 
 -- the endpoint is that of tokens
@@ -59,24 +58,13 @@ has_same name earlier params = is_same (value_of name earlier) (value_of name pa
 abbrev pub have_same : List (List ℕ) → Pairs → Pairs → Bool
 have_same names earlier params = list_all (λ name. has_same name earlier params) names
 
--- the names of the parameters that the endpoint knows, that of the refresh token first
-abbrev pub names_compared : List (List ℕ)
-names_compared =
-    codes "refresh_token" ∷ codes "client_id" ∷ codes "client_secret" ∷ codes "grant_type"
-    ∷ codes "scope" ∷ codes "code" ∷ codes "redirect_uri" ∷ codes "code_verifier" ∷ []
-
 -- a request is an earlier one again: the parameters that the endpoint knows and the credentials of
 -- the header are the same, and none of these parameters occurs twice
 abbrev pub is_again : RequestFields → RequestFields → Bool
 is_again earlier request =
     is_same earlier.authorization request.authorization
-    && have_same names_compared earlier.params request.params
-    && not (has_twice names_compared request.params)
-
--- the state is that of a live token
-abbrev pub is_live : State → Bool
-is_live state.Live = true
-is_live x = false
+    && have_same known_names earlier.params request.params
+    && not (has_twice known_names request.params)
 
 -- the standing, if it is that of a live token
 abbrev pub live_as : StandingFields → Option StandingFields

@@ -28,7 +28,7 @@ pub(crate) enum Judged {
     Rotates(u16, Grant),
 }
 
-ghost use Rattle.std.specs.Prelude.{◌≡◌, IfOk};
+ghost use Rattle.std.specs.Prelude.{◌≡◌, IfOk, map};
 ghost use Rattle.std.specs.Option.{option_copied};
 ghost use Rattle.tk_store.specs.StoreFields.{held_facts};
 ghost use Rattle.tk_message.specs.Caller.{caller_of};
@@ -64,7 +64,14 @@ fn caller_here(alloc: Global, ledger: &Ledger, request: &Request) -> Result<Call
     ensures { IfOk result (λ caller. caller ≡ caller_of (held_facts ledger.now) spec.known_names
         request.now) }
 {
-    let names = [
+    find_caller(alloc, ledger, &known_names(), request)
+}
+
+// Returns the names of the parameters that the endpoint knows.
+pub(crate) fn known_names() -> [&'static str; 8]
+    ensures { map (λ name. name.now) result ≡ spec.known_names }
+{
+    [
         "grant_type",
         "code",
         "redirect_uri",
@@ -73,8 +80,7 @@ fn caller_here(alloc: Global, ledger: &Ledger, request: &Request) -> Result<Call
         "code_verifier",
         "refresh_token",
         "scope",
-    ];
-    find_caller(alloc, ledger, &names, request)
+    ]
 }
 
 // Judges a request by its sender.

@@ -3,15 +3,15 @@
 ghost use Rattle.std.specs.Prelude.{◌≡◌, IfOk, map};
 ghost use Rattle.std.specs.List.{list_all};
 ghost use Rattle.std.specs.Option.{option_copied, option_map};
-ghost use Rattle.tk_grant.specs.Judged.{known_names};
 ghost use Rattle.tk_grant.specs.Repeat as spec;
 ghost use Rattle.tk_ledger.specs.Status.{status_here};
 
 use crate::granted::{access_handle, refresh_handle};
+use crate::judged::known_names;
 use std::alloc::{AllocError, Global};
 use tk_family::Steps;
 use tk_handle::{Dot, Handle, Moment};
-use tk_ledger::{Ledger, Standing, State, Status};
+use tk_ledger::{Ledger, Standing, Status};
 use tk_message::{Endpoint, Params, Reply, Request, Told};
 
 /// Returns whether a request asks for new tokens by a refresh token (RFC 6749, 6).
@@ -45,16 +45,7 @@ fn has_refresh_type(grant_type: Option<&str>) -> bool
 pub fn is_again(earlier: &Request, request: &Request) -> bool
     ensures { result ≡ spec.is_again earlier.now request.now }
 {
-    let names = [
-        "refresh_token",
-        "client_id",
-        "client_secret",
-        "grant_type",
-        "scope",
-        "code",
-        "redirect_uri",
-        "code_verifier",
-    ];
+    let names = known_names();
     is_same(
         bytes_of(&earlier.authorization),
         bytes_of(&request.authorization),
@@ -164,16 +155,9 @@ fn live_in<'a>(status: Status<'a>) -> Option<Standing<'a>>
 fn live_as<'a>(standing: Standing<'a>) -> Option<Standing<'a>>
     ensures { result ≡ spec.live_as standing.entry }
 {
-    if is_live(standing.state) {
+    if standing.state.is_live() {
         Some(standing)
     } else {
         None
     }
-}
-
-// Returns whether the state is that of a live token.
-fn is_live(state: State) -> bool
-    ensures { result ≡ spec.is_live state }
-{
-    matches!(state, State::Live)
 }

@@ -1,1 +1,2 @@
+pub mod MemberLaws
 mod ReplyLaws

@@ -10,8 +10,7 @@
 --   standing_body   the body of an active token, by its standing
 --   inactive_body   a token that is not active (RFC 7662, 2.2)
 --   taken_body      {"took":N} (own)
---   IsWritable      a value that has one text: it holds no floating-point number
-use Rattle.std.specs.Prelude.{◌≡◌, ℕ, Bool, true, false, List, codes}
+use Rattle.std.specs.Prelude.{ℕ, Bool, true, false, List, codes}
 use Rattle.serde_json.specs.Data.{
   Data,
   string,
@@ -22,19 +21,18 @@ use Rattle.serde_json.specs.Data.{
   member,
   no_members,
 }
-use Rattle.serde_json.specs.Written.{has_float}
 use Rattle.tk_handle.specs.declared.dot.Dot.{Dot}
 use Rattle.tk_handle.specs.ClientId.{client_text}
 use Rattle.tk_handle.specs.ConsentId.{consent_text}
 use Rattle.tk_handle.specs.declared.handle.Handle.{Handle}
 use Rattle.tk_handle.specs.Handle.{handle_text}
 use Rattle.tk_fact.specs.declared.client_kind.ClientKind.{ClientKind}
-use Rattle.tk_fact.specs.declared.client_kind.ClientKind.TheVariants.{Public, Confidential, Resource}
+use Rattle.tk_fact.specs.declared.client_kind.ClientKind.TheVariants.{
+  Public,
+  Confidential,
+  Resource,
+}
 use Rattle.tk_ledger.specs.StandingFields.{StandingFields}
-
--- the value has one text: it holds no floating-point number
-abbrev pub IsWritable : Data → Type 0
-IsWritable body = has_float body ≡ false
 
 -- the body of an error
 abbrev pub error_body : List ℕ → Data

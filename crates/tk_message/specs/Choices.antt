@@ -37,16 +37,19 @@ profile_choices = record {
 
 -- ---- codes
 
+-- who may revoke an unseen token, as a value that has a code
 abbrev pub unseen_code : UnseenRevocation → Option Bool
 unseen_code Any = None
 unseen_code Authenticated = Some true
 unseen_code Nobody = Some false
 
+-- the inverse of `unseen_code`
 abbrev pub unseen_coded : Option Bool → UnseenRevocation
 unseen_coded None = Any
 unseen_coded (Some true) = Authenticated
 unseen_coded (Some false) = Nobody
 
+-- nothing is lost by `unseen_code`
 pub unseen_again : (x : UnseenRevocation) → unseen_coded (unseen_code x) ≡ x
 unseen_again Any = refl
 unseen_again Authenticated = refl
@@ -57,14 +60,17 @@ abbrev pub coded_unseen : Coded UnseenRevocation
 coded_unseen =
     code_by (Option Bool) (coded_option coded_bool) unseen_code unseen_coded unseen_again
 
+-- what is done with a consent that is given again, as a truth value: it is held
 abbrev pub consent_code : ConsentReuse → Bool
 consent_code New = false
 consent_code Held = true
 
+-- the inverse of `consent_code`
 abbrev pub consent_coded : Bool → ConsentReuse
 consent_coded false = New
 consent_coded true = Held
 
+-- nothing is lost by `consent_code`
 pub consent_again : (x : ConsentReuse) → consent_coded (consent_code x) ≡ x
 consent_again New = refl
 consent_again Held = refl
@@ -80,14 +86,17 @@ coded_kinds =
     (λ k. (k.https, (k.loopback, k.app)))
     (λ p. record { https = p.0; loopback = p.1.0; app = p.1.1 }) (λ _. refl)
 
+-- who sees refresh tokens, as a truth value: their client alone
 abbrev pub refresh_seen_code : RefreshSeen → Bool
 refresh_seen_code ByAll = false
 refresh_seen_code ByClient = true
 
+-- the inverse of `refresh_seen_code`
 abbrev pub refresh_seen_coded : Bool → RefreshSeen
 refresh_seen_coded false = ByAll
 refresh_seen_coded true = ByClient
 
+-- nothing is lost by `refresh_seen_code`
 pub refresh_seen_again : (x : RefreshSeen) → refresh_seen_coded (refresh_seen_code x) ≡ x
 refresh_seen_again ByAll = refl
 refresh_seen_again ByClient = refl

@@ -1,87 +1,77 @@
-//! The JSON bodies of replies, as values.
+//! The JSON bodies of replies, as texts.
 
-ghost use Rattle.std.specs.Prelude.{◌≡◌, IfOk, codes, true};
+ghost use Rattle.std.specs.Prelude.{◌≡◌, ◌∷◌, ◌++◌, [], IfOk, OnOk, codes, decimal, true};
+ghost use Rattle.json.specs.Token.{begin_object, key, string};
+ghost use Rattle.json.specs.Token.{number as a_number, boolean as a_flag};
 ghost use Rattle.serde_json.specs.Data.{
-  string,
+  string as text_value,
   boolean,
   number,
   unsigned,
   object,
   member,
   no_members,
-  put as with_member,
 };
-ghost use Rattle.serde_json.specs.View.{view, members_view};
+ghost use Rattle.serde_json.specs.Written.{compact_text};
+ghost use Rattle.tk_handle.specs.ClientId.{client_text as client_name};
 ghost use Rattle.tk_message.specs.Bodies as spec;
 
-use crate::reply::handle_string;
-use serde_json::{Map, Value, put};
+use crate::object::{begin, end, put_flag, put_handle, put_number, put_text};
+use json::Writer;
 use std::alloc::{AllocError, Global};
 use tk_fact::ClientKind;
 use tk_handle::{Dot, Handle, client_text, consent_text};
 use tk_ledger::Standing;
 use tk_scope::Scope;
 
-// Returns an object of one member.
-pub(crate) fn one_member(alloc: Global, key: &str, value: Value) -> Result<Value, AllocError>
-    ensures { IfOk result (λ body. view body ≡ object (member key.now (view value) no_members)) }
-{
-    let members = with(alloc, Map::new(alloc), key, value)?;
-    Ok(Value::Object(members))
-}
+// How many bytes a body has at most beside the texts of a scope and a subject, unless it has
+// bytes that JSON escapes.
+const ROOM: usize = 224;
 
 // Returns an object of one member, a text.
-pub(crate) fn one_text(alloc: Global, key: &str, text: &str) -> Result<Value, AllocError>
-    ensures { IfOk result (λ body.
-        view body ≡ object (member key.now (string text.now) no_members)) }
+pub(crate) fn one_text(alloc: Global, name: &str, text: &str) -> Result<Vec<u8>, AllocError>
+    ensures { IfOk result (λ body. body.items
+        ≡ compact_text (object (member name.now (text_value text.now) no_members))) }
 {
-    let value = Value::try_from_str(alloc, text)?;
-    one_member(alloc, key, value)
+    let mut out = begin(alloc, ROOM)?;
+    put_text(&mut out, name, text)?;
+    end(out)
 }
 
-// Adds the value under the key to the members.
-fn with(
-    alloc: Global,
-    members: Map<String, Value>,
-    key: &str,
-    value: Value,
-) -> Result<Map<String, Value>, AllocError>
-    ensures { IfOk result (λ all. members_view all.entries ≡ with_member key.now (view value)
-        (members_view members.entries)) }
+// Returns an object of one member, a number.
+pub(crate) fn one_number(alloc: Global, name: &str, value: u64) -> Result<Vec<u8>, AllocError>
+    ensures { IfOk result (λ body. body.items
+        ≡ compact_text (object (member name.now (number (unsigned value)) no_members))) }
 {
-    let mut members = members;
-    put(&mut members, alloc, key, value)?;
-    Ok(members)
+    let mut out = begin(alloc, ROOM)?;
+    put_number(&mut out, name, value)?;
+    end(out)
 }
 
-// Adds the text under the key to the members.
-fn with_text(
-    alloc: Global,
-    members: Map<String, Value>,
-    key: &str,
-    text: &str,
-) -> Result<Map<String, Value>, AllocError>
-    ensures { IfOk result (λ all. members_view all.entries ≡ with_member key.now (string text.now)
-        (members_view members.entries)) }
+// Returns an object of one member, true or false.
+pub(crate) fn one_flag(alloc: Global, name: &str, flag: bool) -> Result<Vec<u8>, AllocError>
+    ensures { IfOk result (λ body. body.items
+        ≡ compact_text (object (member name.now (boolean flag) no_members))) }
 {
-    let value = Value::try_from_str(alloc, text)?;
-    with(alloc, members, key, value)
+    let mut out = begin(alloc, ROOM)?;
+    put_flag(&mut out, name, flag)?;
+    end(out)
 }
 
 // Returns the body with the id of the client that was added at the dot (own).
-pub(crate) fn client_body(alloc: Global, client: Dot) -> Result<Value, AllocError>
-    ensures { IfOk result (λ body. view body ≡ spec.client_body client) }
+pub(crate) fn client_body(alloc: Global, client: Dot) -> Result<Vec<u8>, AllocError>
+    ensures { IfOk result (λ body. body.items ≡ compact_text (spec.client_body client)) }
 {
     let id = client_text(alloc, client)?;
-    one_member(alloc, "client_id", Value::String(id))
+    one_text(alloc, "client_id", id.as_str())
 }
 
 // Returns the body with the id of the consent that was given at the dot (own).
-pub(crate) fn consent_body(alloc: Global, consent: Dot) -> Result<Value, AllocError>
-    ensures { IfOk result (λ body. view body ≡ spec.consent_body consent) }
+pub(crate) fn consent_body(alloc: Global, consent: Dot) -> Result<Vec<u8>, AllocError>
+    ensures { IfOk result (λ body. body.items ≡ compact_text (spec.consent_body consent)) }
 {
     let id = consent_text(alloc, consent)?;
-    one_member(alloc, "consent_id", Value::String(id))
+    one_text(alloc, "consent_id", id.as_str())
 }
 
 // Returns the body that shows the client that was added at the dot (own).
@@ -91,15 +81,18 @@ pub(crate) fn shown_body(
     client_kind: &ClientKind,
     live: bool,
     scope: &Scope,
-) -> Result<Value, AllocError>
-    ensures { IfOk result (λ body. view body ≡ spec.shown_body client client_kind.now live scope.now) }
+) -> Result<Vec<u8>, AllocError>
+    ensures { IfOk result (λ body. body.items
+        ≡ compact_text (spec.shown_body client client_kind.now live scope.now)) }
 {
     let id = client_text(alloc, client)?;
-    let members = with(alloc, Map::new(alloc), "client_id", Value::String(id))?;
-    let members = with_text(alloc, members, "kind", kind_name(client_kind))?;
-    let members = with(alloc, members, "live", Value::from(live))?;
-    let members = with_text(alloc, members, "scope", scope.text())?;
-    Ok(Value::Object(members))
+    let scope = scope.text();
+    let mut out = begin(alloc, scope.len().saturating_add(ROOM))?;
+    put_text(&mut out, "client_id", id.as_str())?;
+    put_text(&mut out, "kind", kind_name(client_kind))?;
+    put_flag(&mut out, "live", live)?;
+    put_text(&mut out, "scope", scope)?;
+    end(out)
 }
 
 // Returns the name of a client's kind.
@@ -121,57 +114,67 @@ pub(crate) fn token_body(
     lifetime: u64,
     refresh: &Handle,
     scope: &Scope,
-) -> Result<Value, AllocError>
-    ensures { IfOk result (λ body.
-        view body ≡ spec.token_body access.now lifetime refresh.now scope.now) }
+) -> Result<Vec<u8>, AllocError>
+    ensures { IfOk result (λ body. body.items
+        ≡ compact_text (spec.token_body access.now lifetime refresh.now scope.now)) }
 {
-    let access = handle_string(alloc, access)?;
-    let members = with(
-        alloc,
-        Map::new(alloc),
-        "access_token",
-        Value::String(access),
-    )?;
-    let members = with(alloc, members, "expires_in", Value::from(lifetime))?;
-    let refresh = handle_string(alloc, refresh)?;
-    let members = with(alloc, members, "refresh_token", Value::String(refresh))?;
-    let members = with_text(alloc, members, "scope", scope.text())?;
-    let members = with_text(alloc, members, "token_type", "Bearer")?;
-    Ok(Value::Object(members))
+    let scope = scope.text();
+    let mut out = begin(alloc, scope.len().saturating_add(ROOM))?;
+    put_handle(&mut out, "access_token", access)?;
+    put_number(&mut out, "expires_in", lifetime)?;
+    put_handle(&mut out, "refresh_token", refresh)?;
+    put_text(&mut out, "scope", scope)?;
+    put_text(&mut out, "token_type", "Bearer")?;
+    end(out)
 }
 
 // Returns the body of an active access token (RFC 7662, 2.2).
-pub(crate) fn access_body(alloc: Global, standing: &Standing<'_>) -> Result<Value, AllocError>
-    ensures { IfOk result (λ body. view body ≡ spec.standing_body spec.access_body standing.now) }
+pub(crate) fn access_body(alloc: Global, standing: &Standing<'_>) -> Result<Vec<u8>, AllocError>
+    ensures { IfOk result (λ body. body.items
+        ≡ compact_text (spec.standing_body spec.access_body standing.now)) }
 {
-    let members = active_members(alloc, standing)?;
-    let members = with_text(alloc, members, "token_type", "Bearer")?;
-    Ok(Value::Object(members))
+    let mut out = begin_standing(alloc, standing)?;
+    put_standing(alloc, &mut out, standing)?;
+    put_text(&mut out, "token_type", "Bearer")?;
+    end(out)
 }
 
 // Returns the body of an active refresh token, which has no `token_type` (RFC 7662, 2.2).
-pub(crate) fn refresh_body(alloc: Global, standing: &Standing<'_>) -> Result<Value, AllocError>
-    ensures { IfOk result (λ body. view body ≡ spec.standing_body spec.refresh_body standing.now) }
+pub(crate) fn refresh_body(alloc: Global, standing: &Standing<'_>) -> Result<Vec<u8>, AllocError>
+    ensures { IfOk result (λ body. body.items
+        ≡ compact_text (spec.standing_body spec.refresh_body standing.now)) }
 {
-    let members = active_members(alloc, standing)?;
-    Ok(Value::Object(members))
+    let mut out = begin_standing(alloc, standing)?;
+    put_standing(alloc, &mut out, standing)?;
+    end(out)
 }
 
-// Returns the members that the bodies of active access and refresh tokens share.
-fn active_members(alloc: Global, standing: &Standing<'_>) -> Result<Map<String, Value>, AllocError>
-    ensures { IfOk result (λ all. object (members_view all.entries)
-        ≡ spec.standing_body spec.refresh_body standing.now) }
+// Begins the body of an active token, with room for all of it.
+fn begin_standing(alloc: Global, standing: &Standing<'_>) -> Result<Writer, AllocError>
+    ensures before { IfOk result (λ out. out.before ≡ []) }
+    ensures tokens { IfOk result (λ out. out.tokens ≡ begin_object ∷ []) }
+{
+    let scope = standing.scope.text().len();
+    let subject = standing.subject.as_str().len();
+    begin(alloc, scope.saturating_add(subject).saturating_add(ROOM))
+}
+
+// Writes the members that the bodies of active access and refresh tokens share.
+fn put_standing(alloc: Global, out: &mut Writer, standing: &Standing<'_>) -> Result<(), AllocError>
+    ensures ok { OnOk result (out.new.tokens ≡ out.old.tokens
+        ++ key (codes "active") ∷ a_flag true
+        ∷ key (codes "client_id") ∷ string (client_name standing.now.client)
+        ∷ key (codes "exp") ∷ a_number (decimal standing.now.expiry)
+        ∷ key (codes "iat") ∷ a_number (decimal standing.now.start)
+        ∷ key (codes "scope") ∷ string standing.now.scope
+        ∷ key (codes "sub") ∷ string standing.now.subject ∷ []) }
+    ensures before { OnOk result (out.new.before ≡ out.old.before) }
 {
     let id = client_text(alloc, standing.client)?;
-    let members = with(alloc, Map::new(alloc), "active", Value::from(true))?;
-    let members = with(alloc, members, "client_id", Value::String(id))?;
-    let members = with(
-        alloc,
-        members,
-        "exp",
-        Value::from(standing.expiry.seconds()),
-    )?;
-    let members = with(alloc, members, "iat", Value::from(standing.start.seconds()))?;
-    let members = with_text(alloc, members, "scope", standing.scope.text())?;
-    with_text(alloc, members, "sub", standing.subject.as_str())
+    put_flag(out, "active", true)?;
+    put_text(out, "client_id", id.as_str())?;
+    put_number(out, "exp", standing.expiry.seconds())?;
+    put_number(out, "iat", standing.start.seconds())?;
+    put_text(out, "scope", standing.scope.text())?;
+    put_text(out, "sub", standing.subject.as_str())
 }

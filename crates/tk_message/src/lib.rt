@@ -23,6 +23,7 @@ mod caller;
 mod choices;
 mod decision;
 mod error_code;
+mod object;
 mod place;
 mod reply;
 mod request;

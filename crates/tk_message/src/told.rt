@@ -34,16 +34,14 @@ pub enum Told<'a> {
 }
 
 ghost use Rattle.std.specs.Prelude.{◌≡◌, IfOk};
-ghost use Rattle.serde_json.specs.View.{view};
-ghost use Rattle.tk_message.specs.Bodies.{IsWritable};
+ghost use Rattle.serde_json.specs.Written.{compact_text};
 ghost use Rattle.tk_message.specs.Told as spec;
 
 use crate::bodies::{
-    access_body, client_body, consent_body, one_member, one_text, refresh_body, shown_body,
-    token_body,
+    access_body, client_body, consent_body, one_flag, one_number, one_text, refresh_body,
+    shown_body, token_body,
 };
 use crate::reply::{Payload, Reply, asks_by};
-use serde_json::Value;
 use std::alloc::{AllocError, Global};
 
 impl Told<'_> {
@@ -52,8 +50,7 @@ impl Told<'_> {
         ensures { IfOk result (λ reply. reply ≡ spec.told self.entry) }
     {
         let status = self.status();
-        let body = self.body(alloc)?;
-        let text = body.to_vec(alloc)?;
+        let text = self.body(alloc)?;
         Ok(Reply {
             status,
             location: None,
@@ -73,10 +70,9 @@ impl Told<'_> {
         }
     }
 
-    // Returns the body of the reply.
-    fn body(self, alloc: Global) -> Result<Value, AllocError>
-        ensures value { IfOk result (λ body. view body ≡ spec.body_of self.entry) }
-        ensures writable { IfOk result (λ body. IsWritable (view body)) }
+    // Returns the text of the reply's body.
+    fn body(self, alloc: Global) -> Result<Vec<u8>, AllocError>
+        ensures { IfOk result (λ text. text.items ≡ compact_text (spec.body_of self.entry)) }
     {
         match self {
             Told::Error(code) => one_text(alloc, "error", code.name()),
@@ -95,8 +91,8 @@ impl Told<'_> {
             }
             Told::Access(standing) => access_body(alloc, &standing),
             Told::Refresh(standing) => refresh_body(alloc, &standing),
-            Told::Inactive => one_member(alloc, "active", Value::from(false)),
-            Told::Taken(count) => one_member(alloc, "took", Value::from(count)),
+            Told::Inactive => one_flag(alloc, "active", false),
+            Told::Taken(count) => one_number(alloc, "took", u64::from(count)),
         }
     }
 }

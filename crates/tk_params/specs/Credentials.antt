@@ -1,6 +1,7 @@
 -- The client credentials that a request presents (RFC 6749, 2.3 and 2.3.1).
 --   CredentialsFields   an id and a secret, either of which may be absent
 --   Presented           credentials, or credentials in two places, or an unreadable header
+--   shown               the credentials of a header, or of a body without one
 --   presented_in        what a header and parameters present
 use Rattle.std.specs.Prelude.{ℕ, List, length, codes, Option, Some, None, is_some, if◌then◌else◌}
 use Rattle.std.specs.Prelude.{◌==◌}
@@ -27,6 +28,11 @@ secret_in secret = if length secret == 0 then None else Some secret
 -- the credentials of a Basic header: its id, even if empty, and its secret
 abbrev pub of_basic : List ℕ × List ℕ → CredentialsFields
 of_basic basic = record { id = Some basic.0; secret = secret_in basic.1 }
+
+-- the credentials of a Basic header, if there is one; otherwise an id and a secret of the body
+abbrev pub shown : Option (List ℕ × List ℕ) → Option (List ℕ) → Option (List ℕ) → CredentialsFields
+shown None id secret = record { id = id; secret = secret }
+shown (Some basic) id secret = of_basic basic
 
 -- the credentials of a Basic header, unless the body names another client
 abbrev pub beside_body : List ℕ × List ℕ → Option (List ℕ) → Presented

@@ -6,10 +6,8 @@
 --   value_of      the value of a name that occurs once
 --   is_twice      a name occurs twice or more
 --   has_twice     one of several names occurs twice or more
---   owned_texts   the bytes of pairs of texts
 use Rattle.std.specs.Prelude.{ℕ, Bool, nat_le, List, [], ◌∷◌, length, map, filter, Option, Some}
-use Rattle.std.specs.Prelude.{None, String, string_bytes}
-use Rattle.std.specs.declared.alloc.Global.{Global}
+use Rattle.std.specs.Prelude.{None}
 use Rattle.std.specs.List.{list_any}
 use Rattle.std.specs.Str.{bytes_eq}
 use Rattle.std.specs.Str.Lossy.{utf8_lossy}
@@ -57,7 +55,3 @@ is_twice name pairs = nat_le 2 (length (values_of name pairs))
 -- one of several names occurs twice or more
 abbrev pub has_twice : List (List ℕ) → Pairs → Bool
 has_twice names pairs = list_any (λ name. is_twice name pairs) names
-
--- the bytes of pairs of texts
-abbrev pub owned_texts : List (String Global × String Global) → Pairs
-owned_texts pairs = map (λ p. (string_bytes p.0, string_bytes p.1)) pairs

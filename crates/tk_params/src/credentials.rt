@@ -1,6 +1,6 @@
 //! The client credentials that a request presents (RFC 6749, 2.3 and 2.3.1).
 
-use std::borrow::CowStr;
+use crate::basic::{Basic, read_basic};
 use std::marker::Model;
 
 /// The client credentials that a request presents: an id and a secret, either of which may be
@@ -9,21 +9,19 @@ use std::marker::Model;
 /// Texts from the parameters are borrowed from them. Contracts see the bytes.
 #[derive(Drop)]
 pub struct Credentials<'a> {
-    id: Option<CowStr<'a>>,
-    secret: Option<CowStr<'a>>,
+    // Those of a header. Without a header the body's count.
+    header: Option<Basic>,
+    id: Option<&'a str>,
+    secret: Option<&'a str>,
 }
 
 impl<'a> Model for Credentials<'a> {
-    ghost use Rattle.std.specs.Cow.{cow_str_bytes};
-    ghost use Rattle.std.specs.Option.{option_map};
-    ghost use Rattle.tk_params.specs.Credentials.{CredentialsFields};
+    ghost use Rattle.std.specs.Option.{option_copied};
+    ghost use Rattle.tk_params.specs.Credentials.{CredentialsFields, shown};
 
     ghost Value = { CredentialsFields };
 
-    ghost view = { λ c. record {
-      id = option_map cow_str_bytes c.id;
-      secret = option_map cow_str_bytes c.secret;
-    } };
+    ghost view = { λ c. shown c.header (option_copied c.id) (option_copied c.secret) };
 }
 
 /// The reason why a request presents no credentials.
@@ -53,11 +51,9 @@ impl From<AllocError> for CredentialsError {
 }
 
 ghost use Rattle.std.specs.Prelude.{◌≡◌, IfNone, IfOk, IsErrOf, IsOk, Some};
-ghost use Rattle.std.specs.Cow.{cow_str_bytes};
-ghost use Rattle.std.specs.Option.{option_copied, option_map};
+ghost use Rattle.std.specs.Option.{option_copied};
 ghost use Rattle.tk_params.specs.Credentials as spec;
 
-use crate::basic::{Basic, read_basic};
 use crate::params::Params;
 use std::alloc::{AllocError, Global};
 
@@ -93,23 +89,20 @@ impl<'a> Credentials<'a> {
     pub fn id(&self) -> Option<&str>
         ensures { option_copied result ≡ self.now.id }
     {
-        text_in(&self.id)
+        match &self.header {
+            Some(basic) => Some(basic.id()),
+            None => self.id,
+        }
     }
 
     /// Returns the client's secret, which is not empty.
     pub fn secret(&self) -> Option<&str>
         ensures { option_copied result ≡ self.now.secret }
     {
-        text_in(&self.secret)
-    }
-}
-
-fn text_in<'b>(text: &'b Option<CowStr<'_>>) -> Option<&'b str>
-    ensures { option_copied result ≡ option_map cow_str_bytes text.now }
-{
-    match text {
-        Some(text) => Some(text.as_str()),
-        None => None,
+        match &self.header {
+            Some(basic) => basic.secret(),
+            None => self.secret,
+        }
     }
 }
 
@@ -119,17 +112,9 @@ fn of_body(params: &Params) -> Credentials<'_>
     ensures { result ≡ spec.of_body params.now }
 {
     Credentials {
-        id: borrowed(params.value("client_id")),
-        secret: borrowed(params.value("client_secret")),
-    }
-}
-
-fn borrowed<'a>(text: Option<&'a str>) -> Option<CowStr<'a>>
-    ensures { option_map cow_str_bytes result ≡ option_copied text.entry }
-{
-    match text {
-        Some(text) => Some(CowStr::Borrowed(text)),
-        None => None,
+        header: None,
+        id: params.value("client_id"),
+        secret: params.value("client_secret"),
     }
 }
 
@@ -165,7 +150,7 @@ fn beside_body<'a>(basic: Basic, id: Option<&str>) -> Result<Credentials<'a>, Cr
         → spec.beside_body basic (option_copied id.entry) ≡ spec.Unreadable }
 {
     match id {
-        Some(id) if basic.id.as_str() != id => Err(CredentialsError::Both),
+        Some(id) if basic.id() != id => Err(CredentialsError::Both),
         _ => Ok(of_basic(basic)),
     }
 }
@@ -174,14 +159,9 @@ fn beside_body<'a>(basic: Basic, id: Option<&str>) -> Result<Credentials<'a>, Cr
 fn of_basic<'a>(basic: Basic) -> Credentials<'a>
     ensures { result ≡ spec.of_basic basic }
 {
-    let Basic { id, secret } = basic;
-    let secret = if secret.is_empty() {
-        None
-    } else {
-        Some(CowStr::Owned(secret))
-    };
     Credentials {
-        id: Some(CowStr::Owned(id)),
-        secret,
+        header: Some(basic),
+        id: None,
+        secret: None,
     }
 }

@@ -12,12 +12,13 @@
 //! and base64; this crate defines which bytes they are applied to. No claim is made about the time
 //! that a comparison takes.
 //!
-//! The definitions are in `specs/`: `Params`, `One`, `Basic`, `Credentials`.
+//! The definitions are in `specs/`: `Params`, `Places`, `One`, `Basic`, `Credentials`.
 #![tactic(auto)]
 
 mod basic;
 mod credentials;
 mod params;
+mod place;
 
 pub use credentials::{Credentials, CredentialsError};
 pub use params::{One, Params};

@@ -1,5 +1,6 @@
 //! Names and values of a form or a query (RFC 6749, 3.1, 3.2 and appendix B).
 
+use crate::place::Place;
 use std::marker::Model;
 
 /// The parameters of a form or a query, in the order in which they were sent.
@@ -8,16 +9,20 @@ use std::marker::Model;
 /// Contracts see the list of their bytes.
 #[derive(Drop)]
 pub struct Params {
-    pairs: Vec<(String, String)>,
+    // The bytes of the names and values, one behind the other.
+    text: Vec<u8>,
+    places: Vec<Place>,
 }
 
 impl Model for Params {
-    ghost use Rattle.std.specs.Prelude.{ℕ, List};
-    ghost use Rattle.tk_params.specs.Params.{owned_texts};
+    ghost use Rattle.std.specs.Prelude.{ℕ, List, All};
+    ghost use Rattle.tk_params.specs.Places.{IsPlace, pairs_at};
 
     ghost Value = { List (List ℕ × List ℕ) };
 
-    ghost view = { λ p. owned_texts p.pairs.items };
+    ghost view = { λ p. pairs_at p.text.items p.places.items };
+
+    ghost invariant = { λ p. All (IsPlace p.text.items) p.places.items };
 }
 
 /// The value of a name, if the name occurs once; or how often the name occurs.
@@ -31,11 +36,11 @@ pub enum One<'a> {
     Twice,
 }
 
-ghost use Rattle.std.specs.Prelude.{◌≡◌, IfOk, map};
+ghost use Rattle.std.specs.Prelude.{◌≡◌, ◌∷◌, ◌++◌, [], All, IfOk, OnOk, map};
 ghost use Rattle.std.specs.List.{list_any};
 ghost use Rattle.std.specs.Option.{option_copied};
-ghost use Rattle.tk_params.specs.Params.{owned_texts, params_of, values_of, value_of, is_twice};
-ghost use Rattle.tk_params.specs.Params.{has_twice};
+ghost use Rattle.tk_params.specs.Params.{params_of, values_of, value_of, is_twice, has_twice};
+ghost use Rattle.tk_params.specs.Places.{IsPlace, pairs_at};
 ghost use Rattle.tk_params.specs.One.{IsOne};
 
 use form_urlencoded::parse;
@@ -48,15 +53,37 @@ impl Params {
     pub fn read(alloc: Global, input: &[u8]) -> Result<Params, AllocError>
         ensures { IfOk result (λ params. params ≡ params_of input.now) }
     {
-        let pairs = read_pairs(alloc, input)?;
-        Ok(Params { pairs })
+        read_pairs(alloc, input)
+    }
+
+    // Returns no parameters, with room for the bytes of some.
+    fn with_room(alloc: Global, room: usize) -> Result<Params, AllocError>
+        ensures { IfOk result (λ params. params ≡ []) }
+    {
+        Ok(Params {
+            text: Vec::with_capacity(alloc, room)?,
+            places: Vec::new(alloc),
+        })
+    }
+
+    // Adds a pair behind the others. Fails if memory runs out.
+    fn add(&mut self, name: &str, value: &str) -> Result<(), AllocError>
+        ensures { OnOk result (self.new ≡ self.old ++ (name.now, value.now) ∷ []) }
+    {
+        let start = self.text.len();
+        self.text.extend_from_slice(name.as_bytes())?;
+        let middle = self.text.len();
+        self.text.extend_from_slice(value.as_bytes())?;
+        let end = self.text.len();
+        self.places.push(Place { start, middle, end })?;
+        Ok(())
     }
 
     /// Returns the value of a name, given as it is after decoding.
     pub fn one(&self, name: &str) -> One<'_>
         ensures { IsOne result (values_of name.now self.now) }
     {
-        find_one(&self.pairs, name)
+        find_one(&self.text, &self.places, name)
     }
 
     /// Returns the value of a name that occurs once. Returns `None` if the name does not occur, or
@@ -99,28 +126,29 @@ impl Params {
 }
 
 // Decodes the pairs that have a value, in order.
-fn read_pairs(alloc: Global, input: &[u8]) -> Result<Vec<(String, String)>, AllocError>
-    ensures { IfOk result (λ pairs. owned_texts pairs.items ≡ params_of input.now) }
+fn read_pairs(alloc: Global, input: &[u8]) -> Result<Params, AllocError>
+    ensures { IfOk result (λ params. params ≡ params_of input.now) }
 {
-    let mut pairs = Vec::new(alloc);
-    for pair in parse(alloc, input).into_owned() {
+    let mut params = Params::with_room(alloc, input.len())?;
+    for pair in parse(alloc, input) {
         let (name, value) = pair?;
-        if !value.is_empty() {
-            pairs.push((name, value))?;
+        if !value.as_str().is_empty() {
+            params.add(name.as_str(), value.as_str())?;
         }
     }
-    Ok(pairs)
+    Ok(params)
 }
 
 // Returns the value of a name, if it occurs once.
-fn find_one<'a>(pairs: &'a [(String, String)], name: &str) -> One<'a>
-    ensures { IsOne result (values_of name.now (owned_texts pairs.now)) }
+fn find_one<'a>(text: &'a [u8], places: &[Place], name: &str) -> One<'a>
+    requires { All (IsPlace text.now) places.now }
+    ensures { IsOne result (values_of name.now (pairs_at text.now places.now)) }
 {
     let mut found = One::Absent;
-    for (key, value) in pairs {
-        if key.as_str() == name {
+    for place in places {
+        if place.has_name(text, name) {
             found = match found {
-                One::Absent => One::Value(value.as_str()),
+                One::Absent => One::Value(place.value(text)),
                 _ => One::Twice,
             };
         }

@@ -22,7 +22,7 @@ use Rattle.tk_ledger.specs.declared.status.Status.{Status}
 use Rattle.tk_ledger.specs.declared.status.Status.TheVariants.{Unseen, Wrong, Broken, Known}
 use Rattle.tk_ledger.specs.StandingFields.{StandingFields}
 use Rattle.tk_ledger.specs.Tokens.{links_in, issued_at}
-use Rattle.tk_ledger.specs.Status.{status_here, status_in, IsActive}
+use Rattle.tk_ledger.specs.Status.{status_here, status_in, IsActive, is_live}
 use Rattle.tk_ledger.proofs.HereLaws.{here_known, active_here}
 use Rattle.tk_ledger.proofs.StatusCases.{Knows, known_parts}
 use Rattle.tk_ledger.proofs.StatusLaws.{live_is_active, active_is_live}
@@ -31,7 +31,7 @@ use Rattle.tk_message.specs.declared.choices.RefreshSeen.{RefreshSeen}
 use Rattle.tk_message.specs.declared.choices.RefreshSeen.TheVariants.{ByClient}
 use Rattle.tk_query.specs.declared.introspected.Introspected.{Introspected}
 use Rattle.tk_query.specs.declared.introspected.Introspected.TheVariants.{Inactive}
-use Rattle.tk_query.specs.Introspected.{sees, is_live, active, introspected_by_status, introspected_by_kind}
+use Rattle.tk_query.specs.Introspected.{sees, active, introspected_by_status, introspected_by_kind}
 use Rattle.tk_query.specs.Introspection.{told}
 use Rattle.tk_query.specs.Laws.{told_by_kind, told_to}
 

@@ -18,7 +18,7 @@ use Rattle.tk_store.specs.FactSet.{FactSet}
 use Rattle.tk_store.specs.StoreFields.{StoreFields, held_facts}
 use Rattle.tk_ledger.specs.Alike.{is_closed, IsLost, AnsweredAlike}
 use Rattle.tk_ledger.specs.Bodies.{is_same_dot}
-use Rattle.tk_ledger.specs.Status.{status_here}
+use Rattle.tk_ledger.specs.Status.{status_here, is_live}
 use Rattle.tk_ledger.specs.Tokens.{is_revoked}
 use Rattle.tk_ledger.specs.ViewFields.{ClientFields}
 use Rattle.tk_ledger.specs.Views.{client_view}
@@ -39,7 +39,7 @@ use Rattle.tk_message.specs.declared.decision.Decision.{Decision}
 use Rattle.tk_message.specs.declared.place.Place.{Place}
 use Rattle.tk_message.specs.declared.status_code.StatusCode.TheVariants.{Ok}
 use Rattle.tk_query.specs.Caller.{known_names}
-use Rattle.tk_query.specs.Introspected.{sees, is_live, active, introspected_by_status, introspected_by_kind, introspected_by_handle, introspected_by_text, introspected_as, introspected_by_client, introspected_by_caller}
+use Rattle.tk_query.specs.Introspected.{sees, active, introspected_by_status, introspected_by_kind, introspected_by_handle, introspected_by_text, introspected_as, introspected_by_client, introspected_by_caller}
 use Rattle.tk_query.specs.Introspection.{told, introspection_of}
 use Rattle.tk_query.specs.Revocation as whole
 use Rattle.tk_query.specs.Revoked.{revocation_of, may_revoke_unseen, revoked_unless_held, revoked_unseen, revoked_of_client, revoked_by_state, revoked_by_status, is_own, revoked_by_kind, revoked_by_handle, revoked_by_text, revoked_by_caller}

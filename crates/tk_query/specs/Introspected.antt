@@ -3,7 +3,6 @@
 --   shows_refresh            resource servers see refresh tokens
 --   servers_see              resource servers see tokens of a kind
 --   sees                     a client may see tokens of another client
---   is_live                  a state is Live
 --   introspected_by_caller   the outcome for the sender of a request
 use Rattle.std.specs.Prelude.{
   ℕ,
@@ -25,15 +24,17 @@ use Rattle.tk_handle.specs.declared.kind.Kind.TheVariants as kind
 use Rattle.tk_handle.specs.declared.handle.Handle.{Handle}
 use Rattle.tk_handle.specs.Handle.{handle_in}
 use Rattle.tk_fact.specs.declared.client_kind.ClientKind.{ClientKind}
-use Rattle.tk_fact.specs.declared.client_kind.ClientKind.TheVariants.{Public, Confidential, Resource}
+use Rattle.tk_fact.specs.declared.client_kind.ClientKind.TheVariants.{
+  Public,
+  Confidential,
+  Resource,
+}
 use Rattle.tk_store.specs.StoreFields.{StoreFields, held_facts}
 use Rattle.tk_ledger.specs.Bodies.{is_same_dot}
 use Rattle.tk_ledger.specs.Views.{client_view}
 use Rattle.tk_ledger.specs.ViewFields.{ClientFields}
-use Rattle.tk_ledger.specs.Status.{status_here}
+use Rattle.tk_ledger.specs.Status.{is_live, status_here}
 use Rattle.tk_ledger.specs.StandingFields.{StandingFields}
-use Rattle.tk_ledger.specs.declared.status.State.{State}
-use Rattle.tk_ledger.specs.declared.status.State.TheVariants as state
 use Rattle.tk_ledger.specs.declared.status.Status.{Status}
 use Rattle.tk_ledger.specs.declared.status.Status.TheVariants.{Unseen, Wrong, Broken, Known}
 use Rattle.tk_params.specs.Params.{Pairs, value_of}
@@ -67,16 +68,6 @@ abbrev pub sees : RefreshSeen → ClientKind → Kind → Dot → Dot → Bool
 sees seen Public k asker client = false
 sees seen (Confidential digest) k asker client = is_same_dot client asker
 sees seen (Resource digest) k asker client = servers_see seen k
-
--- the state is Live
-abbrev pub is_live : State → Bool
-is_live state.Dead = false
-is_live state.Withdrawn = false
-is_live state.Over = false
-is_live state.Used = false
-is_live state.Past = false
-is_live state.Ended = false
-is_live state.Live = true
 
 -- the outcome for a token that is live: a code is never active
 abbrev pub active : Kind → StandingFields → Introspected

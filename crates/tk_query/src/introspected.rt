@@ -22,7 +22,7 @@ use crate::refusal::Refusal;
 use tk_fact::ClientKind;
 use tk_family::Steps;
 use tk_handle::{Dot, Handle, Kind, Moment};
-use tk_ledger::{Ledger, State, Status};
+use tk_ledger::{Ledger, Status};
 use tk_message::{Caller, Params, RefreshSeen};
 
 // Judges an introspection request by its sender: the first case that holds.
@@ -153,7 +153,7 @@ fn by_standing<'a>(
     ensures { result
         ≡ spec.introspected_by_standing seen client_kind.now asker kind standing.entry }
 {
-    if !sees(seen, client_kind, kind, asker, standing.client) || !is_live(standing.state) {
+    if !sees(seen, client_kind, kind, asker, standing.client) || !standing.state.is_live() {
         return Introspected::Inactive;
     }
     match kind {
@@ -191,16 +191,5 @@ fn shows_refresh(seen: RefreshSeen) -> bool
     match seen {
         RefreshSeen::ByAll => true,
         RefreshSeen::ByClient => false,
-    }
-}
-
-// Returns whether the state is `Live`.
-fn is_live(state: State) -> bool
-    ensures { result ≡ spec.is_live state }
-{
-    match state {
-        State::Dead | State::Withdrawn | State::Over | State::Used | State::Past | State::Ended =>
-            false,
-        State::Live => true,
     }
 }

@@ -2,5 +2,5 @@ use Rattle.std.proofs.Common.{arith}
 use Rattle.std.proofs.lemmas.Grind.{common_steps}
 use Rattle.tk_params.proofs.params.find_one.Goals as goal
 
-pub loop-key-preserved : goal.loop-key-preserved
-loop-key-preserved c = grind (arith, common_steps)
+pub loop-place-preserved : goal.loop-place-preserved
+loop-place-preserved c = grind (arith, common_steps)

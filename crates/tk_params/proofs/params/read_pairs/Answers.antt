@@ -2,8 +2,5 @@ use Rattle.std.proofs.Common.{arith}
 use Rattle.std.proofs.lemmas.Grind.{common_steps}
 use Rattle.tk_params.proofs.params.read_pairs.Goals as goal
 
-pub loop-pair-preserved-in-Continue-branch-2 : goal.loop-pair-preserved-in-Continue-branch-2
-loop-pair-preserved-in-Continue-branch-2 c = grind (arith, common_steps)
-
 pub loop-pair-preserved : goal.loop-pair-preserved
 loop-pair-preserved c = grind (arith, common_steps)
