@@ -17,6 +17,7 @@ pub mod ReuseLaws
 pub mod SameLaws
 pub mod SignOutLaws
 pub mod SkipLaws
+pub mod SliceLaws
 pub mod SpanLaws
 pub mod StandingLaws
 pub mod StatusCases

@@ -16,8 +16,9 @@ use Rattle.std.specs.Ordering.{nat_cmp, eq_by_cmp, ordering_then, is_eq, is_lt, 
 use Rattle.std.specs.declared.ops.Bound.TheVariants.{Included}
 use Rattle.tk_handle.specs.declared.dot.Dot.{Dot}
 use Rattle.tk_handle.specs.declared.token_id.TokenId.{TokenId}
-use Rattle.tk_handle.specs.Dot.{IsDot, dot_cmp, dot_cmp_total}
+use Rattle.tk_handle.specs.Dot.{IsDot, dot_cmp, dot_cmp_total, least_dot, greatest_dot}
 use Rattle.tk_handle.specs.Kind.{kind_number}
+use Rattle.tk_handle.proofs.SpanLaws.{from_first, to_last, not_past, between}
 use Rattle.tk_fact.specs.declared.body.Body.{Body}
 use Rattle.tk_store.specs.FactSet.{FactSet}
 use Rattle.tk_store.proofs.EntryLaws.{Passing, any_fact-held, any_fact-of}
@@ -25,14 +26,13 @@ use Rattle.tk_store.proofs.FactSetLaws.{tied}
 use Rattle.tk_store.proofs.OneMoreLaws.{OneMore}
 use Rattle.tk_ledger.specs.Bodies.{is_same_dot, is_same_token}
 use Rattle.tk_ledger.specs.Changes.{change_in, reuses_of}
-use Rattle.tk_ledger.specs.Index.{is_at, least_dot, greatest_dot, reuse_cmp, reuse_key, reuse_keys, has_reuse, is_reuse_of, is_listed_reuse, IsReuses}
+use Rattle.tk_ledger.specs.Index.{is_at, reuse_cmp, reuse_key, reuse_keys, has_reuse, is_reuse_of, is_listed_reuse, IsReuses}
 use Rattle.tk_ledger.specs.Tokens.{sees_reuse, is_reused}
 use Rattle.tk_ledger.specs.declared.reuses.ReuseKey.{ReuseKey}
 use Rattle.tk_ledger.proofs.ForestLaws.{reuse-change}
 use Rattle.tk_ledger.proofs.KeyLaws.{same_tests, at_is_same, both_tied, number_tied}
 use Rattle.tk_ledger.proofs.KeySearchLaws.{found_passes, none_passes}
 use Rattle.tk_ledger.proofs.SameLaws.{same_dot-true}
-use Rattle.tk_ledger.proofs.SpanLaws.{from_first, to_last, not_past, between}
 use Rattle.tk_ledger.proofs.TableLaws.{own_on}
 
 -- ---- keys

@@ -20,7 +20,7 @@ use Rattle.std.specs.declared.cmp.Ordering.TheVariants.{Less}
 use Rattle.std.specs.declared.ops.Bound.TheVariants.{Included}
 use Rattle.sha2.specs.Sha256.{sha256}
 use Rattle.tk_handle.specs.declared.dot.Dot.{Dot}
-use Rattle.tk_handle.specs.Dot.{dot_cmp, dot_cmp_total}
+use Rattle.tk_handle.specs.Dot.{dot_cmp, dot_cmp_total, least_dot, greatest_dot}
 use Rattle.tk_handle.specs.Ranges.{greatest_moment}
 use Rattle.tk_family.specs.Dots.{dot_eq}
 use Rattle.tk_fact.specs.declared.body.Body.{Body}
@@ -30,7 +30,7 @@ use Rattle.tk_store.specs.FactSet.{FactSet}
 use Rattle.tk_store.proofs.PutLaws.{some_injective, none_is_not_some}
 use Rattle.tk_store.proofs.OneMoreLaws.{apart_at}
 use Rattle.tk_ledger.specs.Bodies.{is_same_dot}
-use Rattle.tk_ledger.specs.Index.{IsOuts, least_dot, greatest_dot, left_after, out_cmp, out_key, outs_of, tells_by, tells_of}
+use Rattle.tk_ledger.specs.Index.{IsOuts, left_after, out_cmp, out_key, outs_of, tells_by, tells_of}
 use Rattle.tk_ledger.specs.SignOuts.{IsSignedOut, is_signed_out, reaches, IsLastSignOut, IsFirstUnreached, sign_out_in, sign_out_at}
 use Rattle.tk_ledger.specs.declared.subject_keys.OutKey.{OutKey}
 use Rattle.tk_ledger.proofs.KeyLaws.{same_tests, at_itself}

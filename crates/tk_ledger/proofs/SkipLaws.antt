@@ -156,7 +156,7 @@ never_refused P Q d Memory may s = subst MayGo s.0 may
 
 -- ---- a prune
 
-passing_kept : (d : Dot) (b : Body) (k : TokenId) → kept_for d b ≡ Some k → is_passing b ≡ true
+pub passing_kept : (d : Dot) (b : Body) (k : TokenId) → kept_for d b ≡ Some k → is_passing b ≡ true
 passing_kept d (ClientAdded f) k h = absurd (none_is_not_some k h)
 passing_kept d (ClientRetired f) k h = absurd (none_is_not_some k h)
 passing_kept d (ConsentGiven f) k h = absurd (none_is_not_some k h)
@@ -168,7 +168,7 @@ passing_kept d (TokenRevoked f) k h = absurd (none_is_not_some k h)
 passing_kept d (ReuseSeen f) k h = refl
 passing_kept d (SubjectOut f) k h = absurd (none_is_not_some k h)
 
-may_go : (o : Option Slot) (b : Body) → held_slot o ≡ Some b → is_passing b ≡ true → MayGo o
+pub may_go : (o : Option Slot) (b : Body) → held_slot o ≡ Some b → is_passing b ≡ true → MayGo o
 may_go None b h passing = absurd (none_is_not_some b h)
 may_go (Some (Held c)) b h passing = ap is_passing (some_injective c b h) ∙ passing
 may_go (Some Skipped) b h passing = tt

@@ -3,9 +3,9 @@
 --   span_forward            the span runs forward
 --   in_span                 each consent of the subject to the client has its key in the span
 --   first_found, first_is   the first listed consent that covers the scope is the lowest live one
-use Rattle.std.proofs.Common.{◌≡◌, ◌⊎◌, inl, inr, ℕ, ◌≤◌, ◌<◌, Bool, true, ◌&&◌, not, List, Option, Some, None, refl, sym, ap, ◌∙◌, arith}
+use Rattle.std.proofs.Common.{◌≡◌, ℕ, Bool, true, ◌&&◌, not, List, Option, Some, None, refl, sym, ap, ◌∙◌}
 use Rattle.std.proofs.lemmas.Bool.{true≢false, and_parts, and_from}
-use Rattle.std.proofs.lemmas.Cmp.{ranked, by_ranked, on_total, then_total, tied_itself, nat_list_cmp_total}
+use Rattle.std.proofs.lemmas.Cmp.{on_total, then_total, tied_itself, nat_list_cmp_total}
 use Rattle.std.proofs.lemmas.Slice.Eq.{bytes_eq-Decides}
 use Rattle.std.specs.BTreeMap.Range.{range_contains, IsLeBy}
 use Rattle.std.specs.BTreeSet.{BTreeSet}
@@ -22,13 +22,14 @@ use Rattle.std.specs.declared.cmp.Ordering.TheVariants.{Less, Equal, Greater}
 use Rattle.std.specs.declared.ops.Bound.TheVariants.{Included}
 use Rattle.sha2.specs.Sha256.{sha256}
 use Rattle.tk_handle.specs.declared.dot.Dot.{Dot}
-use Rattle.tk_handle.specs.Dot.{IsDot, dot_cmp, dot_cmp_total}
+use Rattle.tk_handle.specs.Dot.{IsDot, dot_cmp, dot_cmp_total, least_dot, greatest_dot}
+use Rattle.tk_handle.proofs.SpanLaws.{not_past, from_first, to_last}
 use Rattle.tk_fact.specs.declared.body.Body.{Body}
 use Rattle.tk_store.specs.FactSet.{FactSet}
 use Rattle.tk_store.proofs.FactSetLaws.{tied}
 use Rattle.tk_ledger.specs.Bodies.{is_same_dot}
 use Rattle.tk_ledger.specs.Clients.{given_in, consent_at, is_withdrawn, grants, covers, consent_for, IsConsentFor, IsLeastConsent}
-use Rattle.tk_ledger.specs.Index.{consent_cmp, consent_key, least_dot, greatest_dot, is_from, is_listed, IsConsents, span_of}
+use Rattle.tk_ledger.specs.Index.{consent_cmp, consent_key, is_from, is_listed, IsConsents, span_of}
 use Rattle.tk_ledger.specs.declared.consent_keys.ConsentKey.{ConsentKey}
 use Rattle.tk_ledger.proofs.ClientLaws.{not_withdrawn}
 use Rattle.tk_ledger.proofs.ConsentLaws.{consents_sound, consents_complete, least_consent}
@@ -56,41 +57,6 @@ key_order : (client : Dot) (subject : List ℕ) (a b : Dot) → consent_cmp (con
 key_order client subject a b =
     ap (λ o. ordering_then o (ordering_then (slice_cmp nat_cmp subject subject) (dot_cmp a b))) (tied_itself dot_cmp_total client)
     ∙ ap (λ o. ordering_then o (dot_cmp a b)) (tied_itself nat_list_cmp_total subject)
-
-pub number_le : (a b : ℕ) → a ≤ b → (nat_cmp a b ≡ Less) ⊎ (nat_cmp a b ≡ Equal)
-number_le a b le = by_ranked (a < b) (a ≡ b) (b < a) (nat_cmp a b) (ranked a b (nat_cmp a b) refl) (λ o _. inl o) (λ o _. inr o) (λ _ h. absurd (apart a b le h))
-  where
-    apart : (a b : ℕ) → a ≤ b → ¬ (b < a)
-    apart a b le h = omega arith
-
-dot_le : (a b : Dot) → a.region ≤ b.region → a.serial ≤ b.serial → is_le (dot_cmp a b) ≡ true
-dot_le a b r s = elim (number_le a.region b.region r) [
-  | inl less ↦ ap (λ o. is_le (ordering_then o (nat_cmp a.serial b.serial))) less
-  | inr same ↦ ap (λ o. is_le (ordering_then o (nat_cmp a.serial b.serial))) same ∙ elim (number_le a.serial b.serial s) [
-    | inl less ↦ ap is_le less
-    | inr equal ↦ ap is_le equal
-  ]
-]
-
-pub not_past : (o : Ordering) → is_le o ≡ true → not (is_lt (ordering_reverse o)) ≡ true
-not_past Less h = refl
-not_past Equal h = refl
-not_past Greater h = h
-
--- what is not below the first and not above the last of two that begin alike begins so, too
-pub between : (o r t : Ordering) → is_le (ordering_then o r) ≡ true → not (is_lt (ordering_then o t)) ≡ true → o ≡ Equal
-between Less r t h i = absurd (true≢false (sym i))
-between Equal r t h i = refl
-between Greater r t h i = absurd (true≢false (sym h))
-
-pub from_first : (q : Dot) → IsDot q → is_le (dot_cmp least_dot q) ≡ true
-from_first q h = dot_le least_dot q (some h.0.0) (some h.1.0)
-  where
-    some : {n : ℕ} → 0 < n → 1 ≤ n
-    some h = h
-
-pub to_last : (q : Dot) → IsDot q → is_le (dot_cmp q greatest_dot) ≡ true
-to_last q h = dot_le q greatest_dot h.0.1 h.1.1
 
 -- the first key of the span is below the last
 pub span_forward : (client : Dot) (subject : List ℕ) (a b : ConsentKey) → a ≡ consent_key client subject least_dot → b ≡ consent_key client subject greatest_dot → IsLeBy consent_cmp a b

@@ -46,6 +46,7 @@ pub record Knows (F : FactSet) (now : ℕ) (h : Handle) (s : StandingFields) : T
   pub body : Body
   pub minted : MintedFields
   pub root : Root
+  pub here : map.get F h.id.dot ≡ Some body
   pub mints : minted_in (map.get F) h.id ≡ Some minted
   pub digest_is : minted.digest ≡ digest_of h
   pub under : IsUnder (links_in (map.get F)) h.id.dot root.code
@@ -64,17 +65,18 @@ other x s h same = true≢false (sym (ap is_known same) ∙ h)
 same_standing : (a s : StandingFields) → Known a ≡ Known s → a ≡ s
 same_standing a s h = cc
 
-known_by : (F : FactSet) (now : ℕ) (h : Handle) (s : StandingFields) (b : Option Body) (m : Option MintedFields) (o : Option Root) → minted_as (map.get F) h ≡ m → root_in (map.get F) h.id.dot ≡ o → status_by F now h.id b m o ≡ Known s → Knows F now h s
-known_by F now h s None m o j n e = absurd (other Unseen s refl e)
-known_by F now h s (Some b) None o j n e = absurd (other Wrong s refl e)
-known_by F now h s (Some b) (Some m) None j n e = absurd (other (Broken m.expiry) s refl e)
-known_by F now h s (Some b) (Some m) (Some o) j n e =
+known_by : (F : FactSet) (now : ℕ) (h : Handle) (s : StandingFields) (b : Option Body) (m : Option MintedFields) (o : Option Root) → map.get F h.id.dot ≡ b → minted_as (map.get F) h ≡ m → root_in (map.get F) h.id.dot ≡ o → status_by F now h.id b m o ≡ Known s → Knows F now h s
+known_by F now h s None m o i j n e = absurd (other Unseen s refl e)
+known_by F now h s (Some b) None o i j n e = absurd (other Wrong s refl e)
+known_by F now h s (Some b) (Some m) None i j n e = absurd (other (Broken m.expiry) s refl e)
+known_by F now h s (Some b) (Some m) (Some o) i j n e =
     let d = with_digest-sound (digest_of h) (minted_in (map.get F) h.id) m j in
     let p = root-sound F h.id.dot o n in
     record {
       body = b;
       minted = m;
       root = o;
+      here = i;
       mints = d.0;
       digest_is = d.1;
       under = p.0;
@@ -83,7 +85,7 @@ known_by F now h s (Some b) (Some m) (Some o) j n e =
     }
 
 pub known_parts : (F : FactSet) (now : ℕ) (h : Handle) (s : StandingFields) → status_in F now h ≡ Known s → Knows F now h s
-known_parts F now h s e = known_by F now h s (map.get F h.id.dot) (minted_as (map.get F) h) (root_in (map.get F) h.id.dot) refl refl e
+known_parts F now h s e = known_by F now h s (map.get F h.id.dot) (minted_as (map.get F) h) (root_in (map.get F) h.id.dot) refl refl refl e
 
 -- the standing of these parts
 pub known_status : (F : FactSet) (now : ℕ) (h : Handle) (m : MintedFields) (o : Root) → minted_in (map.get F) h.id ≡ Some m → m.digest ≡ digest_of h → IsUnder (links_in (map.get F)) h.id.dot o.code → issued_at (map.get F) o.code ≡ Some o.issued → (s : StandingFields) × (status_in F now h ≡ Known s) × (s.state ≡ state_in F now h.id m o)

@@ -8,6 +8,7 @@ use Rattle.std.specs.FinMap as map
 use Rattle.tk_handle.specs.declared.kind.Kind.{Kind}
 use Rattle.tk_handle.specs.declared.kind.Kind.TheVariants as kind
 use Rattle.tk_handle.specs.declared.handle.Handle.{Handle}
+use Rattle.tk_handle.specs.Kind.{is_access}
 use Rattle.tk_store.specs.FactSet.{FactSet}
 use Rattle.tk_ledger.specs.declared.status.State.{State}
 use Rattle.tk_ledger.specs.declared.status.State.TheVariants as state
@@ -16,7 +17,7 @@ use Rattle.tk_ledger.specs.declared.status.Status.TheVariants.{Unseen, Wrong, Br
 use Rattle.tk_ledger.specs.StandingFields.{StandingFields}
 use Rattle.tk_ledger.specs.Clients.{is_live_client, is_live_consent}
 use Rattle.tk_ledger.specs.Tokens.{Root, is_dead, is_used, is_ended}
-use Rattle.tk_ledger.specs.Status.{is_access, state_in, status_in, IsActive, IsLive}
+use Rattle.tk_ledger.specs.Status.{is_live, state_in, status_in, IsActive, IsLive}
 use Rattle.tk_ledger.proofs.ClientLaws.{live_sound, live_complete, consent_sound, consent_complete}
 use Rattle.tk_ledger.proofs.StatusCases.{Knows, known_parts, known_status}
 use Rattle.tk_ledger.proofs.TokenLaws.{is_dead-sound, is_dead-complete, is_ended-sound, is_ended-complete, is_used-sound, is_used-complete}
@@ -26,15 +27,6 @@ use Rattle.tk_ledger.proofs.TokenLaws.{is_dead-sound, is_dead-complete, is_ended
 abbrev pub chain : Bool → Bool → Bool → Bool → Bool → Bool → State
 chain a b c d e f = if a then state.Dead else if b then state.Withdrawn else if c then state.Over else if d then state.Used else if e then state.Past else if f then state.Ended else state.Live
 
-abbrev is_live_state : State → Bool
-is_live_state state.Dead = false
-is_live_state state.Withdrawn = false
-is_live_state state.Over = false
-is_live_state state.Used = false
-is_live_state state.Past = false
-is_live_state state.Ended = false
-is_live_state state.Live = true
-
 pub record AllFalse (a b c d e f : Bool) : Type 0 where
   pub dead : a ≡ false
   pub withdrawn : b ≡ false
@@ -43,8 +35,8 @@ pub record AllFalse (a b c d e f : Bool) : Type 0 where
   pub past : e ≡ false
   pub ended : f ≡ false
 
-not_live : (s : State) → is_live_state s ≡ false → s ≡ state.Live → ⊥
-not_live s h same = true≢false (sym (ap is_live_state same) ∙ h)
+not_live : (s : State) → is_live s ≡ false → s ≡ state.Live → ⊥
+not_live s h same = true≢false (sym (ap is_live same) ∙ h)
 
 pub chain_live : (a b c d e f : Bool) → chain a b c d e f ≡ state.Live → AllFalse a b c d e f
 chain_live true b c d e f h = absurd (not_live state.Dead refl h)

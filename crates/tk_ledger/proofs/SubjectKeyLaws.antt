@@ -22,14 +22,15 @@ use Rattle.std.specs.declared.ops.Bound.TheVariants.{Included}
 use Rattle.std.specs.FinMap as map
 use Rattle.sha2.specs.Sha256.{sha256}
 use Rattle.tk_handle.specs.declared.dot.Dot.{Dot}
-use Rattle.tk_handle.specs.Dot.{IsDot, dot_cmp, dot_cmp_total}
+use Rattle.tk_handle.specs.Dot.{IsDot, dot_cmp, dot_cmp_total, least_dot, greatest_dot}
 use Rattle.tk_handle.specs.Ranges.{greatest_moment}
+use Rattle.tk_handle.proofs.SpanLaws.{number_le, from_first, to_last, not_past, between}
 use Rattle.tk_family.specs.Dots.{dot_eq, has}
 use Rattle.tk_fact.specs.declared.code_issued.CodeIssued as issued
 use Rattle.tk_fact.specs.declared.subject_out.SubjectOut as out
 use Rattle.tk_store.specs.FactSet.{FactSet}
 use Rattle.tk_ledger.specs.Bodies.{is_same_dot}
-use Rattle.tk_ledger.specs.Index.{least_dot, greatest_dot, left_after, code_cmp, code_key, codes_started, dots_of, is_to, IsCodes, out_cmp, out_key, is_left_by, IsOuts}
+use Rattle.tk_ledger.specs.Index.{left_after, code_cmp, code_key, codes_started, dots_of, is_to, IsCodes, out_cmp, out_key, is_left_by, IsOuts}
 use Rattle.tk_ledger.specs.SignOuts.{sign_out_at}
 use Rattle.tk_ledger.specs.Tokens.{issued_at}
 use Rattle.tk_ledger.specs.declared.subject_keys.CodeKey.{CodeKey}
@@ -37,7 +38,6 @@ use Rattle.tk_ledger.specs.declared.subject_keys.OutKey.{OutKey}
 use Rattle.tk_ledger.proofs.KeyLaws.{at_itself, at_is_same, both_tied, number_tied, bytes_tied}
 use Rattle.tk_ledger.proofs.KeySearchLaws.{among}
 use Rattle.tk_ledger.proofs.SameLaws.{same_dot-true}
-use Rattle.tk_ledger.proofs.SpanLaws.{number_le, from_first, to_last, not_past, between}
 
 -- ---- codes
 

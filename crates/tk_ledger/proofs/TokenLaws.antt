@@ -14,6 +14,7 @@ use Rattle.tk_handle.specs.declared.dot.Dot.{Dot}
 use Rattle.tk_handle.specs.declared.kind.Kind.{Kind}
 use Rattle.tk_handle.specs.declared.kind.Kind.TheVariants as kind
 use Rattle.tk_handle.specs.declared.token_id.TokenId.{TokenId}
+use Rattle.tk_handle.specs.Kind.{is_code, is_refresh}
 use Rattle.tk_family.specs.declared.link.Link.{Link}
 use Rattle.tk_family.specs.Families.{IsUnder, IsUsed, IsTwice, IsBad, IsDead, LinksWithin, MarksWithin, use_of, grant_at}
 use Rattle.tk_family.proofs.FamilyLaws.{IsUnder-within, IsBad-within, IsDead-within}
@@ -29,7 +30,7 @@ use Rattle.tk_fact.specs.Tokens.{MintedFields, minted_of, uses_of}
 use Rattle.tk_store.specs.FactSet.{FactSet, IsSubset}
 use Rattle.tk_store.proofs.EntryLaws.{Passing, any_fact-held, any_fact-of}
 use Rattle.tk_ledger.specs.Bodies.{is_same_dot, is_same_token}
-use Rattle.tk_ledger.specs.Tokens.{link_of, links_in, code_in, issued_at, issued_in, Root, root_of, root_in, minted_in, uses, is_used, uses_elsewhere, uses_first, is_twice, IsRevoked, revoked_by, revokes, is_revoked, IsEnded, is_ended_by, is_ended, reuse_of, sees_reuse, is_reused, is_refresh, is_code, IsOut, is_out_by, is_out, IsStopped, is_stopped, IsMarked, is_marked, is_bad_grant, kills, is_dead}
+use Rattle.tk_ledger.specs.Tokens.{link_of, links_in, code_in, issued_at, issued_in, Root, root_of, root_in, minted_in, uses, is_used, uses_elsewhere, uses_first, is_twice, IsRevoked, revoked_by, revokes, is_revoked, IsEnded, is_ended_by, is_ended, reuse_of, sees_reuse, is_reused, IsOut, is_out_by, is_out, IsStopped, is_stopped, IsMarked, is_marked, is_bad_grant, kills, is_dead}
 use Rattle.tk_ledger.specs.SignOuts.{IsSignedOut, signs_out_in, signs_out, is_signed_out}
 use Rattle.tk_ledger.proofs.SameLaws.{same_dot-true, same_dot-false, same_dot-apart, same_dot-itself, same_token-true, same_token-itself, names_token-true, names_token-of, names_dot-true, names_dot-of}
 

@@ -1,6 +1,6 @@
 -- The status of a token by the forest's top is the status by the set. Key results:
 --   top_says, used_says   what the forest's look-ups return, by the set
---   found_body            the body of the fact that a look-up finds
+--   found_body, found_dot the body and the dot of the fact that a look-up finds
 --   status_by_top         the status by the top is the status of the handle
 use Rattle.std.proofs.Common.{◌≡◌, inl, inr, ℕ, Bool, true, false, List, Option, Some, None, if◌then◌else◌, refl, sym, ap, subst, ◌∙◌}
 use Rattle.std.proofs.lemmas.Bool.{false_from_ne_true}
@@ -133,6 +133,10 @@ some_first x y h = cc
 pub found_body : (d : Dot) (o : Option Body) (f : Dot × Body) → Some f ≡ option_map (λ b. (d, b)) o → o ≡ Some f.1
 found_body d None f h = absurd (cc)
 found_body d (Some b) f h = ap (λ (p : Dot × Body). Some p.1) (sym (some_first f (d, b) h))
+
+pub found_dot : (d : Dot) (o : Option Body) (f : Dot × Body) → Some f ≡ option_map (λ b. (d, b)) o → f.0 ≡ d
+found_dot d None f h = absurd (cc)
+found_dot d (Some b) f h = ap (λ (p : Dot × Body). p.0) (some_first f (d, b) h)
 
 -- the status of a token that the fact at its dot minted, by the top
 pub status_by_top : (F : FactSet) (now : ℕ) (h : Handle) (b : Body) (m : MintedFields) (r : Top) → map.get F h.id.dot ≡ Some b → with_digest (digest_of h) (minted_of b h.id.kind) ≡ Some m → TopSays F h.id.dot r → by_top F now h.id b m r ≡ status_in F now h

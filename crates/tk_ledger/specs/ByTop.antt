@@ -23,6 +23,7 @@ use Rattle.std.specs.BTreeSet.{BTreeSet}
 use Rattle.std.specs.FinMap as map
 use Rattle.tk_handle.specs.declared.dot.Dot.{Dot}
 use Rattle.tk_handle.specs.declared.token_id.TokenId.{TokenId}
+use Rattle.tk_handle.specs.Kind.{is_access}
 use Rattle.tk_family.specs.declared.top.Top.{Top}
 use Rattle.tk_family.specs.declared.top.Top.TheVariants as top
 use Rattle.tk_fact.specs.declared.body.Body.{Body}
@@ -33,7 +34,7 @@ use Rattle.tk_ledger.specs.Bodies.{Bodies}
 use Rattle.tk_ledger.specs.Clients.{is_live_client, is_live_consent}
 use Rattle.tk_ledger.specs.Index.{is_listed_revoked}
 use Rattle.tk_ledger.specs.StandingFields.{StandingFields}
-use Rattle.tk_ledger.specs.Status.{is_access, generation_of}
+use Rattle.tk_ledger.specs.Status.{generation_of}
 use Rattle.tk_ledger.specs.Tokens.{Root, root_of, code_in, is_dead, is_used, is_revoked}
 use Rattle.tk_ledger.specs.declared.revocations.Revocation.{Revocation}
 use Rattle.tk_ledger.specs.declared.status.State.{State}

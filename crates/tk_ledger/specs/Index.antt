@@ -52,9 +52,9 @@ use Rattle.std.specs.FinSet as set
 use Rattle.sha2.specs.Sha256.{sha256}
 use Rattle.tk_handle.specs.declared.dot.Dot.{Dot}
 use Rattle.tk_handle.specs.declared.token_id.TokenId.{TokenId}
-use Rattle.tk_handle.specs.Dot.{IsDot, dot_cmp}
+use Rattle.tk_handle.specs.Dot.{IsDot, dot_cmp, least_dot, greatest_dot}
 use Rattle.tk_handle.specs.Kind.{kind_number}
-use Rattle.tk_handle.specs.Ranges.{greatest_region, greatest_serial, greatest_moment}
+use Rattle.tk_handle.specs.Ranges.{greatest_moment}
 use Rattle.tk_family.specs.declared.link.Link.{Link}
 use Rattle.tk_family.specs.Families.{IsUnder, grant_at}
 use Rattle.tk_family.specs.ForestFacts.{ForestFacts}
@@ -115,14 +115,6 @@ consent_key client subject d = record { client = client; subject = subject; cons
 -- the key of the consent that was given at the dot
 abbrev pub key_of : Dot → given.ConsentGiven → ConsentKey
 key_of d consent = consent_key consent.client (sha256 consent.subject) d
-
--- the least dot
-abbrev pub least_dot : Dot
-least_dot = record { region = 1; serial = 1 }
-
--- the greatest dot
-abbrev pub greatest_dot : Dot
-greatest_dot = record { region = greatest_region; serial = greatest_serial }
 
 -- the consent was given to the client, by a subject with the digest
 abbrev pub is_from : Dot → List ℕ → Option given.ConsentGiven → Bool

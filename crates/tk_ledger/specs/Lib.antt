@@ -15,6 +15,7 @@
 --   Index            IsIndexed, the tables beside the facts
 --   Losses           WasIndexed, the tables after the loss of a fact
 --   Retention        MaySkip, the facts of families that are over
+--   Slices           PrunesSome, the store after a slice of a prune
 --   ByTop            by_top, the status of a token by the top of its dot
 pub mod Alike
 pub mod Bodies
@@ -27,6 +28,7 @@ pub mod Laws
 pub mod Losses
 pub mod Retention
 pub mod SignOuts
+pub mod Slices
 pub mod StandingFields
 pub mod Standings
 pub mod Status

@@ -9,6 +9,7 @@
 --   SaysHere          what each status means by what a store knows
 --   IsActive          the token of an access or refresh handle is active
 --   IsKnown, IsLive   a status is known, and its state is Live
+--   is_live           a state is Live
 use Rattle.std.specs.Prelude.{
   ◌≡◌,
   ◌≢◌,
@@ -32,6 +33,7 @@ use Rattle.sha2.specs.Sha256.{sha256}
 use Rattle.tk_handle.specs.declared.dot.Dot.{Dot}
 use Rattle.tk_handle.specs.declared.kind.Kind.{Kind}
 use Rattle.tk_handle.specs.declared.kind.Kind.TheVariants as kind
+use Rattle.tk_handle.specs.Kind.{is_access}
 use Rattle.tk_handle.specs.declared.token_id.TokenId.{TokenId}
 use Rattle.tk_handle.specs.declared.handle.Handle.{Handle}
 use Rattle.tk_handle.specs.Handle.{handle_bytes}
@@ -63,12 +65,6 @@ use Rattle.tk_ledger.specs.declared.status.State.TheVariants as state
 use Rattle.tk_ledger.specs.declared.status.Status.{Status}
 use Rattle.tk_ledger.specs.declared.status.Status.TheVariants.{Unseen, Wrong, Broken, Known}
 
--- the kind is that of access tokens
-abbrev pub is_access : Kind → Bool
-is_access kind.Code = false
-is_access kind.Access = true
-is_access kind.Refresh = false
-
 -- the first state that holds (own): the family is dead; its client or consent is not live; the
 -- family is over; a fact uses the code or refresh token; the token is past; its client revoked the
 -- access token; or none of these
@@ -82,6 +78,16 @@ state_in F now k minted root =
     else if nat_le minted.expiry now then state.Past
     else if is_access k.kind && is_ended F k then state.Ended
     else state.Live
+
+-- the state is that of a live token
+abbrev pub is_live : State → Bool
+is_live state.Dead = false
+is_live state.Withdrawn = false
+is_live state.Over = false
+is_live state.Used = false
+is_live state.Past = false
+is_live state.Ended = false
+is_live state.Live = true
 
 -- the generation of the fact's tokens: the number of rotations from the code to them
 abbrev pub generation_of : Body → ℕ

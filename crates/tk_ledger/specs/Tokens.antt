@@ -36,6 +36,7 @@ use Rattle.std.specs.FinMap as map
 use Rattle.tk_handle.specs.declared.dot.Dot.{Dot}
 use Rattle.tk_handle.specs.declared.kind.Kind.{Kind}
 use Rattle.tk_handle.specs.declared.kind.Kind.TheVariants as kind
+use Rattle.tk_handle.specs.Kind.{is_code, is_refresh}
 use Rattle.tk_handle.specs.declared.token_id.TokenId.{TokenId}
 use Rattle.tk_family.specs.declared.link.Link.{Link}
 use Rattle.tk_family.specs.declared.link.Link.TheVariants.{Code, Redeems, Rotates}
@@ -208,18 +209,6 @@ sees_reuse k f = reuse_of k f.1
 -- a fact of the set is that the token's reuse was seen
 abbrev pub is_reused : FactSet → TokenId → Bool
 is_reused F k = any_fact (sees_reuse k) F
-
--- the kind is that of refresh tokens
-abbrev pub is_refresh : Kind → Bool
-is_refresh kind.Code = false
-is_refresh kind.Access = false
-is_refresh kind.Refresh = true
-
--- the kind is that of codes
-abbrev pub is_code : Kind → Bool
-is_code kind.Code = true
-is_code kind.Access = false
-is_code kind.Refresh = false
 
 -- the token is a refresh token that its client revoked (RFC 7009, 2.1), or a code whose subject
 -- signed out (own)

@@ -22,8 +22,6 @@ ghost use Rattle.tk_store.specs.StoreFields.{held_facts};
 ghost use Rattle.tk_ledger.specs.Clients.{consent_at};
 ghost use Rattle.tk_ledger.specs.Index.{
   is_at,
-  least_dot,
-  greatest_dot,
   consent_cmp,
   consent_key,
   key_of,
@@ -34,23 +32,7 @@ use crate::change::subject_digest;
 use crate::consents::given_in;
 use std::alloc::AllocError;
 use std::collections::BTreeSet;
-use tk_handle::{RegionNumber, Serial};
 use tk_store::FactStore;
-
-// Returns the least and the greatest dot.
-pub(crate) fn dot_range() -> (Dot, Dot)
-    ensures least { result.0 ≡ least_dot }
-    ensures greatest { result.1 ≡ greatest_dot }
-{
-    let (Some(first), Some(last)) = (RegionNumber::new(1), RegionNumber::new(u16::MAX)) else {
-        unreachable!()
-    };
-    let (Some(least), Some(greatest)) = (Dot::new(first, 1), Dot::new(last, Serial::GREATEST))
-    else {
-        unreachable!()
-    };
-    (least, greatest)
-}
 
 // Lists a consent that was given, unless a withdrawal of it is held.
 pub(crate) fn give(

@@ -7,13 +7,14 @@ ghost use Rattle.std.specs.FinMap as map;
 ghost use Rattle.std.specs.List.{find};
 ghost use Rattle.std.specs.Option.{option_copied};
 ghost use Rattle.sha2.specs.Sha256.{sha256};
+ghost use Rattle.tk_handle.specs.Dot.{least_dot, greatest_dot};
 ghost use Rattle.tk_store.specs.StoreFields.{held_facts};
 ghost use Rattle.tk_ledger.specs.Clients as spec;
-ghost use Rattle.tk_ledger.specs.Index.{consent_cmp, consent_key, least_dot, greatest_dot, span_of};
+ghost use Rattle.tk_ledger.specs.Index.{consent_cmp, consent_key, span_of};
 
 use crate::change::subject_digest;
 use crate::compare::{same_bytes, same_dots};
-use crate::consent_keys::{self, ConsentKey, dot_range};
+use crate::consent_keys::{self, ConsentKey};
 use crate::ledger::Ledger;
 use std::collections::BTreeSet;
 use std::ops::Bound;
@@ -59,13 +60,12 @@ fn span(client: Dot, subject: &[u8; 32]) -> (ConsentKey, ConsentKey)
     ensures first { result.0 ≡ consent_key client subject.now least_dot }
     ensures last { result.1 ≡ consent_key client subject.now greatest_dot }
 {
-    let (least, greatest) = dot_range();
     let key = |consent: Dot| ConsentKey {
         client,
         subject: *subject,
         consent,
     };
-    (key(least), key(greatest))
+    (key(Dot::least()), key(Dot::greatest()))
 }
 
 impl Ledger {

@@ -1,4 +1,13 @@
 //! The tables of a ledger beside its facts, and the change that one more fact makes in them.
+//!
+//! - Tables by key: clients (`client_rows`), live consents and withdrawals (`consent_keys`),
+//!   revocations (`revocations`), the codes and sign-outs of subjects (`subject_keys`), and reuses
+//!   (`reuses`).
+//! - A forest of families, with the marks of all codes and refresh tokens in a family.
+//!
+//! `change` has the change that a fact makes in the index, and `unfollow` undoes it for a fact that
+//! is lost. `wake` writes the marks at a dot anew: of refresh tokens that their client revoked,
+//! codes whose subject signed out, and tokens whose reuse was seen, whichever fact arrives first.
 
 use crate::client_rows::ClientRow;
 use crate::consent_keys::ConsentKey;

@@ -1,5 +1,6 @@
 //! The laws of the ledger: functions with empty bodies, whose contracts hold of all sets of facts.
 
+ghost use Rattle.tk_ledger.specs.Slices.{PassEnds};
 ghost use Rattle.tk_ledger.specs.Laws.{
   UsedDecided,
   TwiceDecided,
@@ -106,4 +107,10 @@ pub fn bad_grants()
 /// later, is active, at any moment and whatever facts are added (own).
 pub fn signed_out_inactive()
     ensures { SignedOutInactive }
+{}
+
+/// States a law: a pass of slices, from no cursor until none is returned, by which no fact went
+/// leaves no fact that may go. Each slice looks at one fact or more (own).
+pub fn pass_ends()
+    ensures { PassEnds }
 {}

@@ -1,41 +1,23 @@
 //! What is known of facts, and what follows from it for clients, consents and tokens.
 //!
-//! A `Ledger` holds the facts of one region, in a `FactStore`.
+//! A `Ledger` holds the facts of one region, in a `FactStore`, and tables beside it, the `Index`,
+//! which no crate above sees. Facts may be from anyone and arrive in any order, and be skipped in
+//! any order: each look-up returns what the facts that are held determine, without memory. At a
+//! skipped dot each status is wrong. The ledger decides no request, reads no bytes and has no
+//! clock.
 //!
 //! - `add` adds a fact or refuses it. `Join` joins two ledgers, as their stores are.
 //! - `skip` drops a fact for good and keeps its dot known. `prune` skips all facts of families that
-//!   are over at a moment, and raises the `horizon` to it.
-//! - `client` and `consent` return what was added and given at a dot. `consent_for` finds the
-//!   consent for a scope.
-//! - `revoked` returns whether a client revoked a token, `signed_out` when a subject last signed
-//!   out.
-//! - `status` returns the status of a handle at a moment, by one to eight look-ups.
+//!   are over at a moment, and raises the `horizon` to it. `prune_some` does so for some facts at a
+//!   time.
+//! - `client`, `consent` and `consent_for` look up clients and consents, `revoked` and `signed_out`
+//!   revocations and sign-outs. `status` returns the status of a handle, by one to eight look-ups.
 //!
-//! The ledger decides no request: that is for the crates above. It reads no bytes: facts come as
-//! values. It has no clock: its callers pass the moment.
-//!
-//! No look-up allocates memory. Facts may be from anyone and arrive in any order, and be skipped in
-//! any order: each look-up returns what the facts that are held determine. At a skipped dot each
-//! status is wrong.
-//!
-//! Contracts see a ledger as its store alone: the facts that are held, the dots that are skipped,
-//! and the horizon. Beside the store, the ledger keeps an `Index`, which no crate above sees:
-//!
-//! - tables by key: clients (`client_rows`), live consents and withdrawals (`consent_keys`),
-//!   revocations (`revocations`), the codes and sign-outs of subjects (`subject_keys`), and reuses
-//!   (`reuses`)
-//! - a forest of families, with the marks of all codes and refresh tokens in a family
-//!
-//! `change` has the change that a fact makes in the index, `index` makes the change, and `unfollow`
-//! undoes it for a fact that is lost. `wake` writes the marks at a dot anew: of refresh tokens that
-//! their client revoked, codes whose subject signed out, and tokens whose reuse was seen, whichever
-//! fact arrives first. `looks`, `clients`, `consents`, `sign_outs` and `standing` look facts up.
-//! `retention` lists the facts of families that are over, and `prune` skips them.
-//!
-//! In reading order: `Ledger`, `ClientView`, `ConsentView`, `Status`, `Standing`, `State`. The
+//! In reading order: `Ledger`, `ClientView`, `ConsentView`, `Status`, `Standing`, `State`; `index`
+//! for the tables and the change that a fact makes in them, `wake` for the marks of a dot. The
 //! definitions are in `specs/`: `Clients`, `SignOuts`, `Tokens`, `Status`, `Standings`, `Ends`; for
-//! the index `Changes`, `Index`, `Losses`, `ByTop`; for pruning `Retention`. The functions of
-//! `laws` have empty bodies: they state the laws in `specs/Laws.antt`.
+//! the index `Changes`, `Index`, `Losses`, `ByTop`; for pruning `Retention`, `Slices`. The
+//! functions of `laws` have empty bodies: they state the laws in `specs/Laws.antt`.
 #![tactic(auto)]
 
 mod change;
@@ -57,6 +39,7 @@ mod reuses;
 mod revocations;
 mod root;
 mod sign_outs;
+mod slices;
 mod standing;
 mod status;
 mod subject_keys;
@@ -66,8 +49,9 @@ mod wake;
 pub use client_view::ClientView;
 pub use consent_view::ConsentView;
 pub use laws::{
-    bad_grants, death_stays, ended_stays, family_inactive, retired_stays, revoked_inactive,
-    signed_out_inactive, status_says, tests_decide, uses_agree, withdrawn_stays,
+    bad_grants, death_stays, ended_stays, family_inactive, pass_ends, retired_stays,
+    revoked_inactive, signed_out_inactive, status_says, tests_decide, uses_agree, withdrawn_stays,
 };
 pub use ledger::Ledger;
+pub use slices::Slice;
 pub use status::{Standing, State, Status};

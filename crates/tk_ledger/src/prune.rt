@@ -20,7 +20,7 @@ use tk_handle::{Dot, Moment};
 use tk_store::{AddError, Added, FactStore};
 
 // Skips a dot, and brings the tables up to date with the loss of its fact, if it had one.
-fn skip_at(store: &mut FactStore, index: &mut Index, dot: Dot) -> Result<Added, AddError>
+pub(crate) fn skip_at(store: &mut FactStore, index: &mut Index, dot: Dot) -> Result<Added, AddError>
     requires { IsIndexed (held_facts store.old) index.old }
     ensures skips { Skips store.old dot result store.new }
     ensures known { map.get store.old.slots dot ≢ None → result ≢ Err error.Memory }

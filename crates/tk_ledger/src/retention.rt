@@ -36,7 +36,7 @@ fn is_over(facts: &FactStore, forest: &Forest, horizon: Moment, token: &TokenId)
 }
 
 // Returns whether the fact is kept for a token of a family that is over at the horizon.
-fn may_skip(facts: &FactStore, forest: &Forest, horizon: Moment, fact: &Fact) -> bool
+pub(crate) fn may_skip(facts: &FactStore, forest: &Forest, horizon: Moment, fact: &Fact) -> bool
     requires links { (q : the_dot)
         → map.get forest.now.links q ≡ links_in (map.get (held_facts facts.now)) q }
     ensures { result ≡ spec.may_skip (held_facts facts.now) horizon fact.now }

@@ -15,17 +15,14 @@ pub(crate) struct ReuseKey {
 ghost use Rattle.std.specs.Prelude.{◌≡◌, OnOk, OnErr, cond, true, false};
 ghost use Rattle.std.specs.Ordering.{eq_by_cmp};
 ghost use Rattle.std.specs.BTreeSet.{contains};
-ghost use Rattle.tk_handle.specs.Dot.{IsDot};
+ghost use Rattle.tk_handle.specs.Dot.{IsDot, least_dot, greatest_dot};
 ghost use Rattle.tk_ledger.specs.declared.reuses.ReuseKey.{ReuseKey as the_key};
 ghost use Rattle.tk_ledger.specs.Index.{
-  least_dot,
-  greatest_dot,
   reuse_cmp,
   reuse_key,
   has_reuse,
 };
 
-use crate::consent_keys::dot_range;
 use std::alloc::AllocError;
 use std::collections::BTreeSet;
 use std::ops::Bound;
@@ -74,8 +71,7 @@ fn reuse_span(token: &TokenId) -> (ReuseKey, ReuseKey)
     ensures first { result.0 ≡ reuse_key token.now least_dot }
     ensures last { result.1 ≡ reuse_key token.now greatest_dot }
 {
-    let (least, greatest) = dot_range();
-    (key(token, least), key(token, greatest))
+    (key(token, Dot::least()), key(token, Dot::greatest()))
 }
 
 // Returns whether a reuse of the token was seen, by one look-up.

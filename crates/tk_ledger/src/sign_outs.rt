@@ -1,10 +1,10 @@
 //! Sign-outs: the last sign-out of a subject, and whether a sign-out stops a code.
 
-ghost use Rattle.std.specs.Prelude.{◌≡◌, ℕ, Some};
+ghost use Rattle.std.specs.Prelude.{◌≡◌, Some};
 ghost use Rattle.std.specs.BTreeSet.{IsOrdered};
 ghost use Rattle.std.specs.FinMap as map;
 ghost use Rattle.std.specs.List.{find};
-ghost use Rattle.std.specs.Option.{option_copied, option_map};
+ghost use Rattle.std.specs.Option.{option_copied};
 ghost use Rattle.sha2.specs.Sha256.{sha256};
 ghost use Rattle.tk_fact.specs.declared.subject_out.SubjectOut as out;
 ghost use Rattle.tk_store.specs.StoreFields.{held_facts};

@@ -3,6 +3,7 @@
 ghost use Rattle.std.specs.Prelude.{◌≡◌, ◌+◌, ◌^◌, ◌<◌, ◌≤◌, Some};
 ghost use Rattle.std.specs.Option.{option_copied, option_map};
 ghost use Rattle.std.specs.FinMap as map;
+ghost use Rattle.tk_handle.specs.Kind as kinds;
 ghost use Rattle.tk_fact.specs.Tokens.{minted_of, shown_minted};
 ghost use Rattle.tk_store.specs.SlotShown.{IsShown};
 ghost use Rattle.tk_store.specs.StoreFields.{held_facts};
@@ -52,7 +53,7 @@ fn generation(body: &Body) -> u16
 
 // Returns whether the kind is that of access tokens.
 fn is_access(kind: Kind) -> bool
-    ensures { result ≡ spec.is_access kind }
+    ensures { result ≡ kinds.is_access kind }
 {
     matches!(kind, Kind::Access)
 }

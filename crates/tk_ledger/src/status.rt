@@ -26,6 +26,26 @@ pub enum State {
     Live,
 }
 
+ghost use Rattle.std.specs.Prelude.{◌≡◌};
+ghost use Rattle.tk_ledger.specs.Status.{is_live};
+
+impl State {
+    /// Returns whether the state is `Live`.
+    pub fn is_live(self) -> bool
+        ensures { result ≡ is_live self }
+    {
+        match self {
+            State::Dead
+            | State::Withdrawn
+            | State::Over
+            | State::Used
+            | State::Past
+            | State::Ended => false,
+            State::Live => true,
+        }
+    }
+}
+
 /// The standing of a token: what is known of a token under a code.
 #[derive(Drop)]
 pub struct Standing<'a> {

@@ -24,13 +24,11 @@ pub(crate) struct OutKey {
 ghost use Rattle.std.specs.Prelude.{◌≡◌, OnOk, OnErr, cond, true, false};
 ghost use Rattle.std.specs.Ordering.{eq_by_cmp};
 ghost use Rattle.std.specs.BTreeSet.{contains};
-ghost use Rattle.tk_handle.specs.Dot.{IsDot};
+ghost use Rattle.tk_handle.specs.Dot.{IsDot, least_dot, greatest_dot};
 ghost use Rattle.tk_handle.specs.Ranges.{IsMoment, greatest_moment};
 ghost use Rattle.tk_ledger.specs.declared.subject_keys.CodeKey.{CodeKey as the_code};
 ghost use Rattle.tk_ledger.specs.declared.subject_keys.OutKey.{OutKey as the_out};
 ghost use Rattle.tk_ledger.specs.Index.{
-  least_dot,
-  greatest_dot,
   code_cmp,
   code_key,
   out_cmp,
@@ -38,7 +36,6 @@ ghost use Rattle.tk_ledger.specs.Index.{
   left_after,
 };
 
-use crate::consent_keys::dot_range;
 use std::alloc::AllocError;
 use std::collections::BTreeSet;
 use tk_handle::Moment;
@@ -87,13 +84,12 @@ pub(crate) fn code_span(subject: &[u8; 32], first: u64, last: u64) -> (CodeKey, 
     ensures first { result.0 ≡ code_key subject.now first least_dot }
     ensures last { result.1 ≡ code_key subject.now last greatest_dot }
 {
-    let (least, greatest) = dot_range();
     let key = |start: u64, code: Dot| CodeKey {
         subject: *subject,
         start,
         code,
     };
-    (key(first, least), key(last, greatest))
+    (key(first, Dot::least()), key(last, Dot::greatest()))
 }
 
 // ---- sign-outs
@@ -136,11 +132,10 @@ pub(crate) fn out_span(subject: &[u8; 32]) -> (OutKey, OutKey)
     ensures first { result.0 ≡ out_key subject.now 0 least_dot }
     ensures last { result.1 ≡ out_key subject.now greatest_moment greatest_dot }
 {
-    let (least, greatest) = dot_range();
     let key = |left: u64, place: Dot| OutKey {
         subject: *subject,
         left,
         place,
     };
-    (key(0, least), key(Moment::GREATEST, greatest))
+    (key(0, Dot::least()), key(Moment::GREATEST, Dot::greatest()))
 }

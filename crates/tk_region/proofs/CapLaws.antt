@@ -5,7 +5,8 @@
 --   capped_added   a region that adds its next fact
 --   capped_taken   a region that takes in a bundle
 --   capped_pruned  a region that is pruned
-use Rattle.std.proofs.Common.{◌≡◌, ℕ, zero, suc, ◌+◌, ◌<◌, ◌≤◌, ◌==◌, ◌&&◌, ◌||◌, Bool, true, false, if◌then◌else◌, nat_le, max, [], ◌∷◌, take, Option, Some, None, Result, Ok, Err, refl, sym, ap, subst, ◌∙◌, inl, inr, arith}
+--   capped_sliced  a region of which a slice is pruned
+use Rattle.std.proofs.Common.{◌≡◌, ℕ, zero, suc, ◌+◌, ◌<◌, ◌≤◌, ◌==◌, ◌&&◌, ◌||◌, Bool, true, false, if◌then◌else◌, nat_le, max, List, [], ◌∷◌, take, Option, Some, None, Result, Ok, Err, refl, sym, ap, subst, ◌∙◌, inl, inr, arith}
 use mathlib.Core.Bool.{false≢true}
 use Rattle.std.specs.FinMap as map
 use Rattle.std.proofs.lemmas.Bool.Decides.{nat_tests}
@@ -15,13 +16,15 @@ use Rattle.tk_handle.specs.Ranges.{greatest_serial}
 use Rattle.tk_fact.specs.declared.body.Body.{Body}
 use Rattle.tk_store.specs.FactSet.{AllIn}
 use Rattle.tk_store.specs.NextDot.{last_serial, next_serial}
-use Rattle.tk_store.specs.Slots.{Slot, Slots, held_slot, joined_slot, with_slots}
-use Rattle.tk_store.specs.StoreFields.{StoreFields, empty_store, with_fact}
+use Rattle.tk_store.specs.Slots.{Slot, Slots, Skipped, held_slot, joined_slot, with_slots}
+use Rattle.tk_store.specs.StoreFields.{StoreFields, empty_store, with_fact, with_horizon, with_skipped}
 use Rattle.tk_store.proofs.EntryLaws.{AllIn-entries}
 use Rattle.tk_store.proofs.NextDotLaws.{next_is_free}
 use Rattle.tk_store.proofs.PutLaws.{of_dot, none_is_not_some}
 use Rattle.tk_store.proofs.SlotLaws.{get_held}
 use Rattle.tk_ledger.specs.Retention.{Prunes}
+use Rattle.tk_ledger.specs.Slices.{Goes, PrunesSome, Steps}
+use Rattle.tk_ledger.specs.declared.slices.Slice.{Slice}
 use Rattle.tk_bundle.specs.BundleFields.{BundleFields, Items}
 use Rattle.tk_message.specs.Place.{next_in}
 use Rattle.tk_region.specs.declared.take.TakeError.{TakeError}
@@ -138,3 +141,27 @@ module _ (n : ℕ) (s : SettingsFields) (P Q : StoreFields) (k : IsCapped (recor
       was : {d : Dot} → (o : Option Slot) → map.get P.slots d ≡ o → (b : Body) → held_slot o ≡ Some b → d.region ≡ n → d.serial ≤ s.cap
       was None at b h here = absurd (none_is_not_some b h)
       was {d} (Some t) at b h here = k.own d t at here
+
+module _ (n : ℕ) (s : SettingsFields) where
+  abbrev IsCappedWith : StoreFields → Type 0
+  IsCappedWith P = IsCapped (record { number = n; settings = s; facts = P })
+
+  -- a dot with a fact that may go is known
+  go_under : (P : StoreFields) (d : Dot) → IsCappedWith P → Goes P d → d.region ≡ n → d.serial ≤ s.cap
+  go_under P d k go here = by go
+    where
+      was : (o : Option Slot) → map.get P.slots d ≡ o → (b : Body) → held_slot o ≡ Some b → d.serial ≤ s.cap
+      was None at b h = absurd (none_is_not_some b h)
+      was (Some t) at b h = k.own d t at here
+
+      by : Goes P d → d.serial ≤ s.cap
+      by (inl may) = was (map.get P.slots d) refl may.fact (sym (get_held P.slots d) ∙ may.here)
+      by (inr names) = was (map.get P.slots d) refl names.fact (sym (get_held P.slots d) ∙ names.here)
+
+  capped_steps : (P Q : StoreFields) (ds : List Dot) → IsCappedWith P → Steps P ds Q → IsCappedWith Q
+  capped_steps P Q [] k is = subst IsCappedWith (sym is) k
+  capped_steps P Q (d ∷ ds) k steps =
+      capped_steps (with_skipped P d) Q ds (record { own = under_put n s.cap P.slots d Skipped (go_under P d k steps.0) k.own; low = k.low }) steps.1
+
+  pub capped_sliced : (P Q : StoreFields) (moment : ℕ) (after : Option Dot) (count : ℕ) (slice : Slice) → IsCappedWith P → PrunesSome P moment after count slice Q → IsCappedWith Q
+  capped_sliced P Q moment after count slice k looks = capped_steps (with_horizon P moment) Q looks.went.dots (record { own = k.own; low = k.low }) looks.went.steps

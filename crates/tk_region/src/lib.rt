@@ -8,8 +8,9 @@
 //! - `commit` adds the fact, and returns the reply only then. `handle` does both.
 //! - `take_in` takes a bundle's facts and marks into the ledger, or refuses all of them before it
 //!   changes anything.
-//! - `prune` skips the facts of families that are over. `prune` and `take_in` raise the `horizon`,
-//!   before which each request gets the reply 503 `temporarily_unavailable`.
+//! - `prune` skips the facts of families that are over, and `prune_some` some of them at a time.
+//!   These two and `take_in` raise the `horizon`, before which each request gets the reply 503
+//!   `temporarily_unavailable`.
 //! - `page` makes a bundle for another region, by the `vector` of that region.
 //!
 //! In reading order: `Settings`, `Region`, `Prepared`, `Handled`, `TakeError`. The definitions are

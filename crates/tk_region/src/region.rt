@@ -3,7 +3,7 @@
 use crate::settings::Settings;
 use std::marker::Model;
 use tk_handle::RegionNumber;
-use tk_ledger::Ledger;
+use tk_ledger::{Ledger, Slice};
 
 /// A region. Contracts see its number, its settings and its store: the facts, the marks of skipped
 /// facts, and the horizon.
@@ -41,6 +41,7 @@ ghost use Rattle.tk_store.specs.Front.{IsFront};
 ghost use Rattle.tk_store.specs.NextDot.{next_serial, next_dot};
 ghost use Rattle.tk_store.specs.StoreFields.{empty_store, held_facts, with_fact};
 ghost use Rattle.tk_ledger.specs.Retention.{Prunes};
+ghost use Rattle.tk_ledger.specs.Slices.{PrunesSome};
 ghost use Rattle.tk_bundle.specs.Bundle.{bundle};
 ghost use Rattle.tk_bundle.specs.News.{news_of, record_of};
 ghost use Rattle.tk_bundle.specs.Page as pages;
@@ -58,7 +59,7 @@ use tk_bundle::{Bundle, Page, make, news};
 use tk_fact::Fact;
 use tk_grant::repeat_of;
 use tk_handle::{Dot, Moment};
-use tk_message::{Place, Reply, Request};
+use tk_message::{Choices, Place, Reply, Request};
 use tk_store::{AddError, Added};
 use tk_vector::VersionVector;
 
@@ -150,6 +151,13 @@ impl Region {
         ensures { result ≡ self.now.facts.horizon }
     {
         self.ledger.horizon()
+    }
+
+    /// Returns what the region does if the profile leaves a choice.
+    pub fn choices(&self) -> Choices
+        ensures { result ≡ self.now.settings.choices }
+    {
+        self.settings.choices()
     }
 
     /// Decides a request at a moment. Returns the reply, the fact that the request makes, and the
@@ -299,6 +307,20 @@ impl Region {
         ensures err { OnErr result (self.new ≡ self.old) }
     {
         self.ledger.prune(alloc, moment)
+    }
+
+    /// Raises the horizon to the moment, looks at `count` facts above the cursor `after`, or from
+    /// the least dot on if it is `None`, and skips each that may go by then.
+    ///
+    /// With n known dots, costs O(log n) for each fact that is looked at, and for each dot under a
+    /// code that goes. Takes no memory, and can't fail. [`Ledger::prune_some`] says which facts may
+    /// go, and what a pass over all facts is.
+    pub fn prune_some(&mut self, moment: Moment, after: Option<Dot>, count: u64) -> Slice
+        ensures number { self.new.number ≡ self.old.number }
+        ensures settings { self.new.settings ≡ self.old.settings }
+        ensures prunes { PrunesSome self.old.facts moment after count result self.new.facts }
+    {
+        self.ledger.prune_some(moment, after, count)
     }
 }
 

@@ -30,12 +30,10 @@ ghost use Rattle.std.specs.Prelude.{
   None,
 };
 ghost use Rattle.std.specs.FinMap as map;
-ghost use Rattle.std.specs.Option.{option_map};
 ghost use Rattle.tk_store.specs.SlotJoining.{Passes};
 ghost use Rattle.tk_store.specs.SlotOrder.{SlotAgrees};
 ghost use Rattle.tk_store.specs.SlotShown.{shown_slot};
 ghost use Rattle.tk_bundle.specs.Bundle.{bundle};
-ghost use Rattle.tk_bundle.specs.BundleFields.{BundleFields};
 ghost use Rattle.tk_region.specs.Taking as spec;
 
 use std::alloc::AllocError;

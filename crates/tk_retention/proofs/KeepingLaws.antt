@@ -14,7 +14,7 @@ use Rattle.tk_family.specs.declared.link.Link.{Link}
 use Rattle.tk_family.specs.declared.link.Link.TheVariants.{Code, Redeems, Rotates}
 use Rattle.tk_family.specs.Families.{Links, used_by, named_by, IsParent, IsTrail, use_of}
 use Rattle.tk_family.proofs.DotLaws.{cases_dots}
-use Rattle.tk_family.proofs.FamilyLaws.{IsUnder-within}
+use Rattle.tk_family.proofs.FamilyLaws.{IsParent-within, IsUnder-within}
 use Rattle.tk_fact.specs.Tokens.{MintedFields, minted_of}
 use Rattle.tk_fact.specs.declared.body.Body.{Body}
 use Rattle.tk_store.specs.FactSet.{FactSet, IsSubset}
@@ -133,7 +133,8 @@ module _ (U V : FactSet) (d : Dot) (b : Body) (A : AddsOne U d b V) (sound : Are
       let by = parent_use (links_in (map.get V)) e p a in
       let u : use_of (links_in (map.get U) e) ≡ Some by.0 = ap use_of (sym (links_old e ne)) ∙ by.1 in
       let free : map.get U by.0.dot ≡ None = ap (map.get U) (by.2 ∙ same) ∙ A.free in
-      sound.names e by.0 u (ap (option_and_then (λ (x : Body). minted_of x by.0.kind)) free)
+      let old = sound.parents e by.0 u in
+      none_some (links_in (map.get U) by.0.dot) old.above (ap (option_and_then link_of) free) old.there
 
   trail_old : (q : Dot) (ps : List Dot) (c : Dot) → q ≢ d → IsTrail (links_in (map.get V)) q ps c → IsTrail (links_in (map.get U)) q ps c
   trail_old q [] c ne m = m
@@ -158,8 +159,15 @@ module _ (U V : FactSet) (d : Dot) (b : Body) (A : AddsOne U d b V) (sound : Are
           (record { path = under.path; leads = (trail_old k.dot under.path c ne under.leads.0, sym (links_old c away) ∙ under.leads.1) })
           (ap (option_and_then issued_in) (sym (A.others c away)) ∙ is)
     ];
-    names = λ e k u. elim (cases_dots e d) [
-      | inl same ↦ minted_more U V (part_of_adds U V d b A) k (minted_in (map.get U) k) refl (meets.named k (subst (λ (x : Dot). use_of (links_in (map.get V) x) ≡ Some k) same u))
-      | inr ne ↦ minted_more U V (part_of_adds U V d b A) k (minted_in (map.get U) k) refl (sound.names e k (ap use_of (sym (links_old e ne)) ∙ u))
+    parents = λ e k u. elim (cases_dots e d) [
+      | inl same ↦ subst (λ (x : Dot). IsParent (links_in (map.get V)) x k.dot) (sym same) (meets.parent k (subst (λ (x : Dot). use_of (links_in (map.get V) x) ≡ Some k) same u))
+      | inr ne ↦ IsParent-within (links_in (map.get U)) (links_in (map.get V)) (links-below U V part) e k.dot (sound.parents e k (ap use_of (sym (links_old e ne)) ∙ u))
+    ];
+    reuses = λ e reuse at. elim (cases_dots e d) [
+      | inl same ↦ minted_more U V part reuse.token (minted_in (map.get U) reuse.token) refl (meets.reused reuse (ap (map.get V) (sym same) ∙ at))
+      | inr ne ↦ minted_more U V part reuse.token (minted_in (map.get U) reuse.token) refl (sound.reuses e reuse (sym (A.others e ne) ∙ at))
     ];
   }
+    where
+      part : IsSubset U V
+      part = part_of_adds U V d b A

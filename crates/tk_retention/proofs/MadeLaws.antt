@@ -1,5 +1,5 @@
 -- What a fact that a region makes uses and mints. Key result:
---   made_meets   its tokens end with their family, and what it uses was minted
+--   made_meets   its tokens end with their family, and what it names was minted for it
 use Rattle.std.proofs.Common.{◌≡◌, ◌≢◌, ℕ, ◌≤◌, nat_lt, true, false, ◌&&◌, cond, List, [], ◌∷◌, Option, None, Some, is_some, IfSome, option_map, refl, sym, ap, subst, ◌∙◌}
 use Rattle.std.specs.FinMap as map
 use Rattle.std.specs.Option.{option_and_then}
@@ -9,12 +9,14 @@ use Rattle.tk_handle.specs.declared.kind.Kind.TheVariants as kind
 use Rattle.tk_handle.specs.declared.token_id.TokenId.{TokenId}
 use Rattle.tk_family.specs.declared.link.Link.{Link}
 use Rattle.tk_family.specs.declared.link.Link.TheVariants.{Code, Redeems, Rotates}
-use Rattle.tk_family.specs.Families.{IsPath, IsUnder, named_by, use_of}
+use Rattle.tk_family.specs.Families.{IsParent, IsPath, IsUnder, named_by, use_of}
 use Rattle.tk_family.proofs.FamilyLaws.{IsUnder-one, IsUnder-within}
-use Rattle.tk_fact.specs.Tokens.{MintedFields, minted_of, uses_of}
+use Rattle.tk_fact.specs.Keeping.{names_of}
+use Rattle.tk_fact.specs.Tokens.{MintedFields, minted_of}
 use Rattle.tk_fact.specs.declared.body.Body.{Body}
 use Rattle.tk_fact.specs.declared.body.Body.TheVariants as body
 use Rattle.tk_fact.specs.declared.code_issued.CodeIssued as issued
+use Rattle.tk_fact.specs.declared.reuse_seen.ReuseSeen as seen
 use Rattle.tk_store.specs.FactSet.{FactSet, IsSubset}
 use Rattle.tk_store.specs.StoreFields.{StoreFields, held_facts}
 use Rattle.tk_store.proofs.PutLaws.{none_is_not_some, some_injective}
@@ -48,11 +50,12 @@ some_known o a h none = none_is_not_some a (sym none ∙ h)
 abbrev MakesWithin : FactSet → Decision → Type 0
 MakesWithin F d = IfSome d.made (IsWithin F)
 
--- a fact that uses no token is within
-alone_within : (F : FactSet) (o : Option Body) → IfSome o (λ b. uses_of b ≡ None) → IfSome o (IsWithin F)
+-- a fact that names no token's dot is within
+alone_within : (F : FactSet) (o : Option Body) → IfSome o (λ b. names_of b ≡ None) → IfSome o (IsWithin F)
 alone_within F None alone = tt
 alone_within F (Some (body.CodeRedeemed f)) alone = absurd (none_is_not_some _ (sym alone))
 alone_within F (Some (body.RefreshRotated f)) alone = absurd (none_is_not_some _ (sym alone))
+alone_within F (Some (body.ReuseSeen f)) alone = absurd (none_is_not_some _ (sym alone))
 alone_within F (Some b) alone = tt
 
 module _ (P : StoreFields) (place : Place) (now : ℕ) (words : List ℕ) (request : RequestFields) where
@@ -138,18 +141,20 @@ module _ (F U V : FactSet) (d : Dot) (b : Body) (part : IsSubset F U) (adds : Ad
   ends_within b' access refresh kind.Access m moment other a r x y h = subst (λ n. n ≤ moment) (sym (a m h)) x
   ends_within b' access refresh kind.Refresh m moment other a r x y h = subst (λ n. n ≤ moment) (sym (r m h)) y
 
--- a fact that is no redemption and no rotation mints codes alone, and uses nothing
-abbrev Alone : Body → Type 0
-Alone b = ((k : Kind) → k ≢ kind.Code → minted_of b k ≡ None) × (use_of (link_of b) ≡ None)
+-- a fact that is no redemption and no rotation mints codes alone, and uses nothing; a reuse is of
+-- what was minted
+abbrev Alone : FactSet → Body → Type 0
+Alone U b = ((k : Kind) → k ≢ kind.Code → minted_of b k ≡ None) × (use_of (link_of b) ≡ None) × ((reuse : seen.ReuseSeen) → b ≡ body.ReuseSeen reuse → minted_in (map.get U) reuse.token ≢ None)
 
-alone_meets : (U V : FactSet) (d : Dot) (b : Body) → AddsOne U d b V → Alone b → MeetsFamily U d V
+alone_meets : (U V : FactSet) (d : Dot) (b : Body) → AddsOne U d b V → Alone U b → MeetsFamily U d V
 alone_meets U V d b adds alone = record {
   cut = λ k m c code same other minted under issues. absurd (none_is_not_some m (sym (alone.0 k.kind other) ∙ sym (minted_here U U V d b (λ q x h. h) adds k same) ∙ minted));
-  named = λ k u. absurd (none_is_not_some k (sym alone.1 ∙ ap use_of (sym (link_here U U V d b (λ q x h. h) adds)) ∙ u));
+  parent = λ k u. absurd (none_is_not_some k (sym alone.1 ∙ ap use_of (sym (link_here U U V d b (λ q x h. h) adds)) ∙ u));
+  reused = λ reuse at. alone.2 reuse (some_injective b (body.ReuseSeen reuse) (sym adds.here ∙ at));
 }
 
-codes_alone : (f : issued.CodeIssued) → Alone (body.CodeIssued f)
-codes_alone f = (none, refl)
+codes_alone : (U : FactSet) (f : issued.CodeIssued) → Alone U (body.CodeIssued f)
+codes_alone U f = (none, refl, λ reuse same. absurd (cc))
   where
     none : (k : Kind) → k ≢ kind.Code → minted_of (body.CodeIssued f) k ≡ None
     none kind.Code other = absurd (other refl)
@@ -168,22 +173,33 @@ meets F U V d (body.CodeRedeemed f) part adds within =
           subst (λ n. m.expiry ≤ n) moment
           (ends_within F U V d b part adds b f.access.expiry f.refresh.expiry k.kind m within.0 other (λ x h. ap (λ (y : MintedFields). y.expiry) (sym (some_injective _ x h))) (λ x h. ap (λ (y : MintedFields). y.expiry) (sym (some_injective _ x h))) within.2 within.3
           (sym (minted_here F U V d b part adds k same) ∙ minted));
-      named = λ k u.
+      parent = λ k u.
           let is : record { dot = f.code; kind = kind.Code } ≡ k = some_injective _ k (ap use_of (sym (link_here F U V d b part adds)) ∙ u) in
-          subst (λ (x : TokenId). minted_in (map.get U) x ≢ None) is (code_minted of.0 of.1);
+          subst (λ (x : TokenId). IsParent (links_in (map.get V)) d x.dot) is (record {
+            link = Redeems f.code;
+            above = Code;
+            here = link_here F U V d b part adds;
+            names = refl;
+            there = code_link of.0 (code_grown F U V d b part adds f.code of.0 of.1);
+            fitting = refl;
+          });
+      reused = λ reuse at. absurd (no_reuse reuse (some_injective b (body.ReuseSeen reuse) (sym adds.here ∙ at)));
     }
   where
     no_code : Redeems f.code ≡ Code → ⊥
     no_code e = cc
 
-    code_minted : (code : issued.CodeIssued) → issued_at (map.get F) f.code ≡ Some code → minted_in (map.get U) (record { dot = f.code; kind = kind.Code }) ≢ None
-    code_minted code h =
-        let from = from_some issued_in (map.get F f.code) code h in
-        by from.0 (part f.code from.0 from.1) from.2
+    no_reuse : (reuse : seen.ReuseSeen) → body.CodeRedeemed f ≡ body.ReuseSeen reuse → ⊥
+    no_reuse reuse e = cc
+
+    code_link : (code : issued.CodeIssued) → issued_at (map.get V) f.code ≡ Some code → links_in (map.get V) f.code ≡ Some Code
+    code_link code h =
+        let from = from_some issued_in (map.get V f.code) code h in
+        ap (option_and_then link_of) from.1 ∙ by from.0 from.2
       where
-        by : (x : Body) → map.get U f.code ≡ Some x → issued_in x ≡ Some code → minted_in (map.get U) (record { dot = f.code; kind = kind.Code }) ≢ None
-        by (body.CodeIssued y) at is = some_known (minted_in (map.get U) (record { dot = f.code; kind = kind.Code })) _ (ap (option_and_then (λ (z : Body). minted_of z kind.Code)) at)
-        by x at is = absurd (none_is_not_some code is)
+        by : (x : Body) → issued_in x ≡ Some code → link_of x ≡ Some Code
+        by (body.CodeIssued y) is = refl
+        by x is = absurd (none_is_not_some code is)
 meets F U V d (body.RefreshRotated f) part adds within =
     let b : Body = body.RefreshRotated f in
     let root = within.1 in
@@ -198,18 +214,35 @@ meets F U V d (body.RefreshRotated f) part adds within =
           subst (λ n. m.expiry ≤ n) ends
           (ends_within F U V d b part adds b f.access.expiry f.refresh.expiry k.kind m moment other (λ x h. ap (λ (y : MintedFields). y.expiry) (sym (some_injective _ x h))) (λ x h. ap (λ (y : MintedFields). y.expiry) (sym (some_injective _ x h))) within.5 within.6
           (sym (minted_here F U V d b part adds k same) ∙ minted));
-      named = λ k u.
+      parent = λ k u.
           let is : record { dot = f.parent; kind = kind.Refresh } ≡ k = some_injective _ k (ap use_of (sym (link_here F U V d b part adds)) ∙ u) in
-          subst (λ (x : TokenId). minted_in (map.get U) x ≢ None) is
-          (minted_more F U part (record { dot = f.parent; kind = kind.Refresh }) (minted_in (map.get F) (record { dot = f.parent; kind = kind.Refresh })) refl within.0);
+          subst (λ (x : TokenId). IsParent (links_in (map.get V)) d x.dot) is (record {
+            link = Rotates f.parent f.generation;
+            above = within.0.0;
+            here = link_here F U V d b part adds;
+            names = refl;
+            there = links-below F V (grown F U V d b part adds) f.parent within.0.0 within.0.1;
+            fitting = within.0.2;
+          });
+      reused = λ reuse at. absurd (no_reuse reuse (some_injective b (body.ReuseSeen reuse) (sym adds.here ∙ at)));
     }
   where
     no_code : Rotates f.parent f.generation ≡ Code → ⊥
     no_code e = cc
-meets F U V d (body.CodeIssued f) part adds within = alone_meets U V d (body.CodeIssued f) adds (codes_alone f)
-meets F U V d b part adds within = alone_meets U V d b adds (λ k other. refl, refl)
 
--- a fact that a region makes ends with its family, and uses what was minted
+    no_reuse : (reuse : seen.ReuseSeen) → body.RefreshRotated f ≡ body.ReuseSeen reuse → ⊥
+    no_reuse reuse e = cc
+meets F U V d (body.CodeIssued f) part adds within = alone_meets U V d (body.CodeIssued f) adds (codes_alone U f)
+meets F U V d (body.ReuseSeen f) part adds within = alone_meets U V d (body.ReuseSeen f) adds (
+  λ k other. refl,
+  refl,
+  λ reuse same.
+      let is : f ≡ reuse = cc in
+      subst (λ (x : seen.ReuseSeen). minted_in (map.get U) x.token ≢ None) is (minted_more F U part f.token (minted_in (map.get F) f.token) refl within),
+)
+meets F U V d b part adds within = alone_meets U V d b adds (λ k other. refl, refl, λ reuse same. absurd (cc))
+
+-- a fact that a region makes ends with its family, and names what was minted for it
 pub made_meets : (r : RegionFields) (U V : FactSet) (now : ℕ) (words : List ℕ) (request : RequestFields) → IsSubset (held_facts r.facts) U
     → IfSome (prepared_of r now words request).fact (λ f. AddsOne U f.0 f.1 V → MeetsFamily U f.0 V)
 made_meets r U V now words request part =

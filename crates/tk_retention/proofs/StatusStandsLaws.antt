@@ -13,6 +13,7 @@ use Rattle.tk_handle.specs.declared.handle.Handle.{Handle}
 use Rattle.tk_handle.specs.declared.kind.Kind.{Kind}
 use Rattle.tk_handle.specs.declared.kind.Kind.TheVariants as kind
 use Rattle.tk_handle.specs.declared.token_id.TokenId.{TokenId}
+use Rattle.tk_handle.specs.Kind.{is_access}
 use Rattle.tk_family.specs.declared.link.Link.{Link}
 use Rattle.tk_family.specs.declared.link.Link.TheVariants.{Code, Redeems, Rotates}
 use Rattle.tk_family.specs.Families.{IsUnder}
@@ -28,7 +29,7 @@ use Rattle.tk_store.proofs.PutLaws.{none_is_not_some, some_injective}
 use Rattle.tk_store.proofs.SlotLaws.{get_held}
 use Rattle.tk_ledger.specs.Clients.{is_live_client, gives, is_live_consent}
 use Rattle.tk_ledger.specs.StandingFields.{StandingFields}
-use Rattle.tk_ledger.specs.Status.{is_access, generation_of, state_in, standing_in, digest_of, with_digest, minted_as, status_by, status_in, status_here}
+use Rattle.tk_ledger.specs.Status.{generation_of, state_in, standing_in, digest_of, with_digest, minted_as, status_by, status_in, status_here}
 use Rattle.tk_ledger.specs.Tokens.{link_of, links_in, issued_in, issued_at, minted_in, Root, root_in, is_used, is_ended, is_dead}
 use Rattle.tk_ledger.specs.declared.status.State.{State}
 use Rattle.tk_ledger.specs.declared.status.State.TheVariants as state
@@ -95,7 +96,7 @@ digest_kept digest (Some x) m h = kept (bytes_eq x.digest digest) h
     kept true e = e
     kept false e = absurd (none_is_not_some m e)
 
-mint_link : (b : Body) (k : Kind) (m : MintedFields) → minted_of b k ≡ Some m → (l : Link) × (link_of b ≡ Some l)
+pub mint_link : (b : Body) (k : Kind) (m : MintedFields) → minted_of b k ≡ Some m → (l : Link) × (link_of b ≡ Some l)
 mint_link (body.CodeIssued c) k m h = (Code, refl)
 mint_link (body.CodeRedeemed r) k m h = (Redeems r.code, refl)
 mint_link (body.RefreshRotated r) k m h = (Rotates r.parent r.generation, refl)

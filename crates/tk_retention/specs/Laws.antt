@@ -4,12 +4,16 @@
 --   DecisionStands  from the horizon on, a request is decided by the store as by the facts
 --   RegionStands    from the horizon on, a region prepares what the facts determine
 --   PruneStands     a store that was pruned stands for the same facts
+--   GoesSoundly     a fact that may go, by what the store knows, may be skipped
+--   SliceStands     a store of which a slice was pruned stands for the same facts
+--   Progresses      as long as a fact of a family that is over is held, some fact may go
 --   MoreStands      a store stands for the same facts when more were made
 --   MarkStands, FactStands, DropStands
 --                   what a store stands for once a dot was skipped, and once a fact came
 --   SoundStays      all facts made stay sound with one more
---   MadeMeets       a fact that a region makes ends with its family, and uses what was minted
-use Rattle.std.specs.Prelude.{◌≡◌, ◌≢◌, ◌≤◌, ℕ, true, List, Some, IfSome}
+--   MadeMeets       a fact that a region makes ends with its family, and names what was minted
+--                   for it
+use Rattle.std.specs.Prelude.{◌≡◌, ◌≢◌, ◌≤◌, ℕ, true, List, Option, Some, IfSome}
 use Rattle.std.specs.FinMap as map
 use Rattle.tk_handle.specs.declared.dot.Dot.{Dot}
 use Rattle.tk_handle.specs.declared.handle.Handle.{Handle}
@@ -20,8 +24,10 @@ use Rattle.tk_store.specs.StoreFields.{StoreFields, held_facts, with_fact, with_
 use Rattle.tk_store.specs.StoreFields.{with_horizon}
 use Rattle.tk_store.specs.WholeStores.{whole_store}
 use Rattle.tk_ledger.specs.Retention.{MaySkip, Prunes}
+use Rattle.tk_ledger.specs.Slices.{Goes, PrunesSome}
 use Rattle.tk_ledger.specs.Status.{status_here, status_in}
 use Rattle.tk_ledger.specs.Alike.{AnsweredAlike}
+use Rattle.tk_ledger.specs.declared.slices.Slice.{Slice}
 use Rattle.tk_message.specs.RequestFields.{RequestFields}
 use Rattle.tk_message.specs.declared.place.Place.{Place}
 use Rattle.tk_region.specs.Decision.{decision_of}
@@ -56,6 +62,23 @@ abbrev pub PruneStands : Type 0
 PruneStands = (old new : StoreFields) (moment n : ℕ) (U F : FactSet) → Prunes old moment n new
     → StandsFor old U F → StandsFor new U F
 
+-- a fact that may go by what the store knows may be skipped by all facts made
+abbrev pub GoesSoundly : Type 0
+GoesSoundly = (P : StoreFields) (U F : FactSet) → StandsFor P U F → AreSound U → (d : Dot)
+    → Goes P d → MaySkip (map.get U) P.horizon d
+
+-- a store of which a slice was pruned stands for the facts that it stood for
+abbrev pub SliceStands : Type 0
+SliceStands = (old new : StoreFields) (moment : ℕ) (after : Option Dot) (count : ℕ) (slice : Slice)
+    (U F : FactSet) → PrunesSome old moment after count slice new → StandsFor old U F → AreSound U
+    → StandsFor new U F
+
+-- as long as a fact that may be skipped by all facts for which the store stands is not skipped,
+-- some fact may go by what the store knows: none is half skipped for good
+abbrev pub Progresses : Type 0
+Progresses = (P : StoreFields) (U F : FactSet) → StandsFor P U F → (d : Dot)
+    → MaySkip (map.get F) P.horizon d → is_skipped P.slots d ≢ true → (e : Dot) × Goes P e
+
 -- a store stands for the facts that it stood for when more facts were made
 abbrev pub MoreStands : Type 0
 MoreStands = (P : StoreFields) (U V F : FactSet) → IsSubset U V → StandsFor P U F
@@ -83,14 +106,14 @@ abbrev pub DropStands : Type 0
 DropStands = (P : StoreFields) (U F G : FactSet) (d : Dot) → is_skipped P.slots d ≡ true
     → GainsMade U F d G → StandsFor P U F → StandsFor P U G
 
--- all facts made stay sound with one more whose tokens end with their family, and which uses a
--- token that was minted
+-- all facts made stay sound with one more whose tokens end with their family, and which names what
+-- was minted for it
 abbrev pub SoundStays : Type 0
 SoundStays = (U V : FactSet) (d : Dot) (b : Body) → AddsOne U d b V → AreSound U
     → MeetsFamily U d V → AreSound V
 
--- The fact that a region makes for a request, if it makes one, ends with its family, and uses a
--- token that was minted. U has all facts that the region holds, and V is U with the new one.
+-- The fact that a region makes for a request, if it makes one, ends with its family, and names what
+-- was minted for it. U has all facts that the region holds, and V is U with the new one.
 abbrev pub MadeMeets : Type 0
 MadeMeets =
     (r : RegionFields) (U V : FactSet) (now : ℕ) (words : List ℕ) (request : RequestFields)

@@ -4,11 +4,14 @@ ghost use Rattle.tk_retention.specs.Laws.{
   DecisionStands,
   DropStands,
   FactStands,
+  GoesSoundly,
   MadeMeets,
   MarkStands,
   MoreStands,
+  Progresses,
   PruneStands,
   RegionStands,
+  SliceStands,
   SoundStays,
   StatusStands,
 };
@@ -38,6 +41,18 @@ pub fn prune_stands()
     ensures { PruneStands }
 {}
 
+/// States laws of slices of a prune, where all facts made are sound:
+///
+/// - A fact that goes may be skipped by all facts made, though the store may know less.
+/// - A store of which a slice was pruned stands for the facts that it stood for.
+/// - As long as a fact is held that may be skipped by all facts for which the store stands, some
+///   fact may go. So a family of which some facts are skipped goes whole.
+pub fn slices_stand()
+    ensures goes { GoesSoundly }
+    ensures slice { SliceStands }
+    ensures progress { Progresses }
+{}
+
 /// States a law: what a store stands for is kept when more facts are made, when a dot is skipped,
 /// when a fact comes, and when a fact is dropped at a skipped dot.
 pub fn standing_kept()
@@ -47,8 +62,8 @@ pub fn standing_kept()
     ensures dropped { DropStands }
 {}
 
-/// States laws: all facts made stay sound with one more that ends with its family and uses a token
-/// that was minted, and each fact that a region makes is one.
+/// States laws: all facts made stay sound with one more that ends with its family and names what
+/// was minted for it, and each fact that a region makes is one.
 pub fn soundness_stays()
     ensures stays { SoundStays }
     ensures made { MadeMeets }

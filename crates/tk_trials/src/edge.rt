@@ -11,7 +11,7 @@ mod serving;
 mod talks;
 
 use std::alloc::Global;
-use tk_edge::{Edge, PushTerms, Reach};
+use tk_edge::{Edge, PathSet, Reach, Terms};
 use tk_handle::{Moment, RegionNumber};
 use tk_message::StatusCode;
 use tk_region::{Region, Settings};
@@ -22,7 +22,7 @@ fn new_edge(alloc: Global) -> Option<Edge> {
     let number = RegionNumber::new(1)?;
     Some(Edge::new(
         Region::new(alloc, number, settings),
-        PushTerms::accept_all(alloc),
+        Terms::accept_all(alloc),
     ))
 }
 
@@ -54,7 +54,7 @@ fn makes_fact(alloc: Global, edge: &mut Edge, request: &[u8]) -> bool {
     let Some(now) = Moment::new(1_000) else {
         return false;
     };
-    match edge.answer(alloc, Reach::All, now, &[0; 6], request) {
+    match edge.answer(alloc, Reach::plain(PathSet::All), now, &[0; 6], request) {
         Ok(answer) => {
             let is_made = answer.logged.is_some();
             drop(answer);

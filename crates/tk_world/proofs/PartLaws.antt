@@ -20,14 +20,15 @@ use Rattle.tk_bundle.specs.Page.{page_of}
 use Rattle.tk_region.specs.RegionFields.{RegionFields, with_made}
 use Rattle.tk_region.specs.SettingsFields.{SettingsFields}
 use Rattle.tk_region.specs.Step.{IsNextFact}
-use Rattle.tk_edge.specs.Answers.{answer_by, fact_by, AnswersBy}
+use Rattle.tk_edge.specs.Answers.{answer_at, answer_by, fact_by, AnswersBy}
 use Rattle.tk_edge.specs.Terms.{TermsFields, accept_all}
 use Rattle.tk_edge.specs.Told.{AnswerFields}
 use Rattle.tk_edge.specs.EdgeFields.{EdgeFields}
 use Rattle.tk_edge.specs.Arrivals.{Answers, IsShort}
 use Rattle.tk_edge.specs.Heard.{IsArrival, IsHeard}
 use Rattle.tk_edge.specs.declared.hear.Arrival.{Arrival}
-use Rattle.tk_edge.specs.declared.reach.Reach.TheVariants.{Admin, All}
+use Rattle.tk_edge.specs.Paths.{plain}
+use Rattle.tk_edge.specs.declared.reach.PathSet.TheVariants.{Admin, All}
 use Rattle.tk_edge.proofs.AnswerLaws.{answers_alone}
 use Rattle.tk_edge.proofs.StreamLaws.{all_heard}
 use Rattle.tk_world.specs.AskedFields.{AskedFields}
@@ -43,9 +44,9 @@ use Rattle.tk_world.specs.declared.event.Outcome.TheVariants.{Opened, Reply, Bun
 use Rattle.tk_world.proofs.RegionLaws.{entry_at, entries_set, entries_insert, settings_at, settings_set, settings_insert}
 use Rattle.tk_world.proofs.StandsLaws.{same_again}
 
--- an edge has the settings of another, and is sealed if that one is
+-- an edge has the settings and the terms of another, and is sealed if that one is
 abbrev IsAsOpen : EdgeFields → EdgeFields → Type 0
-IsAsOpen p q = (q.region.settings ≡ p.region.settings) × (q.sealed ≡ p.sealed)
+IsAsOpen p q = (q.region.settings ≡ p.region.settings) × (q.sealed ≡ p.sealed) × (q.terms ≡ p.terms)
 
 abbrev pub fields_of : SettingsFields → List (ℕ × StoreFields) → List BundleFields → WorldFields
 fields_of settings rs bs = record { settings = settings; regions = map.from_sorted rs; bundles = bs }
@@ -62,7 +63,7 @@ some_is o x h = ap is_some h
 unchanged : (w : WorldFields) (r : ℕ) (p q : EdgeFields) → map.get w.regions r ≡ Some p.region.facts → q ≡ p → with_store w r q.region.facts ≡ w
 unchanged w r p q at same = ap (λ (x : EdgeFields). with_store w r x.region.facts) same ∙ same_region w r p.region.facts at
 
-module _ (way : Way) (w : WorldFields) (r : ℕ) (p q : EdgeFields) (asked : AskedFields) (is : p.region ≡ region_at w r p.region.facts) (at : map.get w.regions r ≡ Some p.region.facts) where
+module _ (way : Way) (w : WorldFields) (r : ℕ) (p q : EdgeFields) (asked : AskedFields) (is : p.region ≡ region_at w r p.region.facts) (plain_terms : p.terms ≡ accept_all) (at : map.get w.regions r ≡ Some p.region.facts) where
   -- the fact made for an answer is added to the world's region
   made_at : (heard : Arrival) → Makes p asked heard q → MakesAt w r p.region.facts asked heard (with_store w r q.region.facts)
   made_at heard made = (
@@ -78,7 +79,8 @@ module _ (way : Way) (w : WorldFields) (r : ℕ) (p q : EdgeFields) (asked : Ask
     p.region.facts,
     a.0,
     a.1,
-    subst (λ (x : RegionFields). way.Shows (answer_by x asked.now asked.words a.0) status bytes.items) is a.2,
+    subst (λ (x : RegionFields). way.Shows (answer_by x asked.now asked.words a.0) status bytes.items) is
+        (subst (λ (t : TermsFields). way.Shows (answer_at t p.region asked.now asked.words a.0) status bytes.items) plain_terms a.2),
     made_at a.0 a.3,
   )
   request_act (Ok Memory) a = (some_is _ p.region.facts at, unchanged w r p q at a)
@@ -136,7 +138,7 @@ module _ (settings : SettingsFields) (rs : List EdgeFields) (bs : List BundleFie
     sorted_new o new h = absurd h
 
     pub settings_new : (o : Outcome) (new : List EdgeFields) → Opens rs i p o new → HaveSettings settings rs → HaveSettings settings new
-    settings_new Opened new h all = subst (HaveSettings settings) (sym h) (settings_insert settings rs i p (subst (IsOpen settings) (sym is) (refl, refl)) all)
+    settings_new Opened new h all = subst (HaveSettings settings) (sym h) (settings_insert settings rs i p (subst (IsOpen settings) (sym is) (refl, refl, refl)) all)
     settings_new Memory new h all = subst (HaveSettings settings) (sym h) all
     settings_new o new h all = absurd h
 
@@ -166,6 +168,10 @@ module _ (settings : SettingsFields) (rs : List EdgeFields) (bs : List BundleFie
     pub open_at : p.sealed ≡ false
     open_at = (settings_at settings rs i p at.in_range is all).1
 
+    -- the edge at the index has the terms that accept all
+    pub terms_at : p.terms ≡ accept_all
+    terms_at = (settings_at settings rs i p at.in_range is all).2
+
     module _ (q : EdgeFields) (number : q.region.number ≡ p.region.number) (same : IsAsOpen p q) where
       after : entries_of (set rs i q) ≡ set (entries_of rs) i ((get_or (entries_of rs) i (entry_of p)).0, q.region.facts)
       after = entries_set rs i q ∙ ap (λ (n : ℕ). set (entries_of rs) i (n, q.region.facts)) (number ∙ ap (λ (e : ℕ × StoreFields). e.0) entry_is)
@@ -174,7 +180,7 @@ module _ (settings : SettingsFields) (rs : List EdgeFields) (bs : List BundleFie
       sorted_after = subst (λ es. T (map.is_sorted nat_cmp es)) (sym after) (sorted_at_place nat_cmp_total (entries_of rs) sorted r i at q.region.facts (entry_of p))
 
       pub settings_after : HaveSettings settings (set rs i q)
-      settings_after = settings_set settings rs i q (same.0 ∙ (settings_at settings rs i p at.in_range is all).0, same.1 ∙ open_at) all
+      settings_after = settings_set settings rs i q (same.0 ∙ (settings_at settings rs i p at.in_range is all).0, same.1 ∙ open_at, same.2 ∙ terms_at) all
 
       pub world_after : world settings (set rs i q) bs ≡ with_store (world settings rs bs) r q.region.facts
       world_after =
@@ -188,11 +194,11 @@ carried_number {F = F} way p q asked o a = by o a
     same : q ≡ p → (q.region.number ≡ p.region.number) × IsAsOpen p q
     same e = (
       ap (λ (x : EdgeFields). x.region.number) e,
-      (ap (λ (x : EdgeFields). x.region.settings) e, ap (λ (x : EdgeFields). x.sealed) e),
+      (ap (λ (x : EdgeFields). x.region.settings) e, ap (λ (x : EdgeFields). x.sealed) e, ap (λ (x : EdgeFields). x.terms) e),
     )
 
     made : (heard : Arrival) → Makes p asked heard q → (q.region.number ≡ p.region.number) × IsAsOpen p q
-    made heard m = (m.gains.number, (m.gains.settings, m.sealed))
+    made heard m = (m.gains.number, (m.gains.settings, m.sealed, m.terms))
 
     by : (o : Result Outcome F) → Carries way p asked o q → (q.region.number ≡ p.region.number) × IsAsOpen p q
     by (Ok (Reply status bytes)) a = made a.0 a.3
@@ -203,14 +209,14 @@ carried_number {F = F} way p q asked o a = by o a
 
 -- if no path of `/sync/` is served, an arrival is heard
 heard_answer : (terms : TermsFields) (r new : RegionFields) (asked : AskedFields) (seen : AnswerFields)
-    → ((came : Arrival) × IsArrival Admin asked.bytes came × Answers terms r asked.now asked.words came (Ok seen) new)
-    → (heard : Arrival) × IsHeard asked.bytes heard × AnswersBy r (answer_by r asked.now asked.words heard) (fact_by r asked.now asked.words heard) (Ok seen) new
+    → ((came : Arrival) × IsArrival (plain Admin) asked.bytes came × Answers terms r asked.now asked.words came (Ok seen) new)
+    → (heard : Arrival) × IsHeard asked.bytes heard × AnswersBy r (answer_at terms r asked.now asked.words heard) (fact_by r asked.now asked.words heard) (Ok seen) new
 heard_answer terms r new asked seen (came, is, told) =
-    (came, is, answers_alone terms r asked.now asked.words came (Ok seen) new (all_heard Admin asked.bytes came is) told)
+    (came, is, answers_alone terms r asked.now asked.words came (Ok seen) new (all_heard (plain Admin) asked.bytes came is) told)
 
 -- if no path of `/sync/` is served, running out of memory leaves the region unchanged
 pub untouched : (p q : EdgeFields) (now : ℕ) (bytes : List ℕ) → q.sealed ≡ p.sealed → q.terms ≡ p.terms
-    → IsShort Admin p.terms now (Some bytes) p.region q.region → q ≡ p
+    → IsShort (plain Admin) p.terms now (Some bytes) p.region q.region → q ≡ p
 untouched p q now bytes sealed ahead (inl same) =
     ap (λ (r : RegionFields). record { region = r; terms = q.terms; sealed = q.sealed }) same
     ∙ ap (λ b. record { region = p.region; terms = b; sealed = q.sealed }) ahead
@@ -222,8 +228,8 @@ untouched p q now bytes sealed ahead (inr (sent, arrives, taken, took)) = absurd
 
 -- the answer of an edge, by what contracts see of it
 pub answered_part : (p q : EdgeFields) (asked : AskedFields) (told seen : AnswerFields) → told ≡ seen → q.sealed ≡ p.sealed → q.terms ≡ p.terms
-    → ((came : Arrival) × IsArrival Admin asked.bytes came × Answers p.terms p.region asked.now asked.words came (Ok seen) q.region)
-    → (heard : Arrival) × IsHeard asked.bytes heard × IsReplied (answer_by p.region asked.now asked.words heard) told.status told.bytes × Makes p asked heard q
+    → ((came : Arrival) × IsArrival (plain Admin) asked.bytes came × Answers p.terms p.region asked.now asked.words came (Ok seen) q.region)
+    → (heard : Arrival) × IsHeard asked.bytes heard × IsReplied (answer_at p.terms p.region asked.now asked.words heard) told.status told.bytes × Makes p asked heard q
 answered_part p q asked told seen is sealed ahead came =
     let a = heard_answer p.terms p.region q.region asked seen came in (
       a.0,
@@ -232,15 +238,15 @@ answered_part p q asked told seen is sealed ahead came =
       record { gains = a.2.1; next = a.2.2; sealed = sealed; terms = ahead },
     )
 
-pub taken_number : (p q : EdgeFields) (b : BundleFields) (o : Outcome) → TakesBundle p.region b o q.region → q.sealed ≡ p.sealed → (q.region.number ≡ p.region.number) × IsAsOpen p q
-taken_number p q b (Took n) t sealed = (t.0.number, (t.0.settings, sealed))
-taken_number p q b Memory t sealed = (t.0.number, (t.0.settings, sealed))
-taken_number p q b o t sealed = absurd t
+pub taken_number : (p q : EdgeFields) (b : BundleFields) (o : Outcome) → TakesBundle p.region b o q.region → q.sealed ≡ p.sealed → q.terms ≡ p.terms → (q.region.number ≡ p.region.number) × IsAsOpen p q
+taken_number p q b (Took n) t sealed terms = (t.0.number, (t.0.settings, sealed, terms))
+taken_number p q b Memory t sealed terms = (t.0.number, (t.0.settings, sealed, terms))
+taken_number p q b o t sealed terms = absurd t
 
-pub pruned_number : (p q : EdgeFields) (moment : ℕ) (o : Outcome) → PrunesTo p.region moment o q.region → q.sealed ≡ p.sealed → (q.region.number ≡ p.region.number) × IsAsOpen p q
-pruned_number p q moment (Pruned n) t sealed = (t.0.number, (t.0.settings, sealed))
-pruned_number p q moment Memory t sealed = (ap (λ (r : RegionFields). r.number) t, (ap (λ (r : RegionFields). r.settings) t, sealed))
-pruned_number p q moment o t sealed = absurd t
+pub pruned_number : (p q : EdgeFields) (moment : ℕ) (o : Outcome) → PrunesTo p.region moment o q.region → q.sealed ≡ p.sealed → q.terms ≡ p.terms → (q.region.number ≡ p.region.number) × IsAsOpen p q
+pruned_number p q moment (Pruned n) t sealed terms = (t.0.number, (t.0.settings, sealed, terms))
+pruned_number p q moment Memory t sealed terms = (ap (λ (r : RegionFields). r.number) t, (ap (λ (r : RegionFields). r.settings) t, sealed, terms))
+pruned_number p q moment o t sealed terms = absurd t
 
 -- ---- the end of a call
 

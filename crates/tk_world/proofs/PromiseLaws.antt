@@ -26,7 +26,8 @@ use Rattle.tk_region.specs.SettingsFields.{SettingsFields}
 use Rattle.tk_region.specs.Step.{PreparedFields, early_in, prepared_by}
 use Rattle.tk_edge.specs.Answers.{answer_by, rendered}
 use Rattle.tk_edge.specs.declared.hear.Arrival.TheVariants.{Request as Asked}
-use Rattle.tk_edge.specs.declared.reach.Reach.TheVariants.{Admin}
+use Rattle.tk_edge.specs.Paths.{plain}
+use Rattle.tk_edge.specs.declared.reach.PathSet.TheVariants.{Admin}
 use Rattle.tk_edge.proofs.StreamLaws.{has_one_meaning}
 use Rattle.tk_world.specs.declared.event.Event.{Event}
 use Rattle.tk_world.specs.declared.event.Event.TheVariants.{Request}
@@ -90,7 +91,7 @@ tells_of_sets old es os ss new run i r now request status reply q from =
     let k : Kept = at.step.0 in
     let held : k.facts ≡ held_before old es ss i r = ap facts_of (sym at.step.1.is_open) ∙ joins.joins in
     let soon : k.horizon ≤ now = subst (λ h. h ≤ now) (ap horizon_of at.step.1.is_open) from in
-    let one : at.step.2 ≡ Asked request = has_one_meaning Admin q.bytes.items at.step.2 (Asked request) at.step.3 q.heard in
+    let one : at.step.2 ≡ Asked request = has_one_meaning (plain Admin) q.bytes.items at.step.2 (Asked request) at.step.3 q.heard in
     let told = ap (answer_by (region_with mid r k) now q.words) one ∙ introspects mid r k now q.words request soon q.introspects
     ∙ ap (λ (x : SettingsFields). rendered (introspection_of (whole_store k.facts) x.choices.refresh_seen now request) None None) (run_settings in_place old (take i es) (take i os) (take i ss) mid at.run)
     ∙ ap (λ G. rendered (introspection_of (whole_store G) old.settings.choices.refresh_seen now request) None None) held in

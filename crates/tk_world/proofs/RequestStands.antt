@@ -21,7 +21,7 @@ use Rattle.tk_region.proofs.CapLaws.{next_unknown}
 use Rattle.tk_edge.specs.Answers.{answer_by, fact_by}
 use Rattle.tk_edge.specs.Told.{AnswerFields}
 use Rattle.tk_edge.specs.declared.hear.Arrival.{Arrival}
-use Rattle.tk_edge.specs.declared.hear.Arrival.TheVariants.{Silence, Refused, Request as Asked, Exchange}
+use Rattle.tk_edge.specs.declared.hear.Arrival.TheVariants.{Silence, Refused, Request as Asked, Exchange, Notice}
 use Rattle.tk_retention.specs.StandsFor.{SlotStands, StandsFor, AddsOne, MeetsFamily}
 use Rattle.tk_retention.proofs.KeepingLaws.{stands_more, fact_stands, sound_stays}
 use Rattle.tk_retention.proofs.MadeLaws.{made_meets}
@@ -104,6 +104,7 @@ module _ (w : WorldFields) (U : FactSet) (s : State) (S : WorldStands w U s) (r 
   fact_meets now words (Refused why) V = tt
   fact_meets now words (Asked request) V = made_meets (region_at w r P) U V now words request (held_made P U stood stands)
   fact_meets now words (Exchange asked) V = tt
+  fact_meets now words (Notice notice) V = tt
 
   -- a fact is_kept made, if there is one
   record MadeFor (o : Option (Dot × Body)) : Type 0 where

@@ -9,7 +9,7 @@ use Rattle.std.specs.Prelude.{◌≡◌, ◌⊎◌, ℕ, List, IfSome, Result, O
 use Rattle.tk_message.specs.declared.status_code.StatusCode.{StatusCode}
 use Rattle.tk_region.specs.RegionFields.{Gains}
 use Rattle.tk_region.specs.Step.{IsNextFact}
-use Rattle.tk_edge.specs.Answers.{answer_by, fact_by}
+use Rattle.tk_edge.specs.Answers.{answer_at, fact_by}
 use Rattle.tk_edge.specs.EdgeFields.{EdgeFields}
 use Rattle.tk_edge.specs.Heard.{IsHeard}
 use Rattle.tk_edge.specs.Told.{AnswerFields}
@@ -46,7 +46,7 @@ pub record Makes (old : EdgeFields) (asked : AskedFields) (heard : Arrival)
 abbrev pub Answers : Way → EdgeFields → AskedFields → Outcome → EdgeFields → Type 0
 Answers way old asked (Reply status bytes) new =
     (heard : Arrival) × way.Hears asked.bytes heard
-    × way.Shows (answer_by old.region asked.now asked.words heard) status bytes.items
+    × way.Shows (answer_at old.terms old.region asked.now asked.words heard) status bytes.items
     × Makes old asked heard new
 Answers way old asked Memory new = new ≡ old
 Answers way old asked outcome new = ⊥

@@ -7,7 +7,7 @@ ghost use Rattle.tk_world.specs.Carrying.{in_place, Carries, Way};
 use crate::event::Outcome;
 use std::alloc::Global;
 use std::convert::Infallible;
-use tk_edge::{Edge, Reach};
+use tk_edge::{Edge, PathSet, Reach};
 use tk_handle::Moment;
 
 /// Carries requests to edges, and replies back.
@@ -23,8 +23,8 @@ pub trait Carrier {
     /// `Memory` if memory runs out.
     ///
     /// The request is the bytes of a stream that then ends. The carrier hands it over at
-    /// [`Reach::Admin`], also if it carries by sockets: the paths of clients and of operators are
-    /// served, and those below `/sync/` are unknown.
+    /// [`PathSet::Admin`], also if it carries by sockets: the paths of clients and of operators are
+    /// served, and others are unknown.
     ///
     /// # Errors
     ///
@@ -69,7 +69,7 @@ impl Carrier for InPlace {
         words: &[u64; 6],
         bytes: &[u8],
     ) -> Result<Outcome, Infallible> {
-        match edge.answer(self.alloc, Reach::Admin, now, words, bytes) {
+        match edge.answer(self.alloc, Reach::plain(PathSet::Admin), now, words, bytes) {
             Ok(answer) => Ok(Outcome::Reply {
                 status: answer.status,
                 bytes: answer.bytes,

@@ -2,8 +2,8 @@
 //!
 //! Printing takes no memory. An output that fails has the beginning of the lines.
 
-ghost use Rattle.std.specs.Prelude.{◌≡◌, ℕ, decimal};
-ghost use Rattle.std.specs.Option.{option_copied, option_map};
+ghost use Rattle.std.specs.Prelude.{◌≡◌};
+ghost use Rattle.std.specs.Option.{option_copied};
 ghost use Rattle.tk_message.specs.StatusCode.{status_number};
 ghost use Rattle.tk_world.specs.World.{region_of as event_region};
 ghost use Rattle.tk_world.specs.Printed as spec;

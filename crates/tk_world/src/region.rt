@@ -19,6 +19,7 @@ pub(crate) fn deliver(alloc: Global, edge: &mut Edge, bundle: &MadeBundle) -> Ou
     requires made { has_unmade (next_in (place_in edge.old.region)) bundle.now.items ≡ false }
     ensures takes { TakesBundle edge.old.region bundle.now result edge.new.region }
     ensures sealed { edge.new.sealed ≡ edge.old.sealed }
+    ensures terms { edge.new.terms ≡ edge.old.terms }
 {
     match edge.region_mut().take_in(alloc, bundle.bytes()) {
         Ok(new) => Outcome::Took(new),
@@ -33,6 +34,7 @@ pub(crate) fn deliver(alloc: Global, edge: &mut Edge, bundle: &MadeBundle) -> Ou
 pub(crate) fn prune(alloc: Global, edge: &mut Edge, moment: Moment) -> Outcome
     ensures prunes { PrunesTo edge.old.region moment result edge.new.region }
     ensures sealed { edge.new.sealed ≡ edge.old.sealed }
+    ensures terms { edge.new.terms ≡ edge.old.terms }
 {
     match edge.region_mut().prune(alloc, moment) {
         Ok(count) => Outcome::Pruned(count),

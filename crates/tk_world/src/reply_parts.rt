@@ -4,6 +4,8 @@ ghost use Rattle.std.specs.Prelude.{◌≡◌, ◌≤◌, drop, length};
 ghost use Rattle.std.specs.Option.{option_copied};
 ghost use Rattle.tk_world.specs.Printed as spec;
 
+use tk_put::rest_of;
+
 /// Returns the value of the reply's `Location`.
 pub(crate) fn location_in(bytes: &[u8]) -> Option<&[u8]>
     ensures { option_copied result ≡ spec.location_in bytes.now }
@@ -69,13 +71,4 @@ fn place_of(bytes: &[u8], mark: &[u8]) -> usize
         rest = others;
     }
     at
-}
-
-// Returns the bytes from an index on.
-#[tactic(auto, using(std::proofs::lemmas::List::take_rest))]
-fn rest_of(bytes: &[u8], at: usize) -> &[u8]
-    requires { at ≤ length bytes.now }
-    ensures { result.now ≡ drop at bytes.now }
-{
-    &bytes[at..]
 }

@@ -3,7 +3,7 @@
 use crate::bundle::MadeBundle;
 use std::alloc::Global;
 use std::marker::Model;
-use tk_edge::{Edge, PushTerms};
+use tk_edge::{Edge, Terms};
 use tk_region::{Region, Settings};
 
 /// Regions under their numbers, with the bundles that they made. A bundle may reach any region, in
@@ -12,7 +12,8 @@ use tk_region::{Region, Settings};
 pub struct World {
     alloc: Global,
     settings: Settings,
-    // The edges, ascending by number. Each has these settings, and none is sealed.
+    // The edges, ascending by number. Each has these settings, names no issuer, and refuses no
+    // bundle. None is sealed.
     regions: Vec<Edge>,
     // The bundles in the order of making. All facts that regions made are one set, for parts of
     // which regions and bundles stand.
@@ -46,7 +47,7 @@ impl Model for World {
         }) };
 }
 
-ghost use Rattle.std.specs.Prelude.{◌≡◌, ◌≤◌, ◌<◌, ◌+◌, T, List, IfOk, IfErr, OnOk, OnErr};
+ghost use Rattle.std.specs.Prelude.{◌≡◌, ◌≤◌, ◌<◌, ◌+◌, T, IfOk, IfErr, OnOk, OnErr};
 ghost use Rattle.std.specs.Prelude.{MatchResult, length, insert, [], slice_get, vec_len};
 ghost use Rattle.std.specs.Prelude.{vec_capacity, ◌++◌, ◌∷◌};
 ghost use Rattle.std.specs.Option.{option_copied, option_map};
@@ -247,7 +248,7 @@ impl World {
             Ok(_) => Outcome::NumberTaken,
             Err(at) => {
                 let region = Region::new(self.alloc, number, self.settings);
-                let edge = Edge::new(region, PushTerms::accept_all(self.alloc));
+                let edge = Edge::new(region, Terms::accept_all(self.alloc));
                 open_region(&mut self.regions, at, edge)
             }
         }

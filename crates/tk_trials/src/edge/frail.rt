@@ -1,6 +1,6 @@
 //! A sink in memory, `FrailSink`, whose calls fail as a test chooses.
 
-ghost use Rattle.std.specs.Prelude.{◌≡◌, ◌<◌, ◌≤◌, []};
+ghost use Rattle.std.specs.Prelude.{◌≡◌, ◌<◌, []};
 ghost use Rattle.tk_edge.specs.Failures.{one_more};
 
 use std::alloc::Global;

@@ -4,7 +4,7 @@ use super::frail::{Fails, FrailSink};
 use super::talks::{TALKS, Talk};
 use super::{make_facts, new_edge};
 use std::alloc::Global;
-use tk_edge::{Edge, Fault, Reach, Served, Taken};
+use tk_edge::{Edge, Fault, PathSet, Reach, Served, Taken};
 use tk_handle::Moment;
 use tk_message::StatusCode;
 
@@ -22,7 +22,7 @@ fn serve(
     };
     edge.serve_front(
         alloc,
-        Reach::All,
+        Reach::plain(PathSet::All),
         bytes,
         is_over,
         writer,

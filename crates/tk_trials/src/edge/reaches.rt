@@ -2,7 +2,7 @@
 
 use super::{is_answered, new_edge};
 use std::alloc::Global;
-use tk_edge::{Counted, Discard, Edge, Reach, Served};
+use tk_edge::{Counted, Discard, Edge, PathSet, Reach, Served};
 use tk_handle::Moment;
 use tk_message::StatusCode;
 
@@ -139,6 +139,13 @@ const PATHS: &[Row] = &[
     ),
     (b"PUT /unknown HTTP/1.1\r\n\r\n", UNKNOWN, UNKNOWN, UNKNOWN),
     (
+        b"GET /.well-known/oauth-authorization-server HTTP/1.1\r\n\r\n",
+        UNKNOWN,
+        UNKNOWN,
+        UNKNOWN,
+    ),
+    (b"PUT /health HTTP/1.1\r\n\r\n", UNKNOWN, UNKNOWN, UNKNOWN),
+    (
         b"GET /sync/vector HTTP/1.1\r\n\r\n",
         UNKNOWN,
         UNKNOWN,
@@ -226,9 +233,14 @@ fn is_told(alloc: Global, edge: &mut Edge, reach: Reach, request: &[u8], told: T
 // Returns the first request that doesn't get its reply at some reach.
 fn missed(alloc: Global, edge: &mut Edge, rows: &'static [Row]) -> Option<&'static [u8]> {
     for (request, clients, admin, all) in rows {
-        let is_so = is_told(alloc, edge, Reach::Clients, request, *clients)
-            && is_told(alloc, edge, Reach::Admin, request, *admin)
-            && is_told(alloc, edge, Reach::All, request, *all);
+        let is_so = is_told(
+            alloc,
+            edge,
+            Reach::plain(PathSet::Clients),
+            request,
+            *clients,
+        ) && is_told(alloc, edge, Reach::plain(PathSet::Admin), request, *admin)
+            && is_told(alloc, edge, Reach::plain(PathSet::All), request, *all);
         if !is_so {
             return Some(request);
         }
@@ -268,7 +280,7 @@ fn is_waited_for_at_all(alloc: Global, edge: &mut Edge) -> [bool; 3] {
         is_served(
             alloc,
             edge,
-            Reach::Clients,
+            Reach::plain(PathSet::Clients),
             LARGEST_PUSH,
             false,
             Some(UNKNOWN),
@@ -276,12 +288,19 @@ fn is_waited_for_at_all(alloc: Global, edge: &mut Edge) -> [bool; 3] {
         is_served(
             alloc,
             edge,
-            Reach::Admin,
+            Reach::plain(PathSet::Admin),
             LARGEST_PUSH,
             false,
             Some(UNKNOWN),
         ),
-        is_served(alloc, edge, Reach::All, LARGEST_PUSH, false, None),
+        is_served(
+            alloc,
+            edge,
+            Reach::plain(PathSet::All),
+            LARGEST_PUSH,
+            false,
+            None,
+        ),
     ]
 }
 

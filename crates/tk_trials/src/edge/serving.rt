@@ -6,7 +6,7 @@ use super::pieces::serve_pieces;
 use super::talks::{REGISTRATION, TALKS, Talk};
 use super::{is_answered, make_facts, new_edge};
 use std::alloc::Global;
-use tk_edge::{Counted, Discard, Edge, Fault, Reach, Served, Sink};
+use tk_edge::{Counted, Discard, Edge, Fault, PathSet, Reach, Served, Sink};
 use tk_handle::Moment;
 use tk_message::StatusCode;
 
@@ -201,7 +201,7 @@ fn is_served_by_std(alloc: Global, edge: &mut Edge) -> bool {
     let mut writer = Counted::new(Vec::new(alloc));
     let result = edge.serve_front(
         alloc,
-        Reach::All,
+        Reach::plain(PathSet::All),
         REGISTRATION.request,
         false,
         &mut writer,
@@ -253,7 +253,13 @@ const HALF_AWAY: End = End { result: Err(Fault::Write), facts: 2, sealed: true, 
 // once, again and without devices, and a write that fails is a fault.
 fn life_at(alloc: Global, edge: &mut Edge) -> [bool; 8] {
     [
-        is_answered(alloc, edge, Reach::All, b"", (StatusCode::BadRequest, b"")),
+        is_answered(
+            alloc,
+            edge,
+            Reach::plain(PathSet::All),
+            b"",
+            (StatusCode::BadRequest, b""),
+        ),
         ends_at(alloc, edge, &SILENT, STEPS, MUTE, &NOTHING),
         is_served_by_std(alloc, edge),
         ends_at(alloc, edge, &REGISTRATION, STEPS, UNLOGGABLE, &SEALED),
@@ -262,7 +268,7 @@ fn life_at(alloc: Global, edge: &mut Edge) -> [bool; 8] {
         is_answered(
             alloc,
             edge,
-            Reach::All,
+            Reach::plain(PathSet::All),
             TURNED.request,
             (StatusCode::ServiceUnavailable, AWAY),
         ),

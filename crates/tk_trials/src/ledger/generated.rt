@@ -1,4 +1,5 @@
-//! Pseudo-random sets of facts, hostile ones among them: the ledger agrees with a walk over the facts.
+//! Pseudo-random sets of facts, hostile ones among them: the ledger agrees with a walk over the
+//! facts.
 
 use super::facts::{ANN, Place, READ_WRITE, Says, Token, dot, handle};
 use super::orders::{Both, add_to_both, found, in_short};

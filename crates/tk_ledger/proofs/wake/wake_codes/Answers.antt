@@ -4,7 +4,8 @@ use Rattle.std.specs.FinMap as map
 use Rattle.std.specs.declared.ops.Bound.TheVariants.{Included}
 use Rattle.tk_family.specs.Dots.{has}
 use Rattle.tk_store.specs.StoreFields.{held_facts}
-use Rattle.tk_ledger.specs.Index.{code_cmp, code_key, least_dot, dots_of, Wakes}
+use Rattle.tk_handle.specs.Dot.{least_dot}
+use Rattle.tk_ledger.specs.Index.{code_cmp, code_key, dots_of, Wakes}
 use Rattle.tk_ledger.specs.declared.subject_keys.CodeKey.{CodeKey}
 use Rattle.tk_ledger.proofs.SubjectKeyLaws.{codes_forward}
 use Rattle.tk_ledger.proofs.WakeLaws.{wakes_none, wakes_rest}

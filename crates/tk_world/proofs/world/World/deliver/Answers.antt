@@ -48,7 +48,7 @@ invariant_of-self c =
     let held = held_at w.settings w.regions.items w.bundles.items c.self.invariant.0 c.args.region c.in-Ok.at at c.self.invariant.1 p is in
     let there = rw c.deref-in-Ok.ensures.value at c.in-Some.ensures in
     let q = c.deliver.new.edge in
-    let kept = taken_number p q c.in-Some.bundle.now c.deliver.result c.deliver.ensures.takes c.deliver.ensures.sealed in
+    let kept = taken_number p q c.in-Some.bundle.now c.deliver.result c.deliver.ensures.takes c.deliver.ensures.sealed c.deliver.ensures.terms in
     let act = deliver_act s c.args.bundle c.args.region p.region q.region c.in-Some.bundle.now c.deliver.result held (sym there) c.deliver.ensures.takes in (
       sorted_after w.settings w.regions.items w.bundles.items c.self.invariant.0 c.args.region c.in-Ok.at at c.self.invariant.1 p is q kept.0 kept.1,
       settings_after w.settings w.regions.items w.bundles.items c.self.invariant.0 c.args.region c.in-Ok.at at c.self.invariant.1 p is q kept.0 kept.1,
@@ -66,7 +66,7 @@ returns-in-Some c =
     let held = held_at w.settings w.regions.items w.bundles.items c.self.invariant.0 c.args.region c.in-Ok.at at c.self.invariant.1 p is in
     let there = rw c.deref-in-Ok.ensures.value at c.in-Some.ensures in
     let q = c.deliver.new.edge in
-    let kept = taken_number p q c.in-Some.bundle.now c.deliver.result c.deliver.ensures.takes c.deliver.ensures.sealed in
+    let kept = taken_number p q c.in-Some.bundle.now c.deliver.result c.deliver.ensures.takes c.deliver.ensures.sealed c.deliver.ensures.terms in
     ended (λ x y. DeliversAt x c.args.bundle c.args.region c.deliver.result y) s _
     (deliver_act s c.args.bundle c.args.region p.region q.region c.in-Some.bundle.now c.deliver.result held (sym there) c.deliver.ensures.takes)
     _ (world_after w.settings w.regions.items w.bundles.items c.self.invariant.0 c.args.region c.in-Ok.at at c.self.invariant.1 p is q kept.0 kept.1) _ c.self.view_is

@@ -20,7 +20,7 @@ invariant_of-self c =
     let s = world w.settings w.regions.items w.bundles.items in
     let held = held_at w.settings w.regions.items w.bundles.items c.self.invariant.0 c.args.region c.in-Ok.at at c.self.invariant.1 p is in
     let q = c.prune.new.edge in
-    let kept = pruned_number p q c.args.horizon c.prune.result c.prune.ensures.prunes c.prune.ensures.sealed in
+    let kept = pruned_number p q c.args.horizon c.prune.result c.prune.ensures.prunes c.prune.ensures.sealed c.prune.ensures.terms in
     let act = prune_act s c.args.region c.args.horizon p.region q.region c.prune.result held c.prune.ensures.prunes in (
       sorted_after w.settings w.regions.items w.bundles.items c.self.invariant.0 c.args.region c.in-Ok.at at c.self.invariant.1 p is q kept.0 kept.1,
       settings_after w.settings w.regions.items w.bundles.items c.self.invariant.0 c.args.region c.in-Ok.at at c.self.invariant.1 p is q kept.0 kept.1,
@@ -37,7 +37,7 @@ returns-in-Ok c =
     let s = world w.settings w.regions.items w.bundles.items in
     let held = held_at w.settings w.regions.items w.bundles.items c.self.invariant.0 c.args.region c.in-Ok.at at c.self.invariant.1 p is in
     let q = c.prune.new.edge in
-    let kept = pruned_number p q c.args.horizon c.prune.result c.prune.ensures.prunes c.prune.ensures.sealed in
+    let kept = pruned_number p q c.args.horizon c.prune.result c.prune.ensures.prunes c.prune.ensures.sealed c.prune.ensures.terms in
     ended (λ x y. PrunesAt x c.args.region c.args.horizon c.prune.result y) s _
     (prune_act s c.args.region c.args.horizon p.region q.region c.prune.result held c.prune.ensures.prunes)
     _ (world_after w.settings w.regions.items w.bundles.items c.self.invariant.0 c.args.region c.in-Ok.at at c.self.invariant.1 p is q kept.0 kept.1) _ c.self.view_is

@@ -1,0 +1,5 @@
+use Rattle.tk_ledger.proofs.SliceLaws.{pass_ends}
+use Rattle.tk_ledger.proofs.laws.pass_ends.Goals as goal
+
+pub returns : goal.returns
+returns c = pass_ends
