@@ -23,7 +23,9 @@ use Rattle.tk_message.specs.declared.error_code.ErrorCode.{ErrorCode}
 use Rattle.tk_message.specs.declared.status_code.StatusCode.{StatusCode}
 use Rattle.tk_region.specs.RegionFields.{RegionFields, Gains}
 use Rattle.tk_region.specs.Step.{PreparedFields, prepared_of}
-use Rattle.tk_edge.specs.Answers.{rendered, refused_by, answer_by, fact_by, AnswersBy}
+use Rattle.tk_edge.specs.Answers.{rendered, refused_by, answer_at, fact_by, AnswersBy}
+use Rattle.tk_edge.specs.Issuer.{with_iss}
+use Rattle.tk_edge.specs.Paths.{plain}
 use Rattle.tk_edge.specs.Arrivals.{Answers, IsShort}
 use Rattle.tk_edge.specs.Exchanges.{Exchanges, page_reply}
 use Rattle.tk_edge.specs.Heard.{Arrives, IsArrival, MayArrive}
@@ -36,9 +38,9 @@ use Rattle.tk_edge.specs.declared.edge.Served.{Served}
 use Rattle.tk_edge.specs.declared.edge.Served.TheVariants.{Done}
 use Rattle.tk_edge.specs.declared.exchange.Exchange.TheVariants.{Vector, Pull, Push}
 use Rattle.tk_edge.specs.declared.hear.Arrival.{Arrival}
-use Rattle.tk_edge.specs.declared.hear.Arrival.TheVariants.{Silence, Refused, Request, Exchange}
+use Rattle.tk_edge.specs.declared.hear.Arrival.TheVariants.{Silence, Refused, Request, Exchange, Notice}
 use Rattle.tk_edge.specs.declared.reach.Reach.{Reach}
-use Rattle.tk_edge.specs.declared.reach.Reach.TheVariants.{Admin, All}
+use Rattle.tk_edge.specs.declared.reach.PathSet.TheVariants.{Admin, All}
 use Rattle.tk_edge.specs.declared.refusal.Refusal.{Refusal}
 use Rattle.tk_edge.specs.Terms.{TermsFields}
 use Rattle.tk_edge.specs.declared.tell.Fault.{Fault}
@@ -59,15 +61,15 @@ pub answers_nothing : (r : RegionFields) (told : AnswerFields) (result : Result 
 answers_nothing r told (Ok a) h = (h, gains_nothing r, tt)
 answers_nothing r told (Err e) h = refl
 
-pub answers_request : (r : RegionFields) (now : ℕ) (words : List ℕ) (request : RequestFields) (p : PreparedFields) (result : Result AnswerFields AllocError) (new : RegionFields)
-    → p ≡ prepared_of r now words request → AnswersBy r (rendered p.reply None p.logged) p.fact result new
-    → AnswersBy r (answer_by r now words (Request request)) (fact_by r now words (Request request)) result new
-answers_request r now words request p result new is told =
-    subst (λ (x : PreparedFields). AnswersBy r (rendered x.reply None x.logged) x.fact result new) is told
+pub answers_request : (terms : TermsFields) (r : RegionFields) (now : ℕ) (words : List ℕ) (request : RequestFields) (p : PreparedFields) (result : Result AnswerFields AllocError) (new : RegionFields)
+    → p ≡ prepared_of r now words request → AnswersBy r (rendered (with_iss terms.issuer p.reply) None p.logged) p.fact result new
+    → AnswersBy r (answer_at terms r now words (Request request)) (fact_by r now words (Request request)) result new
+answers_request terms r now words request p result new is answers =
+    subst (λ (x : PreparedFields). AnswersBy r (rendered (with_iss terms.issuer x.reply) None x.logged) x.fact result new) is answers
 
 -- if no path of `/sync/` is served, an arrival is answered with its answer and its fact
-pub answers_alone : (terms : TermsFields) (r : RegionFields) (now : ℕ) (words : List ℕ) (came : Arrival) (result : Result AnswerFields AllocError) (new : RegionFields) → MayArrive Admin came
-    → Answers terms r now words came result new → AnswersBy r (answer_by r now words came) (fact_by r now words came) result new
+pub answers_alone : (terms : TermsFields) (r : RegionFields) (now : ℕ) (words : List ℕ) (came : Arrival) (result : Result AnswerFields AllocError) (new : RegionFields) → MayArrive (plain Admin) came
+    → Answers terms r now words came result new → AnswersBy r (answer_at terms r now words came) (fact_by r now words came) result new
 answers_alone terms r now words (Exchange asked) result new off told = absurd (clash off)
   where
     clash : Admin ≡ All → ⊥
@@ -141,6 +143,7 @@ module _ (asked : Asked) (came : Arrival) (old new : RegionFields) (log : Change
       by Silence true arrives told = inl (told.1, told.2)
       by (Refused why) true arrives told = inl (told.1, told.2)
       by (Request request) true arrives told = inl (told.1, told.2)
+      by (Notice notice) true arrives told = inl (told.1, told.2)
 
   pub faulted : (fault : Fault) → Told (bundle_to_log asked.log_taken came) (Err fault)
       → IsServed asked (record { before = old; after = new }) log still writer sealed (Err fault)

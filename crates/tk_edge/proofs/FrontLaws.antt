@@ -294,6 +294,7 @@ some_taken reach bytes (Refused why) taken h stays = absurd (false_true (sym h.1
     false_true e = cc
 some_taken reach bytes (Request request) taken h stays = omega (arith, h.3, some_head h.0 h.2.0)
 some_taken reach bytes (arrival.Exchange exchange) taken h stays = omega (arith, h.3, some_head h.0 h.2.0)
+some_taken reach bytes (arrival.Notice notice) taken h stays = omega (arith, h.3, some_head h.0 h.2.0)
 
 -- fewer bytes than a limit are fewer than a greater one
 pub fewer_within : {E : Type 0} (many all limit most : ℕ) (result : Result Front E) → many ≡ all

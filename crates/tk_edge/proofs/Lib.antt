@@ -1,6 +1,7 @@
 pub mod AnswerLaws
 pub mod BoundLaws
 pub mod HeadLaws
+pub mod IssuerLaws
 pub mod OpenReplyLaws
 pub mod PushLaws
 pub mod RecordLaws

@@ -1,10 +1,11 @@
 -- The first closing line of a reply. Key results:
 --   here_is     what a slice begins with is at its place
+--   not_here    no closing line is where another byte is than its first
 --   none_to     one more place has no closing line
 --   opened      a reply behind others is without its first closing line
 --   stays_as    a reply behind others has no closing line
 use Rattle.std.proofs.Common.{◌≡◌, ℕ, ◌+◌, ◌-◌, ◌<◌, ◌++◌, Bool, true, false, List, length, take, drop}
-use Rattle.std.proofs.Common.{nat_lt, ◌==◌, inl, inr, refl, sym, ap, subst, ◌∙◌, append_assoc, arith}
+use Rattle.std.proofs.Common.{drop-cons, get_or, nat_lt, ◌==◌, ◌≢◌, inl, inr, refl, sym, ap, subst, ◌∙◌, append_assoc, arith}
 use Rattle.std.specs.List.{starts_with}
 use Rattle.std.proofs.lemmas.Bool.Decides.{nat_tests}
 use Rattle.std.proofs.Math.Seq.{take-add}
@@ -17,6 +18,14 @@ pub here_is : (reply : List ℕ) (at : ℕ) (found : Bool)
     → says_at reply at ≡ found
 here_is reply at found is =
     sym (is ∙ ap (λ l. starts_with ◌==◌ l closing_line) (take_rest reply at))
+
+-- where a byte isn't the first of the closing line, that line isn't
+pub not_here : (reply : List ℕ) (at : ℕ) → at < length reply → get_or reply at 0 ≢ 67
+    → says_at reply at ≡ false
+not_here reply at within other =
+    let first : (67 == get_or reply at 0) ≡ false = grind (arith, nat_tests, other) in
+    ap (λ l. starts_with ◌==◌ l closing_line) (drop-cons reply at 0 within)
+    ∙ rw first
 
 -- the places before one have no closing line, and neither has that one
 pub none_to : (reply : List ℕ) (at : ℕ) → ((k : ℕ) → k < at → says_at reply k ≡ false)

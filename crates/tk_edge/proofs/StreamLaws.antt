@@ -3,14 +3,15 @@
 --   judged_same       the meaning of a head, by what was judged of its parts
 --   has_one_meaning   a stream has at most one meaning
 --   silent_is_empty   only an empty stream is silent
---   judged_may        an exchange is requested only if all paths are served, and a body is within its
---                     limit
---   all_heard         no exchange arrives unless all paths are served
+--   judged_may        an exchange is requested only if all paths are served, a notice only if that
+--                     is, and a body is within its limit
+--   all_heard         no exchange arrives unless all paths are served, and no notice unless that is
 use Rattle.std.proofs.Common.{◌≡◌, ℕ, ◌≤◌, Bool, true, false, cond, List, [], ◌∷◌, ◌++◌, length, take, Option, Some, None, map, sym, ap, ◌∙◌, subst, arith, nat_le, inl, inr, refl}
 use Rattle.std.specs.Option.{option_or}
 use Rattle.std.specs.Str.{bytes_eq}
 use Rattle.std.specs.Str.Parse.{digits_value}
 use Rattle.std.specs.Prelude.{codes}
+use Rattle.std.specs.Prelude.{◌&&◌}
 use Rattle.std.proofs.lemmas.Bool.{le-leb, leb-true}
 use Rattle.std.proofs.lemmas.List.{take-append-le, length-append}
 use Rattle.httparse.specs.Grammar.{RequestHead}
@@ -19,9 +20,9 @@ use Rattle.httparse.proofs.GrammarLemmas.{request_unique}
 use Rattle.tk_edge.specs.HeadFields.{AreFields, has_repeats, coding_in, length_in, type_in}
 use Rattle.tk_edge.specs.declared.field.Fields.{Fields}
 use Rattle.tk_edge.specs.Heard.{posted_to, arrival_by, arrival_of, headless, IsArrival, MayArrive, Arrives}
-use Rattle.tk_edge.specs.Judged.{judged_of, at_path, at_service, asked, with_body, sized, fits_type, limit_of, MayPost, MayAsk}
+use Rattle.tk_edge.specs.Judged.{judged_of, at_path, at_service, asked, with_body, sized, fits_type, limit_of, MayPost, MayTell, MayAsk}
 use Rattle.tk_edge.specs.Laws.{HasOneMeaning, HearsAll}
-use Rattle.tk_edge.specs.Paths.{path_of, path_named, client_named, admin_named, sync_named, inner_named, method_named, service_at}
+use Rattle.tk_edge.specs.Paths.{path_of, path_named, client_named, admin_named, sync_named, notice_named, beside_clients, inner_named, method_named, service_at}
 use Rattle.tk_format.specs.Numerals.{is_numeral, numeral_up_to}
 use Rattle.tk_format.specs.declared.numeral.Numeral.{Numeral}
 use Rattle.tk_format.specs.declared.numeral.Numeral.TheVariants as numeral
@@ -30,7 +31,7 @@ use Rattle.tk_edge.specs.declared.hear.Arrival.{Arrival}
 use Rattle.tk_edge.specs.declared.hear.Arrival.TheVariants.{Silence}
 use Rattle.tk_edge.specs.declared.hear.Arrival.TheVariants as arrival
 use Rattle.tk_edge.specs.declared.judge.Judged.{Judged}
-use Rattle.tk_edge.specs.declared.judge.Judged.TheVariants.{Refused, Query, Vector, Body}
+use Rattle.tk_edge.specs.declared.judge.Judged.TheVariants.{Refused, Query, Vector, Notice, Body}
 use Rattle.tk_edge.specs.declared.path.Path.{Path}
 use Rattle.tk_edge.specs.declared.path.Path.TheVariants as path
 use Rattle.tk_edge.specs.declared.path.Method.{Method}
@@ -40,7 +41,9 @@ use Rattle.tk_edge.specs.declared.path.Posted.TheVariants.{Form, Pull, Push}
 use Rattle.tk_edge.specs.declared.path.Service.{Service}
 use Rattle.tk_edge.specs.declared.path.Service.TheVariants as service
 use Rattle.tk_edge.specs.declared.reach.Reach.{Reach}
-use Rattle.tk_edge.specs.declared.reach.Reach.TheVariants.{Clients, Admin, All}
+use Rattle.tk_edge.specs.declared.notice.Notice.TheVariants.{Discovery, Health}
+use Rattle.tk_edge.specs.declared.reach.PathSet.{PathSet}
+use Rattle.tk_edge.specs.declared.reach.PathSet.TheVariants.{Clients, Admin, All}
 use Rattle.tk_edge.specs.declared.refusal.Refusal.TheVariants.{ShortBody}
 
 pub form_in_front : (front rest : List ℕ) (size : ℕ) → size ≤ length front
@@ -77,6 +80,7 @@ speaks : (target : List ℕ) (pairs : Pairs) (rest : List ℕ) (judged : Judged)
 speaks target pairs rest (Refused why) e = absurd (cc)
 speaks target pairs rest (Query endpoint) e = absurd (cc)
 speaks target pairs rest Vector e = absurd (cc)
+speaks target pairs rest (Notice notice) e = absurd (cc)
 speaks target pairs rest (Body posted n) e =
     (elim (nat_le n (length rest)) as (λ b. Silence ≡ cond b (posted_to posted (take n rest) pairs) (arrival.Refused ShortBody) → ⊥) [
       | true ↦ speaks_to posted (take n rest) pairs
@@ -94,11 +98,12 @@ hears_nothing reach known came silent arrives bytes is = silent_is_empty reach b
 
 -- ---- unless all paths are served
 
--- the paths that are served only if all are
+-- the paths that are served only if all are, or if their notice is
 abbrev MayServe : Reach → Path → Type 0
-MayServe reach path.Vector = reach ≡ All
-MayServe reach path.Pull = reach ≡ All
-MayServe reach path.Push = reach ≡ All
+MayServe reach path.Vector = reach.paths ≡ All
+MayServe reach path.Pull = reach.paths ≡ All
+MayServe reach path.Push = reach.paths ≡ All
+MayServe reach (path.Notice notice) = MayTell reach notice
 MayServe reach path = Unit {0}
 
 abbrev MayServeIf : Reach → Option Path → Type 0
@@ -128,24 +133,39 @@ admin_may reach text =
     (pick reach (bytes_eq text (codes "/admin/withdraw")) (Some path.Withdraw) _ tt
     (pick reach (bytes_eq text (codes "/admin/signout")) (Some path.SignOut) None tt tt))))
 
-sync_may : (reach : Reach) (text : List ℕ) → reach ≡ All → MayServeIf reach (sync_named text)
+sync_may : (reach : Reach) (text : List ℕ) → reach.paths ≡ All → MayServeIf reach (sync_named text)
 sync_may reach text on =
     pick reach (bytes_eq text (codes "/sync/vector")) (Some path.Vector) _ on
     (pick reach (bytes_eq text (codes "/sync/pull")) (Some path.Pull) _ on
     (pick reach (bytes_eq text (codes "/sync/push")) (Some path.Push) None on tt))
 
-inner_may : (reach : Reach) (text : List ℕ) → MayServeIf reach (inner_named reach text)
-inner_may Clients text = tt
-inner_may Admin text = admin_may Admin text
-inner_may All text = either All (admin_named text) (sync_named text) (admin_may All text) (sync_may All text refl)
+inner_may : (reach : Reach) (set : PathSet) (text : List ℕ) → reach.paths ≡ set → MayServeIf reach (inner_named set text)
+inner_may reach Clients text is = tt
+inner_may reach Admin text is = admin_may reach text
+inner_may reach All text is = either reach (admin_named text) (sync_named text) (admin_may reach text) (sync_may reach text is)
+
+-- a path that needs a flag is served only if the flag is set
+flagged : (reach : Reach) (flag named : Bool) (p : Path) (o : Option Path) → (flag ≡ true → MayServe reach p) → MayServeIf reach o → MayServeIf reach (cond (flag && named) (Some p) o)
+flagged reach true true p o h k = h refl
+flagged reach true false p o h k = k
+flagged reach false named p o h k = k
+
+notice_may : (reach : Reach) (text : List ℕ) → MayServeIf reach (notice_named reach text)
+notice_may reach text =
+    flagged reach reach.discovery (bytes_eq text (codes "/.well-known/oauth-authorization-server")) (path.Notice Discovery) _ (λ on. on)
+    (flagged reach reach.health (bytes_eq text (codes "/health")) (path.Notice Health) None (λ on. on) tt)
+
+beside_may : (reach : Reach) (text : List ℕ) → MayServeIf reach (beside_clients reach text)
+beside_may reach text = either reach (notice_named reach text) (inner_named reach.paths text) (notice_may reach text) (inner_may reach reach.paths text refl)
 
 may_serve : (reach : Reach) (text : List ℕ) → MayServeIf reach (path_named reach text)
-may_serve reach text = either reach (client_named text) (inner_named reach text) (client_may reach text) (inner_may reach text)
+may_serve reach text = either reach (client_named text) (beside_clients reach text) (client_may reach text) (beside_may reach text)
 
 -- the services that exist only if all paths are served
 abbrev MayDo : Reach → Service → Type 0
 MayDo reach (service.Query e) = Unit {0}
-MayDo reach service.Vector = reach ≡ All
+MayDo reach service.Vector = reach.paths ≡ All
+MayDo reach (service.Notice notice) = MayTell reach notice
 MayDo reach (service.Body posted) = MayPost reach posted
 
 abbrev MayDoIf : Reach → Option Service → Type 0
@@ -155,6 +175,7 @@ MayDoIf reach (Some s) = MayDo reach s
 may_do : (reach : Reach) (p : Path) (m : Option Method) → MayServe reach p → MayDoIf reach (service_at p m)
 may_do reach p None h = tt
 may_do reach path.Vector (Some Get) h = h
+may_do reach (path.Notice notice) (Some Get) h = h
 may_do reach p (Some Get) h = tt
 may_do reach path.Pull (Some Post) h = h
 may_do reach path.Push (Some Post) h = h
@@ -196,6 +217,7 @@ may_post reach posted [] (text ∷ more) kinds h =
 may_be_asked : (reach : Reach) (s : Service) (pairs : Pairs) → MayDo reach s → MayAsk reach (asked s pairs)
 may_be_asked reach (service.Query e) pairs h = tt
 may_be_asked reach service.Vector pairs h = h
+may_be_asked reach (service.Notice notice) pairs h = h
 may_be_asked reach (service.Body posted) pairs h = may_post reach posted (coding_in pairs) (length_in pairs) (type_in pairs) h
 
 may_at : (reach : Reach) (p : Path) (s : Option Service) (pairs : Pairs) → MayDoIf reach s → MayAsk reach (at_service p s pairs)
@@ -223,6 +245,7 @@ by_judged : (reach : Reach) (target : List ℕ) (pairs : Pairs) (rest : List ℕ
 by_judged reach target pairs rest (Refused why) h = tt
 by_judged reach target pairs rest (Query e) h = tt
 by_judged reach target pairs rest Vector h = h
+by_judged reach target pairs rest (Notice notice) h = h
 by_judged reach target pairs rest (Body posted n) h =
     elim (nat_le n (length rest)) as (λ b. MayArrive reach (cond b (posted_to posted (take n rest) pairs) (arrival.Refused ShortBody))) [
       | true ↦ by_posted reach posted (take n rest) pairs h.0

@@ -2,11 +2,13 @@
 --   told_by      an answer with a status, bytes and a record
 --   rendered     the answer with the bytes of a reply
 --   refused_by   the answer to a request that the region doesn't see
---   answer_by    the answer to an arrival that is no exchange
+--   answered_by  the answer to a request for a notice
+--   answer_at    the answer to an arrival that is no exchange, by the terms
+--   answer_by    the answer without an issuer and notices
 --   fact_by      the fact that the region makes for an arrival, if any
 --   IsRecorded   the record of a fact can be read
 --   AnswersBy    how replying with a given answer and fact may end
-use Rattle.std.specs.Prelude.{◌≡◌, ℕ, List, [], ◌∷◌, Option, None, IfSome, Result, Ok, Err}
+use Rattle.std.specs.Prelude.{◌≡◌, ℕ, List, [], ◌∷◌, Option, None, Some, IfSome, Result, Ok, Err}
 use Rattle.std.specs.declared.alloc.AllocError.{AllocError}
 use Rattle.tk_handle.specs.declared.dot.Dot.{Dot}
 use Rattle.tk_fact.specs.declared.body.Body.{Body}
@@ -18,11 +20,15 @@ use Rattle.tk_message.specs.declared.status_code.StatusCode.{StatusCode}
 use Rattle.tk_message.specs.declared.status_code.StatusCode.TheVariants as status
 use Rattle.tk_region.specs.RegionFields.{RegionFields, Gains}
 use Rattle.tk_region.specs.Step.{prepared_of, IsNextFact}
+use Rattle.tk_edge.specs.Issuer.{with_iss}
 use Rattle.tk_edge.specs.Judged.{code_of, allowed_by}
+use Rattle.tk_edge.specs.Notices.{notice_of}
 use Rattle.tk_edge.specs.Rendering.{reply_bytes}
+use Rattle.tk_edge.specs.Terms.{TermsFields, accept_all}
 use Rattle.tk_edge.specs.Told.{AnswerFields}
 use Rattle.tk_edge.specs.declared.hear.Arrival.{Arrival}
 use Rattle.tk_edge.specs.declared.hear.Arrival.TheVariants.{Silence, Refused, Request, Exchange}
+use Rattle.tk_edge.specs.declared.hear.Arrival.TheVariants.{Notice}
 use Rattle.tk_edge.specs.declared.refusal.Refusal.{Refusal}
 use Rattle.tk_edge.specs.declared.refusal.Refusal.TheVariants.{UnknownPath}
 
@@ -42,14 +48,26 @@ refused_by why = rendered (error_reply (code_of why)) (allowed_by why) None
 abbrev pub silent : AnswerFields
 silent = record { status = status.BadRequest; bytes = []; logged = None }
 
--- The answer to an arrival at the moment and with the random words, if regions don't exchange
--- facts: the path of an exchange is then unknown. specs/Exchanges has the answers to exchanges.
+-- the answer to a request for a notice: the reply with it, if it is given
+abbrev pub answered_by : Option ReplyFields → AnswerFields
+answered_by None = refused_by UnknownPath
+answered_by (Some reply) = rendered reply None None
+
+-- The answer to an arrival by the terms, at the moment and with the random words, if regions don't
+-- exchange facts: the path of an exchange is then unknown. specs/Exchanges has the answers to
+-- exchanges.
+abbrev pub answer_at : TermsFields → RegionFields → ℕ → List ℕ → Arrival → AnswerFields
+answer_at terms r now words Silence = silent
+answer_at terms r now words (Refused why) = refused_by why
+answer_at terms r now words (Request request) =
+    rendered (with_iss terms.issuer (prepared_of r now words request).reply) None
+    (prepared_of r now words request).logged
+answer_at terms r now words (Exchange asked) = refused_by UnknownPath
+answer_at terms r now words (Notice notice) = answered_by (notice_of terms r now notice)
+
+-- the answer to an arrival without an issuer and notices
 abbrev pub answer_by : RegionFields → ℕ → List ℕ → Arrival → AnswerFields
-answer_by r now words Silence = silent
-answer_by r now words (Refused why) = refused_by why
-answer_by r now words (Request request) =
-    rendered (prepared_of r now words request).reply None (prepared_of r now words request).logged
-answer_by r now words (Exchange asked) = refused_by UnknownPath
+answer_by r now words came = answer_at accept_all r now words came
 
 -- the fact that the region makes for an arrival, if any; for an exchange it makes none
 abbrev pub fact_by : RegionFields → ℕ → List ℕ → Arrival → Option (Dot × Body)
@@ -57,6 +75,7 @@ fact_by r now words Silence = None
 fact_by r now words (Refused why) = None
 fact_by r now words (Request request) = (prepared_of r now words request).fact
 fact_by r now words (Exchange asked) = None
+fact_by r now words (Notice notice) = None
 
 -- the record of the fact can be read: it is a bundle
 abbrev pub IsRecorded : Dot × Body → Type 0

@@ -4,7 +4,7 @@
 use Rattle.std.specs.Prelude.{◌≡◌, ◌⊎◌, ℕ, List, Option, Result}
 use Rattle.std.specs.declared.alloc.AllocError.{AllocError}
 use Rattle.tk_region.specs.RegionFields.{RegionFields}
-use Rattle.tk_edge.specs.Answers.{AnswersBy, answer_by, fact_by}
+use Rattle.tk_edge.specs.Answers.{AnswersBy, answer_at, fact_by}
 use Rattle.tk_edge.specs.Exchanges.{Exchanges, Pushes}
 use Rattle.tk_edge.specs.Heard.{Arrives}
 use Rattle.tk_edge.specs.Terms.{TermsFields}
@@ -15,14 +15,13 @@ use Rattle.tk_edge.specs.declared.hear.Arrival.{Arrival}
 use Rattle.tk_edge.specs.declared.hear.Arrival.TheVariants.{Exchange}
 use Rattle.tk_edge.specs.declared.reach.Reach.{Reach}
 
--- how replying to an arrival may end, at the moment and with the random words, by the terms of a
--- push
+-- how replying to an arrival may end by the terms, at the moment and with the random words
 abbrev pub Answers : TermsFields → RegionFields → ℕ → List ℕ → Arrival
     → Result AnswerFields AllocError → RegionFields → Type 0
 Answers terms old now words (Exchange exchange) result new =
     Exchanges terms now old exchange result new
 Answers terms old now words came result new =
-    AnswersBy old (answer_by old now words came) (fact_by old now words came) result new
+    AnswersBy old (answer_at terms old now words came) (fact_by old now words came) result new
 
 -- the region is unchanged, or a bundle was pushed and some of its facts, from the first on, are in
 abbrev pub IsShort : Reach → TermsFields → ℕ → Option (List ℕ) → RegionFields → RegionFields

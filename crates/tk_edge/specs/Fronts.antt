@@ -21,6 +21,7 @@ use Rattle.tk_edge.specs.declared.front.Front.TheVariants.{More, Came}
 use Rattle.tk_edge.specs.declared.front.Taken.{Taken}
 use Rattle.tk_edge.specs.declared.hear.Arrival.{Arrival}
 use Rattle.tk_edge.specs.declared.hear.Arrival.TheVariants.{Silence, Refused, Request, Exchange}
+use Rattle.tk_edge.specs.declared.hear.Arrival.TheVariants.{Notice}
 use Rattle.tk_edge.specs.declared.judge.Judged.{Judged}
 use Rattle.tk_edge.specs.declared.judge.Judged.TheVariants as judged
 use Rattle.tk_edge.specs.declared.reach.Reach.{Reach}
@@ -43,12 +44,14 @@ IsCut Silence = ⊤
 IsCut (Refused why) = IsCutBy why
 IsCut (Request request) = ⊥
 IsCut (Exchange exchange) = ⊥
+IsCut (Notice notice) = ⊥
 
 -- how many bytes of a body a judged head requests; the body of a GET isn't read
 abbrev pub size_of : Judged → ℕ
 size_of (judged.Refused why) = 0
 size_of (judged.Query endpoint) = 0
 size_of judged.Vector = 0
+size_of (judged.Notice notice) = 0
 size_of (judged.Body posted n) = n
 
 -- how many bytes a request takes: its head, and the body that its length names (RFC 9112, 6.3)
@@ -71,6 +74,7 @@ Takes reach bytes Silence taken = (taken.size ≡ 0) × (taken.stays ≡ false)
 Takes reach bytes (Refused why) taken = (taken.size ≡ length bytes) × (taken.stays ≡ false)
 Takes reach bytes (Request request) taken = IsOneRequest reach bytes taken
 Takes reach bytes (Exchange exchange) taken = IsOneRequest reach bytes taken
+Takes reach bytes (Notice notice) taken = IsOneRequest reach bytes taken
 
 -- No request is whole: more bytes may follow, there are fewer than a request may have, and a stream
 -- that ended here would end too early.
@@ -113,7 +117,7 @@ abbrev pub IsFewer : ℕ → ℕ → Front → Type 0
 IsFewer many limit More = many < limit
 IsFewer many limit (Came came taken) = ⊤
 
--- an exchange comes only if all paths are served
+-- an exchange comes only if all paths are served, and a notice only if that is
 abbrev pub MayComeBy : Reach → Front → Type 0
 MayComeBy reach More = ⊤
 MayComeBy reach (Came came taken) = MayArrive reach came

@@ -1,5 +1,5 @@
 -- The meaning of a stream of bytes that then ends (RFC 9112, 3, 5 and 6; the limits, `X-Subject`
--- and exchanges between regions are own).
+-- exchanges between regions and notices are own).
 --   request_at   the request for an endpoint, with its form and the fields that a decision reads
 --   arrival_of   the meaning of a head and the bytes behind it; the last refusal is `ShortBody`
 --   IsArrival    the meaning of a stream, by which paths are served
@@ -15,17 +15,18 @@ use Rattle.tk_message.specs.RequestFields.{RequestFields}
 use Rattle.tk_message.specs.declared.request.Endpoint.{Endpoint}
 use Rattle.tk_edge.specs.HeadFields.{authorization_in, subject_in}
 use Rattle.tk_edge.specs.Heads.{HasHead, head_limit, field_limit}
-use Rattle.tk_edge.specs.Judged.{judged_of}
-use Rattle.tk_edge.specs.Paths.{query_of}
+use Rattle.tk_edge.specs.Judged.{MayTell, judged_of}
+use Rattle.tk_edge.specs.Paths.{plain, query_of}
 use Rattle.tk_edge.specs.declared.exchange.Exchange.TheVariants as exchange
 use Rattle.tk_edge.specs.declared.hear.Arrival.{Arrival}
 use Rattle.tk_edge.specs.declared.hear.Arrival.TheVariants.{Silence, Refused, Request, Exchange}
+use Rattle.tk_edge.specs.declared.hear.Arrival.TheVariants.{Notice}
 use Rattle.tk_edge.specs.declared.judge.Judged.{Judged}
 use Rattle.tk_edge.specs.declared.judge.Judged.TheVariants as judged
 use Rattle.tk_edge.specs.declared.path.Posted.{Posted}
 use Rattle.tk_edge.specs.declared.path.Posted.TheVariants.{Form, Pull, Push}
 use Rattle.tk_edge.specs.declared.reach.Reach.{Reach}
-use Rattle.tk_edge.specs.declared.reach.Reach.TheVariants.{Admin, All}
+use Rattle.tk_edge.specs.declared.reach.PathSet.TheVariants.{Admin, All}
 use Rattle.tk_edge.specs.declared.refusal.Refusal.TheVariants.{NoHead, ShortBody}
 
 -- the request for an endpoint, with its form and the fields that a decision reads
@@ -49,6 +50,7 @@ arrival_by target pairs rest (judged.Refused why) = Refused why
 arrival_by target pairs rest (judged.Query endpoint) =
     Request (request_at endpoint (query_of target) pairs)
 arrival_by target pairs rest judged.Vector = Exchange exchange.Vector
+arrival_by target pairs rest (judged.Notice notice) = Notice notice
 arrival_by target pairs rest (judged.Body posted n) =
     if nat_le n (length rest) then posted_to posted (take n rest) pairs else Refused ShortBody
 
@@ -72,16 +74,18 @@ IsArrival reach bytes came =
     × HasHead bytes head_limit field_limit h
     × (came ≡ arrival_of reach h rest))
 
--- the meaning of a stream if the paths of clients and of operators are served
+-- the meaning of a stream if the paths of clients and of operators are served, and no others
 abbrev pub IsHeard : List ℕ → Arrival → Type 0
-IsHeard bytes came = IsArrival Admin bytes came
+IsHeard bytes came = IsArrival (plain Admin) bytes came
 
--- whatever the bytes are, an exchange arrives only if all paths are served
+-- whatever the bytes are, an exchange arrives only if all paths are served, and a notice is
+-- requested only if that is
 abbrev pub MayArrive : Reach → Arrival → Type 0
 MayArrive reach Silence = ⊤
 MayArrive reach (Refused why) = ⊤
 MayArrive reach (Request request) = ⊤
-MayArrive reach (Exchange asked) = reach ≡ All
+MayArrive reach (Exchange asked) = reach.paths ≡ All
+MayArrive reach (Notice notice) = MayTell reach notice
 
 -- what may arrive over a connection: the meaning of its bytes, if these are known
 abbrev pub Arrives : Reach → Option (List ℕ) → Arrival → Type 0

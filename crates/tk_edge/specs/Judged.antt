@@ -25,14 +25,17 @@ use Rattle.tk_edge.specs.declared.path.Posted.{Posted}
 use Rattle.tk_edge.specs.declared.path.Posted.TheVariants.{Form, Pull, Push}
 use Rattle.tk_edge.specs.declared.path.Service.{Service}
 use Rattle.tk_edge.specs.declared.path.Service.TheVariants as service
+use Rattle.tk_edge.specs.declared.notice.Notice.{Notice}
+use Rattle.tk_edge.specs.declared.notice.Notice.TheVariants.{Discovery, Health}
 use Rattle.tk_edge.specs.declared.reach.Reach.{Reach}
-use Rattle.tk_edge.specs.declared.reach.Reach.TheVariants.{All}
+use Rattle.tk_edge.specs.declared.reach.PathSet.TheVariants.{All}
 use Rattle.tk_edge.specs.declared.refusal.Refusal.{Refusal}
 use Rattle.tk_edge.specs.declared.refusal.Refusal.TheVariants.{Sealed, UnknownPath, WrongMethod}
 use Rattle.tk_edge.specs.declared.refusal.Refusal.TheVariants.{DuplicateField, LengthRequired}
 use Rattle.tk_edge.specs.declared.refusal.Refusal.TheVariants.{MalformedLength, TooLarge, WrongType}
 use Rattle.tk_edge.specs.declared.judge.Judged.{Judged}
 use Rattle.tk_edge.specs.declared.judge.Judged.TheVariants.{Refused, Query, Vector, Body}
+use Rattle.tk_edge.specs.declared.judge.Judged.TheVariants as judged
 
 -- the name of a refusal's error
 abbrev pub code_of : Refusal → ErrorCode
@@ -79,6 +82,7 @@ with_body posted [] (text ∷ more) kinds = sized posted (numeral_up_to (limit_o
 abbrev pub asked : Service → Pairs → Judged
 asked (service.Query endpoint) pairs = Query endpoint
 asked service.Vector pairs = Vector
+asked (service.Notice notice) pairs = judged.Notice notice
 asked (service.Body posted) pairs =
     with_body posted (coding_in pairs) (length_in pairs) (type_in pairs)
 
@@ -100,12 +104,19 @@ judged_of reach method target pairs =
 -- an exchange is a use of a body only if all paths are served
 abbrev pub MayPost : Reach → Posted → Type 0
 MayPost reach (Form endpoint) = ⊤
-MayPost reach Pull = reach ≡ All
-MayPost reach Push = reach ≡ All
+MayPost reach Pull = reach.paths ≡ All
+MayPost reach Push = reach.paths ≡ All
 
--- a judgement requests an exchange only if all paths are served, and a body within its limit
+-- a notice is given only over a connection where it is served
+abbrev pub MayTell : Reach → Notice → Type 0
+MayTell reach Discovery = reach.discovery ≡ true
+MayTell reach Health = reach.health ≡ true
+
+-- a judgement requests an exchange only if all paths are served, a notice only if that is, and a
+-- body within its limit
 abbrev pub MayAsk : Reach → Judged → Type 0
 MayAsk reach (Refused why) = ⊤
 MayAsk reach (Query endpoint) = ⊤
-MayAsk reach Vector = reach ≡ All
+MayAsk reach Vector = reach.paths ≡ All
+MayAsk reach (judged.Notice notice) = MayTell reach notice
 MayAsk reach (Body posted n) = MayPost reach posted × (n ≤ limit_of posted)

@@ -11,8 +11,10 @@
 --   Pulls        wanted, the format of a pull
 --   Rendering    reply_bytes, the bytes of a reply
 --   Told         IsTold, the record is written and then the reply
---   Answers      answer_by, the reply to a request; fact_by, the fact made for it
 --   Terms        is_out_of_range, a bundle has an item under a number that isn't accepted
+--   Issuer       is_issuer, a text is an issuer; with_iss, a reply names it
+--   Notices      notice_of, what the server says of itself
+--   Answers      answer_at, the reply to a request; fact_by, the fact made for it
 --   Ahead        is_ahead, a bundle's horizon is later than the moment; refused, by the terms
 --   Exchanges    Exchanges, the reply to another region
 --   Arrivals     Answers, the reply to what arrived
@@ -37,9 +39,11 @@ pub mod Fronts
 pub mod HeadFields
 pub mod Heads
 pub mod Heard
+pub mod Issuer
 pub mod Judged
 pub mod Laws
 pub mod MediaType
+pub mod Notices
 pub mod OpenReply
 pub mod Paths
 pub mod PullLaws

@@ -1,16 +1,19 @@
 -- The paths that tokend serves, and what each serves under a method (RFC 6749, 3.1 and 3.2; RFC
--- 7662, 2; RFC 7009, 2; the paths of operators and of exchanges between regions are own).
+-- 7662, 2; RFC 7009, 2; RFC 8414, 3; the paths of operators, of exchanges between regions and of
+-- health are own).
 --   path_of        the part of a target before its first `?` (RFC 9112, 3.2.1)
 --   query_of       the part of a target behind its first `?`
 --   client_named   the path of a name among those of clients
 --   admin_named    the path of a name among those of operators
 --   sync_named     the path of a name among those by which regions exchange facts
+--   notice_named   the path of a name among those of notices, if it is reached
 --   path_named     the path of a name, byte for byte, if it is reached
+--   plain          the reach of some paths, without notices
 --   method_named   the method of a name, which is case-sensitive (RFC 9110, 9.1)
 --   service_at     what a path serves under a method
 --   allowed_at     the methods of a path, as `Allow` names them (RFC 9110, 10.2.1)
-use Rattle.std.specs.Prelude.{ℕ, ◌+◌, ◌==◌, List, take, drop, Option, None, Some, codes}
-use Rattle.std.specs.Prelude.{if◌then◌else◌}
+use Rattle.std.specs.Prelude.{ℕ, ◌+◌, ◌==◌, ◌&&◌, false, List, take, drop, Option, None, Some}
+use Rattle.std.specs.Prelude.{codes, if◌then◌else◌}
 use Rattle.std.specs.List.{position_or_len}
 use Rattle.std.specs.Option.{option_or}
 use Rattle.std.specs.Str.{bytes_eq}
@@ -20,13 +23,16 @@ use Rattle.tk_edge.specs.declared.path.Path.{Path}
 use Rattle.tk_edge.specs.declared.path.Path.TheVariants.{Authorize, Token, Introspect, Revoke}
 use Rattle.tk_edge.specs.declared.path.Path.TheVariants.{Client, Retire, Consent, Withdraw, SignOut}
 use Rattle.tk_edge.specs.declared.path.Path.TheVariants.{Vector, Pull, Push}
+use Rattle.tk_edge.specs.declared.path.Path.TheVariants as paths
 use Rattle.tk_edge.specs.declared.path.Method.{Method}
 use Rattle.tk_edge.specs.declared.path.Method.TheVariants.{Get, Post}
 use Rattle.tk_edge.specs.declared.path.Posted.TheVariants as posted
 use Rattle.tk_edge.specs.declared.path.Service.{Service}
 use Rattle.tk_edge.specs.declared.path.Service.TheVariants as service
+use Rattle.tk_edge.specs.declared.notice.Notice.TheVariants.{Discovery, Health}
 use Rattle.tk_edge.specs.declared.reach.Reach.{Reach}
-use Rattle.tk_edge.specs.declared.reach.Reach.TheVariants.{Clients, Admin, All}
+use Rattle.tk_edge.specs.declared.reach.PathSet.{PathSet}
+use Rattle.tk_edge.specs.declared.reach.PathSet.TheVariants.{Clients, Admin, All}
 
 -- the part of a target before its first `?`, which has the code 63
 abbrev pub path_of : List ℕ → List ℕ
@@ -63,15 +69,31 @@ sync_named path =
     else if bytes_eq path (codes "/sync/push") then Some Push
     else None
 
--- the path of a name among those that clients don't have, if it is reached
-abbrev pub inner_named : Reach → List ℕ → Option Path
+-- the reach of these paths, without notices
+abbrev pub plain : PathSet → Reach
+plain set = record { paths = set; discovery = false; health = false }
+
+-- the path of a name among those of notices, if it is reached
+abbrev pub notice_named : Reach → List ℕ → Option Path
+notice_named reach path =
+    if reach.discovery && bytes_eq path (codes "/.well-known/oauth-authorization-server")
+    then Some (paths.Notice Discovery)
+    else if reach.health && bytes_eq path (codes "/health") then Some (paths.Notice Health)
+    else None
+
+-- the path of a name among those of operators and of regions, if it is reached
+abbrev pub inner_named : PathSet → List ℕ → Option Path
 inner_named Clients path = None
 inner_named Admin path = admin_named path
 inner_named All path = option_or (admin_named path) (sync_named path)
 
+-- the path of a name among those that aren't of clients, if it is reached
+abbrev pub beside_clients : Reach → List ℕ → Option Path
+beside_clients reach path = option_or (notice_named reach path) (inner_named reach.paths path)
+
 -- the path of a name, if it is reached
 abbrev pub path_named : Reach → List ℕ → Option Path
-path_named reach path = option_or (client_named path) (inner_named reach path)
+path_named reach path = option_or (client_named path) (beside_clients reach path)
 
 -- the method of a name, GET or POST alone
 abbrev pub method_named : List ℕ → Option Method
@@ -85,6 +107,7 @@ abbrev pub get_service : Path → Option Service
 get_service Authorize = Some (service.Query endpoint.Authorize)
 get_service Client = Some (service.Query endpoint.ShowClient)
 get_service Vector = Some service.Vector
+get_service (paths.Notice notice) = Some (service.Notice notice)
 get_service path = None
 
 -- the service whose body is a form for this endpoint
@@ -105,6 +128,7 @@ post_service SignOut = form_for endpoint.SignOut
 post_service Vector = None
 post_service Pull = Some (service.Body posted.Pull)
 post_service Push = Some (service.Body posted.Push)
+post_service (paths.Notice notice) = None
 
 -- what a path serves under a method; methods other than GET and POST are `None`
 abbrev pub service_at : Path → Option Method → Option Service
@@ -117,4 +141,5 @@ abbrev pub allowed_at : Path → List ℕ
 allowed_at Authorize = codes "GET"
 allowed_at Client = codes "GET, POST"
 allowed_at Vector = codes "GET"
+allowed_at (paths.Notice notice) = codes "GET"
 allowed_at path = codes "POST"

@@ -10,7 +10,7 @@ use Rattle.tk_params.specs.Params.{Pairs}
 use Rattle.tk_edge.specs.HeadFields.{coding_in, connection_in, length_in}
 use Rattle.tk_edge.specs.Judged.{judged_of}
 use Rattle.tk_edge.specs.declared.judge.Judged.{Judged}
-use Rattle.tk_edge.specs.declared.judge.Judged.TheVariants.{Refused, Query, Vector, Body}
+use Rattle.tk_edge.specs.declared.judge.Judged.TheVariants.{Refused, Query, Vector, Notice, Body}
 use Rattle.tk_edge.specs.declared.reach.Reach.{Reach}
 
 -- the client lets its connection stay: it says nothing of it, or `keep-alive` alone
@@ -34,6 +34,7 @@ abbrev pub is_read_whole : Pairs → Judged → Bool
 is_read_whole pairs (Refused why) = false
 is_read_whole pairs (Query endpoint) = has_no_body pairs
 is_read_whole pairs Vector = has_no_body pairs
+is_read_whole pairs (Notice notice) = has_no_body pairs
 is_read_whole pairs (Body posted n) = true
 
 -- the connection may stay, by the minor version, the fields and what was judged of the head

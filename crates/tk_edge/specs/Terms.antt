@@ -1,9 +1,10 @@
--- The terms of a push: which bundles an edge refuses, whatever its region would do with them (own).
+-- The terms of an edge: which pushed bundles it refuses, whatever its region would do with them,
+-- and which notices of itself it gives (own).
 --   TermsFields       what contracts see of the terms
 --   is_within         a range has a number
 --   is_accepted       a bundle may have items under a number
 --   is_out_of_range   an item of a bundle is under a number that isn't accepted
---   accept_all        the terms that refuse no bundle
+--   accept_all        the terms that refuse no bundle and give no notice
 use Rattle.std.specs.Prelude.{ℕ, Bool, false, ◌&&◌, ◌||◌, not, ◌==◌, nat_le, List, [], length}
 use Rattle.std.specs.Prelude.{Option, None, Some, refl}
 use Rattle.std.specs.List.{list_any}
@@ -11,12 +12,14 @@ use Rattle.std.specs.Coded.{Coded, code_by, coded×, coded_bool, coded_list, cod
 use Rattle.tk_bundle.specs.BundleFields.{BundleFields, Items}
 use Rattle.tk_edge.specs.declared.terms.RegionRange.{RegionRange}
 
--- whether bundles that are ahead are refused, the ranges of accepted numbers, and a range of
--- numbers that aren't
+-- whether bundles that are ahead are refused, the ranges of accepted numbers, a range of numbers
+-- that aren't, the issuer, and whether health is given
 pub record TermsFields : Type 0 where
   pub refuses_ahead : Bool
   pub accepted : List RegionRange
   pub barred : Option RegionRange
+  pub issuer : Option (List ℕ)
+  pub health : Bool
 
 -- the code of a range, as a pair
 abbrev pub coded_range : Coded RegionRange
@@ -27,10 +30,18 @@ coded_range =
 -- the code of the terms, as nested pairs
 abbrev pub coded_terms : Coded TermsFields
 coded_terms =
-    code_by (Bool × (List RegionRange × Option RegionRange))
-    (coded× coded_bool (coded× (coded_list coded_range) (coded_option coded_range)))
-    (λ t. (t.refuses_ahead, (t.accepted, t.barred)))
-    (λ p. record { refuses_ahead = p.0; accepted = p.1.0; barred = p.1.1 }) (λ _. refl)
+    code_by (Bool × (List RegionRange × (Option RegionRange × (Option (List ℕ) × Bool))))
+    (coded× coded_bool
+    (coded× (coded_list coded_range)
+    (coded× (coded_option coded_range) (coded× (coded_option (coded_list coded_ℕ)) coded_bool))))
+    (λ t. (t.refuses_ahead, (t.accepted, (t.barred, (t.issuer, t.health)))))
+    (λ p. record {
+      refuses_ahead = p.0;
+      accepted = p.1.0;
+      barred = p.1.1.0;
+      issuer = p.1.1.1.0;
+      health = p.1.1.1.1;
+    }) (λ _. refl)
 
 -- the range has the number
 abbrev pub is_within : ℕ → RegionRange → Bool
@@ -57,6 +68,12 @@ has_outside terms items = list_any (λ i. not (is_accepted terms i.0.region)) it
 abbrev pub is_out_of_range : TermsFields → BundleFields → Bool
 is_out_of_range terms b = has_outside terms b.items
 
--- the terms that refuse no bundle
+-- the terms that refuse no bundle and give no notice
 abbrev pub accept_all : TermsFields
-accept_all = record { refuses_ahead = false; accepted = []; barred = None }
+accept_all = record {
+  refuses_ahead = false;
+  accepted = [];
+  barred = None;
+  issuer = None;
+  health = false;
+}

@@ -18,7 +18,7 @@ ghost use Rattle.std.specs.Prelude.{◌≡◌};
 ghost use Rattle.tk_edge.specs.Ahead as spec;
 ghost use Rattle.tk_region.specs.Taking.{unread};
 
-use crate::terms::{PushTerms, is_out_of_range};
+use crate::terms::{Terms, is_out_of_range};
 use std::alloc::Global;
 use tk_bundle::Bundle;
 use tk_format::ReadError;
@@ -27,7 +27,7 @@ use tk_handle::Moment;
 // Reads a pushed bundle, and refuses it if the terms do at the moment.
 pub(crate) fn read_pushed(
     alloc: Global,
-    terms: &PushTerms,
+    terms: &Terms,
     now: Moment,
     bytes: &[u8],
 ) -> Result<Bundle, PushError>

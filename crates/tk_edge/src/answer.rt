@@ -37,25 +37,28 @@ ghost use Rattle.tk_fact.specs.Check.{refusal_of};
 ghost use Rattle.tk_region.specs.Step.{IsNextFact};
 ghost use Rattle.tk_edge.specs.Answers as spec;
 ghost use Rattle.tk_edge.specs.Arrivals.{Answers};
+ghost use Rattle.tk_edge.specs.Issuer as issuers;
 
 use crate::exchange::answer_exchange;
 use crate::hear::Arrival;
+use crate::issuer::{Issuer, with_iss};
+use crate::notice::answer_notice;
 use crate::refusal::Refusal;
 use crate::render::render;
-use crate::terms::PushTerms;
+use crate::terms::Terms;
 use std::alloc::{AllocError, Global};
 use tk_fact::Fact;
 use tk_handle::Moment;
 use tk_message::{Reply, Request, Told};
 use tk_region::{Prepared, Region};
 
-// Replies to an arrival. `terms` are the terms of a push, `now` is the current moment, and `words`
-// are the random words for new handles. If memory runs out, the region is unchanged, except that
+// Replies to an arrival by the terms. `now` is the current moment, and `words` are the random words
+// for new handles. If memory runs out, the region is unchanged, except that
 // the first facts of a pushed bundle may be in.
 pub(crate) fn answer_arrival(
     alloc: Global,
     region: &mut Region,
-    terms: &PushTerms,
+    terms: &Terms,
     now: Moment,
     words: &[u64; 6],
     came: &Arrival,
@@ -69,8 +72,9 @@ pub(crate) fn answer_arrival(
     match came {
         Arrival::Silence => Ok(silent(alloc)),
         Arrival::Refused(why) => refuse(alloc, *why),
-        Arrival::Request(request) => answer_request(alloc, region, now, words, request),
+        Arrival::Request(request) => answer_request(alloc, region, terms, now, words, request),
         Arrival::Exchange(exchange) => answer_exchange(alloc, region, terms, now, exchange),
+        Arrival::Notice(notice) => answer_notice(alloc, region, terms, now, *notice),
     }
 }
 
@@ -97,12 +101,13 @@ pub(crate) fn refuse(alloc: Global, why: Refusal) -> Result<Answer, AllocError>
 fn answer_request(
     alloc: Global,
     region: &mut Region,
+    terms: &Terms,
     now: Moment,
     words: &[u64; 6],
     request: &Request,
 ) -> Result<Answer, AllocError>
     ensures answers { spec.AnswersBy region.old
-        (spec.answer_by region.old now words.now (Arrival.Request request.now))
+        (spec.answer_at terms.now region.old now words.now (Arrival.Request request.now))
         (spec.fact_by region.old now words.now (Arrival.Request request.now)) result region.new }
     ensures recorded { OnOk result (IfSome
         (spec.fact_by region.old now words.now (Arrival.Request request.now)) spec.IsRecorded) }
@@ -112,7 +117,7 @@ fn answer_request(
         Some(fact) => has_record(fact),
         None => {}
     }
-    send(alloc, region, prepared)
+    send(alloc, region, &terms.issuer, prepared)
 }
 
 // Gives a proof the fact that the record of a fact that passes its check can be read.
@@ -123,12 +128,20 @@ fn has_record(fact: &Fact)
     fact.known();
 }
 
-// Makes the answer, then adds the fact. No fact is added if memory runs out for its reply.
-fn send(alloc: Global, region: &mut Region, prepared: Prepared) -> Result<Answer, AllocError>
+// Makes the answer, then adds the fact. No fact is added if memory runs out for its reply, which
+// names the issuer, if there is one and the reply is a redirect.
+fn send(
+    alloc: Global,
+    region: &mut Region,
+    issuer: &Option<Issuer>,
+    prepared: Prepared,
+) -> Result<Answer, AllocError>
     requires { IfSome prepared.fact (IsNextFact region.old) }
-    ensures { spec.AnswersBy region.old (spec.rendered prepared.reply None prepared.logged)
+    ensures { spec.AnswersBy region.old
+        (spec.rendered (issuers.with_iss issuer.now prepared.reply) None prepared.logged)
         prepared.fact result region.new }
 {
+    let prepared = naming(issuer, prepared)?;
     match render(alloc, &prepared.reply, None) {
         Ok(bytes) => commit(region, prepared, bytes),
         Err(error) => {
@@ -136,6 +149,28 @@ fn send(alloc: Global, region: &mut Region, prepared: Prepared) -> Result<Answer
             Err(error)
         }
     }
+}
+
+// Returns what was prepared, with a reply that names the issuer, if there is one and the reply is a
+// redirect.
+fn naming(issuer: &Option<Issuer>, prepared: Prepared) -> Result<Prepared, AllocError>
+    ensures { IfOk result (λ p. p ≡ record {
+      reply = issuers.with_iss issuer.now prepared.reply;
+      fact = prepared.fact;
+      logged = prepared.logged;
+    }) }
+{
+    let Prepared {
+        reply,
+        fact,
+        logged,
+    } = prepared;
+    let reply = with_iss(issuer, reply)?;
+    Ok(Prepared {
+        reply,
+        fact,
+        logged,
+    })
 }
 
 // Adds the fact of a rendered reply, whose answer is made before. `bytes` is that reply.

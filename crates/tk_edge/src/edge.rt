@@ -13,11 +13,11 @@ use tk_region::Region;
 /// bundles.
 ///
 /// An edge is sealed once its log has failed, because facts that it made later might be lost.
-/// Contracts see the region, the terms of a push, and whether the edge is sealed.
+/// Contracts see the region, the terms, and whether the edge is sealed.
 #[derive(Drop)]
 pub struct Edge {
     region: Region,
-    terms: PushTerms,
+    terms: Terms,
     sealed: bool,
 }
 
@@ -53,6 +53,7 @@ ghost use Rattle.tk_edge.specs.Answers.{refused_by};
 ghost use Rattle.tk_edge.specs.Arrivals.{Answers, IsShort};
 ghost use Rattle.tk_edge.specs.Failures.{Rose};
 ghost use Rattle.tk_edge.specs.FrontServed.{IsFrontServed, IsFrontTurnedAway};
+ghost use Rattle.tk_edge.specs.EdgeFields.{reach_of};
 ghost use Rattle.tk_edge.specs.Heard.{IsArrival, MayArrive};
 ghost use Rattle.tk_edge.specs.declared.hear.Arrival.{Arrival as AnyArrival};
 
@@ -60,11 +61,11 @@ use crate::answer::{Answer, answer_arrival, refuse};
 use crate::device::Sink;
 use crate::front::{Front, Taken, ending, hear_front};
 use crate::hear::Arrival;
-use crate::reach::Reach;
+use crate::reach::{PathSet, Reach};
 use crate::refusal::Refusal;
 use crate::serving::{serve_arrival, serve_front_open, turn_away};
 use crate::tell::Fault;
-use crate::terms::PushTerms;
+use crate::terms::Terms;
 use std::alloc::{AllocError, Global};
 use tk_handle::Moment;
 use tk_message::StatusCode;
@@ -75,7 +76,7 @@ impl Edge {
     /// A pushed bundle that the terms refuse is not taken in: the reply is 409 `horizon_ahead` or
     /// `out_of_range`, nothing is logged, and the region is unchanged. The region takes each other
     /// bundle in, or refuses it.
-    pub fn new(region: Region, terms: PushTerms) -> Edge
+    pub fn new(region: Region, terms: Terms) -> Edge
         ensures { result ≡ record {
           region = region;
           terms = terms;
@@ -107,6 +108,17 @@ impl Edge {
         ensures value { result.now ≡ self.old.region }
     {
         &mut self.region
+    }
+
+    /// Returns the reach of these paths, with the notices that the terms give.
+    pub fn reach(&self, paths: PathSet) -> Reach
+        ensures { result ≡ reach_of self.now.terms paths }
+    {
+        Reach {
+            paths,
+            discovery: self.terms.issuer.is_some(),
+            health: self.terms.health,
+        }
     }
 
     /// Returns whether the edge is sealed: its log has failed.

@@ -40,7 +40,7 @@ use crate::ahead::PushError;
 use crate::answer::{Answer, answer_with};
 use crate::pull::read_wanted;
 use crate::push::take_pushed;
-use crate::terms::PushTerms;
+use crate::terms::Terms;
 use std::alloc::{AllocError, Global};
 use tk_format::ReadError;
 use tk_handle::Moment;
@@ -67,7 +67,7 @@ impl Sent {
 pub(crate) fn answer_exchange(
     alloc: Global,
     region: &mut Region,
-    terms: &PushTerms,
+    terms: &Terms,
     now: Moment,
     exchange: &Exchange,
 ) -> Result<Answer, AllocError>
@@ -151,7 +151,7 @@ fn refusal_code(error: PushError) -> Option<ErrorCode>
 fn take_bundle(
     alloc: Global,
     region: &mut Region,
-    terms: &PushTerms,
+    terms: &Terms,
     now: Moment,
     bytes: &[u8],
 ) -> Result<Answer, AllocError>

@@ -162,6 +162,7 @@ fn head_front(
             whole_front(asked(alloc, endpoint, query, &fields), head)
         }
         Judged::Vector => Ok(Front::Came(Arrival::Exchange(Exchange::Vector), head)),
+        Judged::Notice(notice) => Ok(Front::Came(Arrival::Notice(notice), head)),
         Judged::Body(posted, size) => {
             let rest = &bytes[spans.len..];
             body_front(alloc, posted, size as usize, head, rest, is_over, &fields)

@@ -1,6 +1,7 @@
 //! What arrives over a connection, an `Arrival`, and how it is made of the parts of a request.
 
 use crate::exchange::Exchange;
+use crate::notice::Notice;
 use crate::refusal::Refusal;
 use tk_message::Request;
 
@@ -15,6 +16,8 @@ pub enum Arrival {
     Request(Request),
     /// A request of another region. Arrives only if all paths are served.
     Exchange(Exchange),
+    /// A request for what the server says of itself. Arrives only if that is served.
+    Notice(Notice),
 }
 
 ghost use Rattle.std.specs.Prelude.{◌≡◌, IfOk};

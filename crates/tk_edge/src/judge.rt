@@ -9,19 +9,21 @@ ghost use Rattle.tk_edge.specs.Judged as spec;
 
 use crate::field::{Field, Fields, any_repeats};
 use crate::media_type::is_form_type;
+use crate::notice::Notice;
 use crate::path::{Method, Path, Posted, Service, method_named, path_named, split_target};
 use crate::reach::Reach;
 use crate::refusal::Refusal;
 use tk_format::{Numeral, read_numeral};
 use tk_message::Endpoint;
 
-// What a head requests: nothing that is served, the query of a GET, the region's vector, or a
-// service with a body of the given number of bytes.
+// What a head requests: nothing that is served, the query of a GET, the region's vector, what the
+// server says of itself, or a service with a body of the given number of bytes.
 #[derive(Clone, Copy)]
 pub(crate) enum Judged {
     Refused(Refusal),
     Query(Endpoint),
     Vector,
+    Notice(Notice),
     Body(Posted, u32),
 }
 
@@ -70,6 +72,7 @@ fn asked(service: Service, fields: &Fields<'_>) -> Judged
     match service {
         Service::Query(endpoint) => Judged::Query(endpoint),
         Service::Vector => Judged::Vector,
+        Service::Notice(notice) => Judged::Notice(notice),
         Service::Body(posted) => with_body(posted, fields),
     }
 }

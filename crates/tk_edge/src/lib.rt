@@ -10,8 +10,10 @@
 //! - [`Sink`], [`Counted`], [`Discard`]: devices that take bytes, and count their failures.
 //! - [`Reach`], [`Path`], `field`, `judge`: what a head requests, or its [`Refusal`].
 //! - [`hear_front`], [`Front`]: an [`Arrival`], or more bytes are needed. An [`Exchange`] is with
-//!   another region, and [`PushTerms`] say which pushes are refused.
-//! - `answer`, `ahead`, `exchange`: the reply to an arrival. `render` makes its bytes.
+//!   another region, and a [`Notice`] is of the server itself.
+//! - [`Terms`] say which pushes are refused, and which notices are given. An [`Issuer`] is the
+//!   server's name in them.
+//! - `answer`, `ahead`, `exchange`, `notice`: the reply to an arrival. `render` makes its bytes.
 //! - `again`: the reply to a refresh that is repeated.
 //! - `tell`, `push`: log the record, and only then write the reply, or return a [`Fault`].
 //! - `serving`, [`Edge`], [`keep_open`].
@@ -31,9 +33,11 @@ mod exchange;
 mod field;
 mod front;
 mod hear;
+mod issuer;
 mod judge;
 mod laws;
 mod media_type;
+mod notice;
 mod open_reply;
 mod path;
 mod pull;
@@ -55,11 +59,15 @@ pub use edge::{Edge, Served};
 pub use exchange::{Exchange, Sent};
 pub use front::{Front, HEAD_LIMIT, Taken, hear_front};
 pub use hear::Arrival;
-pub use laws::{accepts_all, hears_all, one_meaning, refused_is_lost, takes_as_region};
+pub use issuer::{Issuer, is_issuer};
+pub use laws::{
+    accepts_all, adds_issuer, hears_all, leads_alike, one_meaning, refused_is_lost, takes_as_region,
+};
+pub use notice::Notice;
 pub use open_reply::keep_open;
 pub use path::Path;
 pub use put::{Discard, put_whole};
-pub use reach::Reach;
+pub use reach::{PathSet, Reach};
 pub use refusal::Refusal;
 pub use tell::Fault;
-pub use terms::{PushTerms, RegionRange};
+pub use terms::{RegionRange, Terms};

@@ -1,7 +1,7 @@
 //! The reply over a connection that stays open: `keep_open`.
 
-ghost use Rattle.std.specs.Prelude.{◌≡◌, ◌+◌, ◌≤◌, ◌++◌, List, ℕ, length, take, drop};
-ghost use Rattle.std.specs.Prelude.{IfNone, IfSome};
+ghost use Rattle.std.specs.Prelude.{◌≡◌, ◌+◌, ◌<◌, ◌≤◌, ◌++◌, List, ℕ, length, take, drop};
+ghost use Rattle.std.specs.Prelude.{IfNone, IfSome, true};
 ghost use Rattle.tk_edge.specs.OpenReply as spec;
 
 /// The line that says that a connection ends.
@@ -27,11 +27,24 @@ fn closing_line_at(reply: &[u8]) -> Option<usize>
     ensures within { IfSome result (λ at. at + length spec.closing_line ≤ length reply.now) }
 {
     for at in 0..reply.len() {
-        if reply[at..].starts_with(CLOSING_LINE) {
+        if is_closing_at(reply, at) {
             return Some(at);
         }
     }
     None
+}
+
+// Returns whether a closing line is at a place. The test of its first byte spares most places the
+// other one.
+fn is_closing_at(reply: &[u8], at: usize) -> bool
+    requires { at < length reply.now }
+    ensures value { result ≡ spec.says_at reply.now at }
+    ensures within { result ≡ true → at + length spec.closing_line ≤ length reply.now }
+{
+    if reply[at] != b'C' {
+        return false;
+    }
+    reply[at..].starts_with(CLOSING_LINE)
 }
 
 // Takes the line at a place out.

@@ -7,7 +7,8 @@ ghost use Rattle.std.specs.List.{position_or_len};
 ghost use Rattle.std.specs.Str.{bytes_eq};
 ghost use Rattle.tk_edge.specs.Paths as spec;
 
-use crate::reach::Reach;
+use crate::notice::Notice;
+use crate::reach::{PathSet, Reach};
 use tk_message::Endpoint;
 
 /// A path that tokend serves.
@@ -37,6 +38,9 @@ pub enum Path {
     Pull,
     /// Takes a bundle in, `/sync/push` (own).
     Push,
+    /// Shows what the server says of itself: `/.well-known/oauth-authorization-server` (RFC 8414,
+    /// 3), or `/health` (own).
+    Notice(Notice),
 }
 
 // A method that some path has.
@@ -53,6 +57,8 @@ pub(crate) enum Service {
     Query(Endpoint),
     // The region's vector.
     Vector,
+    // What the server says of itself.
+    Notice(Notice),
     // A service that needs a body.
     Body(Posted),
 }
@@ -98,7 +104,7 @@ pub(crate) fn split_target(target: &[u8]) -> (&[u8], &[u8])
 }
 
 // Returns whether a text is this name, byte for byte.
-fn is_named(text: &[u8], name: &[u8]) -> bool
+pub(crate) fn is_named(text: &[u8], name: &[u8]) -> bool
     ensures { result ≡ bytes_eq text.now name.now }
 {
     text == name
@@ -110,18 +116,41 @@ pub(crate) fn path_named(reach: Reach, path: &[u8]) -> Option<Path>
 {
     match client_named(path) {
         Some(found) => Some(found),
-        None => inner_named(reach, path),
+        None => beside_clients(reach, path),
     }
 }
 
-// Returns the path of this name among those that clients don't have, if it is reached.
-fn inner_named(reach: Reach, path: &[u8]) -> Option<Path>
-    ensures { result ≡ spec.inner_named reach path.now }
+// Returns the path of this name among those that aren't of clients, if it is reached.
+fn beside_clients(reach: Reach, path: &[u8]) -> Option<Path>
+    ensures { result ≡ spec.beside_clients reach path.now }
 {
-    match reach {
-        Reach::Clients => None,
-        Reach::Admin => admin_named(path),
-        Reach::All => match admin_named(path) {
+    match notice_named(reach, path) {
+        Some(found) => Some(found),
+        None => inner_named(reach.paths, path),
+    }
+}
+
+// Returns the path of this name among those of notices, if it is reached.
+fn notice_named(reach: Reach, path: &[u8]) -> Option<Path>
+    ensures { result ≡ spec.notice_named reach path.now }
+{
+    if reach.discovery && is_named(path, b"/.well-known/oauth-authorization-server") {
+        return Some(Path::Notice(Notice::Discovery));
+    }
+    if reach.health && is_named(path, b"/health") {
+        return Some(Path::Notice(Notice::Health));
+    }
+    None
+}
+
+// Returns the path of this name among those of operators and of regions, if it is reached.
+fn inner_named(paths: PathSet, path: &[u8]) -> Option<Path>
+    ensures { result ≡ spec.inner_named paths path.now }
+{
+    match paths {
+        PathSet::Clients => None,
+        PathSet::Admin => admin_named(path),
+        PathSet::All => match admin_named(path) {
             Some(found) => Some(found),
             None => sync_named(path),
         },
@@ -218,6 +247,7 @@ impl Path {
             Path::Authorize => Some(Service::Query(Endpoint::Authorize)),
             Path::Client => Some(Service::Query(Endpoint::ShowClient)),
             Path::Vector => Some(Service::Vector),
+            Path::Notice(notice) => Some(Service::Notice(notice)),
             _ => None,
         }
     }
@@ -227,7 +257,7 @@ impl Path {
         ensures { result ≡ spec.post_service self }
     {
         match self {
-            Path::Authorize | Path::Vector => None,
+            Path::Authorize | Path::Vector | Path::Notice(_) => None,
             Path::Token => form_for(Endpoint::Token),
             Path::Introspect => form_for(Endpoint::Introspect),
             Path::Revoke => form_for(Endpoint::Revoke),
@@ -246,7 +276,7 @@ impl Path {
         ensures { result.now ≡ spec.allowed_at self }
     {
         match self {
-            Path::Authorize | Path::Vector => b"GET",
+            Path::Authorize | Path::Vector | Path::Notice(_) => b"GET",
             Path::Client => b"GET, POST",
             _ => b"POST",
         }

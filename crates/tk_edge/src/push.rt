@@ -11,7 +11,6 @@ ghost use Rattle.tk_edge.specs.Failures.{CountsFailure, Rose};
 ghost use Rattle.tk_edge.specs.Pushes as spec;
 ghost use Rattle.tk_edge.specs.Told.{IsFaultOfDevice};
 ghost use Rattle.tk_region.specs.RegionFields.{place_in};
-ghost use Rattle.tk_region.specs.Taking.{TakesIn};
 
 use crate::ahead::{PushError, lifted, read_pushed};
 use crate::answer::answer_with;
@@ -20,7 +19,7 @@ use crate::exchange::{Exchange, taken_answer};
 use crate::hear::Arrival;
 use crate::put::put_whole;
 use crate::tell::{Fault, write_record};
-use crate::terms::PushTerms;
+use crate::terms::Terms;
 use std::alloc::Global;
 use tk_bundle::Bundle;
 use tk_handle::Moment;
@@ -44,7 +43,7 @@ pub(crate) fn bundle_to_log<'a>(log_taken: bool, came: &'a Arrival) -> Option<&'
 pub(crate) fn take_pushed(
     alloc: Global,
     region: &mut Region,
-    terms: &PushTerms,
+    terms: &Terms,
     now: Moment,
     bytes: &[u8],
 ) -> Result<u16, PushError>
@@ -66,7 +65,7 @@ pub(crate) fn take_and_log<L: Sink, W: Sink>(
     sealed: &mut bool,
     log: &mut L,
     writer: &mut W,
-    terms: &PushTerms,
+    terms: &Terms,
     now: Moment,
     bytes: &[u8],
 ) -> Result<StatusCode, Fault>
@@ -96,7 +95,7 @@ struct Pushed {
 fn take_with_news(
     alloc: Global,
     region: &mut Region,
-    terms: &PushTerms,
+    terms: &Terms,
     now: Moment,
     bytes: &[u8],
 ) -> Pushed

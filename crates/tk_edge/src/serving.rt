@@ -20,7 +20,7 @@ use crate::put::put_whole;
 use crate::reach::Reach;
 use crate::refusal::Refusal;
 use crate::tell::{Fault, tell};
-use crate::terms::PushTerms;
+use crate::terms::Terms;
 use std::alloc::Global;
 use tk_handle::Moment;
 use tk_message::StatusCode;
@@ -31,7 +31,7 @@ pub(crate) fn serve_front_open<L: Sink, W: Sink>(
     alloc: Global,
     reach: Reach,
     region: &mut Region,
-    terms: &PushTerms,
+    terms: &Terms,
     sealed: &mut bool,
     bytes: &[u8],
     is_over: bool,
@@ -77,7 +77,7 @@ pub(crate) fn serve_front_open<L: Sink, W: Sink>(
 pub(crate) fn serve_arrival<L: Sink, W: Sink>(
     alloc: Global,
     region: &mut Region,
-    terms: &PushTerms,
+    terms: &Terms,
     sealed: &mut bool,
     log: &mut L,
     log_taken: bool,
@@ -128,7 +128,7 @@ fn is_silent(came: &Arrival) -> bool
 fn reply<L: Sink, W: Sink>(
     alloc: Global,
     region: &mut Region,
-    terms: &PushTerms,
+    terms: &Terms,
     sealed: &mut bool,
     log: &mut L,
     log_taken: bool,
@@ -155,7 +155,7 @@ fn reply<L: Sink, W: Sink>(
 fn answer_and_tell<L: Sink, W: Sink>(
     alloc: Global,
     region: &mut Region,
-    terms: &PushTerms,
+    terms: &Terms,
     sealed: &mut bool,
     log: &mut L,
     writer: &mut W,

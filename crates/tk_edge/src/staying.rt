@@ -36,7 +36,7 @@ fn is_read_whole(fields: &Fields<'_>, judged: &Judged) -> bool
 {
     match judged {
         Judged::Refused(_) => false,
-        Judged::Query(_) | Judged::Vector => has_no_body(fields),
+        Judged::Query(_) | Judged::Vector | Judged::Notice(_) => has_no_body(fields),
         Judged::Body(..) => true,
     }
 }

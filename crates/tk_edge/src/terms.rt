@@ -1,5 +1,7 @@
-//! The terms of a push: which bundles an edge refuses, whatever its region would do with them.
+//! The terms of an edge: which pushed bundles it refuses, whatever its region would do with them,
+//! and which notices of itself it gives.
 
+use crate::issuer::Issuer;
 use std::marker::Model;
 
 /// The region numbers from `first` to `last`, both included (own). There is no such number if
@@ -12,20 +14,25 @@ pub struct RegionRange {
     pub last: u16,
 }
 
-/// The terms of a push: which bundles an edge refuses (own).
+/// The terms of an edge: which pushed bundles it refuses, and which notices of itself it gives
+/// (own).
 ///
 /// Contracts see `accepted` as the list of its ranges.
 #[derive(Drop)]
-pub struct PushTerms {
+pub struct Terms {
     /// Whether a bundle is refused if its horizon is later than the moment of the request.
     pub refuses_ahead: bool,
     /// The numbers under which a bundle may have facts and marks. No range: all numbers.
     pub accepted: Vec<RegionRange>,
     /// Numbers that are not accepted, even if a range of `accepted` has them.
     pub barred: Option<RegionRange>,
+    /// The issuer that metadata and redirects name. None: neither metadata nor a name is given.
+    pub issuer: Option<Issuer>,
+    /// Whether the edge tells its health.
+    pub health: bool,
 }
 
-impl Model for PushTerms {
+impl Model for Terms {
     ghost use Rattle.tk_edge.specs.Terms.{TermsFields, coded_terms};
 
     ghost Value = { TermsFields };
@@ -36,6 +43,8 @@ impl Model for PushTerms {
       refuses_ahead = t.refuses_ahead;
       accepted = t.accepted.items;
       barred = t.barred;
+      issuer = t.issuer;
+      health = t.health;
     } };
 }
 
@@ -46,15 +55,17 @@ ghost use Rattle.tk_edge.specs.Terms as spec;
 use std::alloc::Global;
 use tk_bundle::{Bundle, Item};
 
-impl PushTerms {
-    /// Returns the terms that refuse no bundle.
-    pub fn accept_all(alloc: Global) -> PushTerms
+impl Terms {
+    /// Returns the terms that refuse no bundle and give no notice.
+    pub fn accept_all(alloc: Global) -> Terms
         ensures { result ≡ spec.accept_all }
     {
-        PushTerms {
+        Terms {
             refuses_ahead: false,
             accepted: Vec::new(alloc),
             barred: None,
+            issuer: None,
+            health: false,
         }
     }
 
@@ -67,14 +78,14 @@ impl PushTerms {
 }
 
 // Returns whether an item of a bundle is under a number that isn't accepted.
-pub(crate) fn is_out_of_range(terms: &PushTerms, sent: &Bundle) -> bool
+pub(crate) fn is_out_of_range(terms: &Terms, sent: &Bundle) -> bool
     ensures { result ≡ spec.is_out_of_range terms.now sent.now }
 {
     has_outside(terms, sent.items())
 }
 
 // Returns whether one of the items is under a number that isn't accepted.
-fn has_outside(terms: &PushTerms, items: &[Item]) -> bool
+fn has_outside(terms: &Terms, items: &[Item]) -> bool
     ensures { result ≡ spec.has_outside terms.now items.now }
 {
     items

@@ -1,12 +1,10 @@
 -- What a connection leaves of a region. Key results:
 --   served_grows   a connection leaves what the region knew
 --   served_less    a log that is unchanged, by less than the whole of it
-use Rattle.std.proofs.Common.{ℕ, Bool, true, false, List, Option, Some, None, Result, Ok, Err, inl, inr, refl}
-use Rattle.std.proofs.KnownBytes.{Keeps-refl}
+use Rattle.std.proofs.Common.{ℕ, Bool, true, false, List, Option, Some, None, Result, Ok, Err, inl, inr}
 use Rattle.tk_region.specs.RegionFields.{RegionFields}
 use Rattle.tk_edge.specs.Answers.{fact_by}
 use Rattle.tk_edge.specs.Arrivals.{Answers, IsShort}
-use Rattle.tk_edge.specs.EdgeFields.{EdgeFields}
 use Rattle.tk_edge.specs.Pushes.{LogsAndTells, TakesAndLogs, bundle_to_log}
 use Rattle.tk_edge.specs.Served.{Asked, IsServed, RepliesTo, RunsOut, Step, WritesNothing}
 use Rattle.tk_edge.specs.Terms.{TermsFields}

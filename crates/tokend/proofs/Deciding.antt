@@ -34,7 +34,8 @@ use Rattle.tk_edge.specs.declared.hear.Arrival.TheVariants.{Request}
 use Rattle.tk_edge.specs.declared.edge.Served.{Served}
 use Rattle.tk_edge.specs.declared.edge.Served.TheVariants.{Nothing, Done}
 use Rattle.tk_edge.specs.declared.front.Taken.{Taken}
-use Rattle.tk_edge.specs.declared.reach.Reach.TheVariants.{All}
+use Rattle.tk_edge.specs.Paths.{plain}
+use Rattle.tk_edge.specs.declared.reach.PathSet.TheVariants.{All}
 use Rattle.tk_edge.specs.declared.tell.Fault.{Fault}
 use Rattle.tk_edge.specs.declared.tell.Fault.TheVariants.{Read, Write, Log, Memory}
 use Rattle.tokend.specs.Decisions.{Asking, Decides, Ending, Ends, FrontDecides, IsDecided, IsDecision, IsDecisionBy, IsOutcome, IsReplied, IsTaken, IsUnread, MayGrant, MayStay, asked_of, asking_of, ended_if, gains, outcome_by, reach_by}
@@ -307,12 +308,12 @@ unread_by asking edge Memory h = record {
 unread_by asking edge Write h = absurd h
 unread_by asking edge Log h = absurd h
 
-pub unread : (words : List ℕ) (log_taken : Bool) (edge : EdgeFields) (fault : Fault) → IsUnread fault → IsDecision words log_taken edge (record { end = Err fault; stays = false; reach = All; granted = None; again = None }) [] edge
+pub unread : (words : List ℕ) (log_taken : Bool) (edge : EdgeFields) (fault : Fault) → IsUnread fault → IsDecision words log_taken edge (record { end = Err fault; stays = false; reach = plain All; granted = None; again = None }) [] edge
 unread words log_taken edge fault h =
-    (0, [], false, [], unread_by (record { words = words; log_taken = log_taken; reach = All; now = 0; bytes = []; over = false }) edge fault h, tt, tt)
+    (0, [], false, [], unread_by (record { words = words; log_taken = log_taken; reach = plain All; now = 0; bytes = []; over = false }) edge fault h, tt, tt)
 
 -- a kept connection ended behind its last reply: nothing more came
-pub parted : (words : List ℕ) (log_taken : Bool) (edge : EdgeFields) → IsDecision words log_taken edge (record { end = Ok Nothing; stays = false; reach = All; granted = None; again = None }) [] edge
+pub parted : (words : List ℕ) (log_taken : Bool) (edge : EdgeFields) → IsDecision words log_taken edge (record { end = Ok Nothing; stays = false; reach = plain All; granted = None; again = None }) [] edge
 parted words log_taken edge = (
   0,
   [],
@@ -461,12 +462,12 @@ module _ (old mid kept new : Server) (bytes : List ℕ) (over : Bool) (next : Ch
     (untold : old.fault ≡ None) (six_words : words ≡ six old.words) (past_words : next ≡ past_six old.words)
     (one : mid ≡ record old { edge = mid.edge }) (keep : kept ≡ record mid { repeats = kept_by granted mid.repeats }) where
   abbrev asking : Asking
-  asking = record { words = words; log_taken = old.log_taken; reach = reach_by old.has_inner old.is_inner; now = old.now; bytes = bytes; over = over }
+  asking = record { words = words; log_taken = old.log_taken; reach = reach_by old.edge.terms old.has_inner old.is_inner; now = old.now; bytes = bytes; over = over }
 
   as_asked : (end : Result Served Fault) → new.edge ≡ mid.edge → IsDecided asking old.edge end reply logged mid.edge → IsDecided (asking_of old bytes over) old.edge end reply logged new.edge
   as_asked end edge h =
       subst (λ e. IsDecided (asking_of old bytes over) old.edge end reply logged e) (sym edge)
-      (subst (λ w. IsDecided (record { words = w; log_taken = old.log_taken; reach = reach_by old.has_inner old.is_inner; now = old.now; bytes = bytes; over = over }) old.edge end reply logged mid.edge) six_words h)
+      (subst (λ w. IsDecided (record { words = w; log_taken = old.log_taken; reach = reach_by old.edge.terms old.has_inner old.is_inner; now = old.now; bytes = bytes; over = over }) old.edge end reply logged mid.edge) six_words h)
 
   -- the request was served
   pub served_ends : (served : Served) (taken : Taken) (outcome : Outcome) (sent : List ℕ) → FrontDecides asking old.edge (Ok (Some (served, taken))) reply logged mid.edge
@@ -525,22 +526,22 @@ short_decides old bytes over outcome new untold h = subst (λ o. Decides old byt
 
 -- a request that was given a reply again took some bytes, if its connection stays
 pub again_some : (old : Server) (bytes : List ℕ) (over : Bool) (outcome : Outcome) (reply before after : List ℕ) (taken : Taken) (new : Server)
-    → IsAgain old (reach_by old.has_inner old.is_inner) bytes over reply taken → GivesAgain old taken reply outcome before after new → goes_on outcome ≡ true → 0 < taken_of outcome
+    → IsAgain old (reach_by old.edge.terms old.has_inner old.is_inner) bytes over reply taken → GivesAgain old taken reply outcome before after new → goes_on outcome ≡ true → 0 < taken_of outcome
 again_some old bytes over outcome reply before after taken new again (inr h) on = absurd (clash (sym on ∙ ap goes_on h.1.0))
 again_some old bytes over outcome reply before after taken new again (inl h) on =
     let come = again.repeated.came.came in
     subst (λ o. 0 < taken_of o) (sym h.is_outcome)
-    (some_taken (reach_by old.has_inner old.is_inner) bytes (Request again.repeated.refresh.request) taken come.takes (both_true old.keeps taken.stays (sym (ap goes_on h.is_outcome) ∙ on)))
+    (some_taken (reach_by old.edge.terms old.has_inner old.is_inner) bytes (Request again.repeated.refresh.request) taken come.takes (both_true old.keeps taken.stays (sym (ap goes_on h.is_outcome) ∙ on)))
 
 -- and it took no more than there were
 pub again_within : (old : Server) (bytes : List ℕ) (over : Bool) (outcome : Outcome) (reply before after : List ℕ) (taken : Taken) (new : Server)
-    → IsAgain old (reach_by old.has_inner old.is_inner) bytes over reply taken → GivesAgain old taken reply outcome before after new → taken_of outcome ≤ length bytes
+    → IsAgain old (reach_by old.edge.terms old.has_inner old.is_inner) bytes over reply taken → GivesAgain old taken reply outcome before after new → taken_of outcome ≤ length bytes
 again_within old bytes over outcome reply before after taken new again (inr h) = subst (λ o. taken_of o ≤ length bytes) (sym h.1.0) (omega arith)
 again_within old bytes over outcome reply before after taken new again (inl h) = subst (λ o. taken_of o ≤ length bytes) (sym h.is_outcome) again.repeated.came.came.within
 
 -- the reply to a refresh was given again
 pub again_decides : (old : Server) (bytes : List ℕ) (over : Bool) (outcome : Outcome) (reply before after : List ℕ) (taken : Taken) (new : Server) → old.fault ≡ None
-    → IsAgain old (reach_by old.has_inner old.is_inner) bytes over reply taken → GivesAgain old taken reply outcome before after new
+    → IsAgain old (reach_by old.edge.terms old.has_inner old.is_inner) bytes over reply taken → GivesAgain old taken reply outcome before after new
     → (replied : List ℕ) × Decides old bytes over outcome replied [] new × (after ≡ before ++ replied)
 again_decides old bytes over outcome reply before after taken new untold again (inr h) =
     ([], short_decides old bytes over outcome new untold h.1, h.0 ∙ sym (append-nil before))

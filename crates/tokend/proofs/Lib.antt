@@ -6,8 +6,10 @@ pub mod Deciding
 pub mod EventWords
 pub mod FactsLaws
 pub mod Growing
+pub mod KeptConnections
 pub mod KeptLogs
 pub mod KeptSlots
+pub mod KeptTurns
 pub mod LogBundles
 pub mod Loads
 pub mod OneSet

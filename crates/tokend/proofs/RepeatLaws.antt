@@ -5,7 +5,7 @@
 --   found_parts      a refresh that was found is one that is kept, and is repeated
 --   granted_done     a request that was granted what it asked for
 --   forgets          what is left is of what was kept
-use Rattle.std.proofs.Common.{◌≡◌, ◌⊎◌, ℕ, ◌&&◌, Bool, true, false, cond, List, [], ◌∷◌, ◌++◌, length, drop, Option, Some, None, Result, Ok, Err, inl, inr, refl, sym, ap, subst, ◌∙◌, arith}
+use Rattle.std.proofs.Common.{◌≡◌, ℕ, ◌&&◌, Bool, true, false, List, [], ◌∷◌, ◌++◌, length, drop, Option, Some, None, Result, Ok, inl, inr, refl, sym, ap, subst, ◌∙◌, arith}
 use Rattle.std.specs.Prelude.{◌<◌, find, nat_lt, slice_index_or}
 use Rattle.std.proofs.lemmas.Bool.{cases_Bool, cond-true, cond-false}
 use Rattle.tk_handle.specs.declared.dot.Dot.{Dot}
@@ -21,9 +21,9 @@ use Rattle.tk_message.specs.declared.status_code.StatusCode.{StatusCode}
 use Rattle.tk_message.specs.declared.status_code.StatusCode.TheVariants as code
 use Rattle.tk_turn.specs.Outcomes.{goes_on}
 use Rattle.tk_turn.specs.declared.service.Outcome.{Outcome}
-use Rattle.tokend.specs.Decisions.{Ending, kept_by, outcome_by}
+use Rattle.tokend.specs.Decisions.{kept_by, outcome_by}
 use Rattle.tokend.specs.Repeating.{is_granted, is_ok}
-use Rattle.tokend.specs.Repeats.{IsIn, MayRepeat, RepeatsFields, Repetition, forgotten, is_recent, is_repeat, kept_with, most_kept, with_granted, with_room}
+use Rattle.tokend.specs.Repeats.{IsIn, MayRepeat, RepeatsFields, Repetition, forgotten, is_recent, is_repeat, most_kept, with_granted, with_room}
 use Rattle.tokend.specs.Turns.{AreAmong, AreRepeated, AreRepeats, Endings, all_granted}
 use Rattle.tokend.specs.declared.repeats.Refreshed.{Refreshed}
 

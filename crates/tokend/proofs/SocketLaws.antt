@@ -4,7 +4,7 @@
 --   connection_answers   a connection that was answered has made the answer to some request
 use Rattle.std.specs.Prelude.{⊤}
 use Rattle.std.proofs.Common.{◌≡◌, ◌≢◌, Bool, true, false, List, ℕ, [], Option, None, Some, Result, Ok, Err, sym, subst, ◌∙◌, refl, append-nil}
-use Rattle.tk_edge.specs.Answers.{answer_by}
+use Rattle.tk_edge.specs.Answers.{answer_at}
 use Rattle.tk_edge.specs.Arrivals.{Answers}
 use Rattle.tk_edge.specs.EdgeFields.{EdgeFields}
 use Rattle.tk_edge.specs.FrontServed.{IsFrontServed, IsServedBy}
@@ -17,7 +17,8 @@ use Rattle.tk_edge.specs.declared.edge.Served.TheVariants.{Done}
 use Rattle.tk_edge.specs.declared.front.Taken.{Taken}
 use Rattle.tk_edge.specs.declared.hear.Arrival.{Arrival}
 use Rattle.tk_edge.specs.declared.hear.Arrival.TheVariants.{Silence}
-use Rattle.tk_edge.specs.declared.reach.Reach.TheVariants.{Admin}
+use Rattle.tk_edge.specs.Paths.{plain}
+use Rattle.tk_edge.specs.declared.reach.PathSet.TheVariants.{Admin}
 use Rattle.tk_edge.specs.declared.tell.Fault.{Fault}
 use Rattle.tk_message.specs.declared.status_code.StatusCode.{StatusCode}
 use Rattle.tk_world.specs.AskedFields.{AskedFields}
@@ -44,7 +45,7 @@ served_bytes asked bytes region still writer sealed end h =
 
 -- the connection as its edge sees it
 abbrev asked_at : ℕ → List ℕ → EdgeFields → Asked
-asked_at now words old = record { reach = Admin; terms = old.terms; log_taken = false; known = None; now = now; words = words }
+asked_at now words old = record { reach = plain Admin; terms = old.terms; log_taken = false; known = None; now = now; words = words }
 
 module _ (now : ℕ) (words bytes : List ℕ) (old new : EdgeFields) (still : Type 0) (writer : Change) (result : Result (Option (Served × Taken)) Fault)
     (h : old.sealed ≡ false → IsFrontServed (asked_at now words old) bytes true (record { before = old.region; after = new.region }) unlogged still writer new.sealed result)
@@ -78,10 +79,10 @@ module _ (now : ℕ) (words bytes : List ℕ) (old new : EdgeFields) (still : Ty
 module _ (asked : AskedFields) (old new : EdgeFields) (unsealed : old.sealed ≡ false) where
   -- the answer to some request that isn't empty, of which this holds, was made
   abbrev pub IsMade : (AnswerFields → Type 0) → Type 0
-  IsMade P = (heard : Arrival) × (heard ≢ Silence) × P (answer_by old.region asked.now asked.words heard) × Makes old asked heard new
+  IsMade P = (heard : Arrival) × (heard ≢ Silence) × P (answer_at old.terms old.region asked.now asked.words heard) × Makes old asked heard new
 
   -- what arrives at an edge that exchanges no facts is heard, and its answer was made
-  made : (P : AnswerFields → Type 0) (known : Option (List ℕ)) (came : Arrival) → Arrives Admin known came → came ≢ Silence → (answer : AnswerFields)
+  made : (P : AnswerFields → Type 0) (known : Option (List ℕ)) (came : Arrival) → Arrives (plain Admin) known came → came ≢ Silence → (answer : AnswerFields)
       → Answers old.terms old.region asked.now asked.words came (Ok answer) new.region → P answer → new.sealed ≡ false → new.terms ≡ old.terms → IsMade P
   made P known came may spoke answer answers holds sealed ahead =
       let by = answers_alone old.terms old.region asked.now asked.words came (Ok answer) new.region may.0 answers in (

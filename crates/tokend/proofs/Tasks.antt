@@ -20,7 +20,8 @@ use Rattle.clap.specs.declared.error.Error.{Error}
 use Rattle.clap.specs.declared.error.kind.ErrorKind.TheVariants as kind
 use Rattle.tk_handle.specs.Ranges.{greatest_region}
 use Rattle.tk_region.specs.SettingsFields.{greatest_code, greatest_access, greatest_refresh, greatest_family, greatest_cap}
-use Rattle.tokend.specs.CommandLine.{HasAddress, HasCheck, HasFlag, HasNumber, HasNumbers, HasService, IsNoAddress, IsNoPushes, greatest_connections, greatest_port, is_given, refusal_named, tokend_app}
+use Rattle.tokend.specs.Notices.{issuer_named}
+use Rattle.tokend.specs.CommandLine.{IsNoNotices, HasAddress, HasCheck, HasFlag, HasNumber, HasNumbers, HasService, IsNoAddress, IsNoPushes, greatest_connections, greatest_port, is_given, refusal_named, tokend_app}
 use Rattle.tokend.specs.Choices.{IsNoChoice}
 use Rattle.tokend.specs.Ranges.{accepted_named, range_named}
 use Rattle.tokend.specs.Task.{Asks, IsFactsTask, IsNoCheck, IsNoService, IsNoTask, IsRefusalOf, IsTask, has_misnamed, is_unplaced, is_unplaced_in, lacks_log, misnames_word, missing_kind}
@@ -328,6 +329,14 @@ without_range rows none pushes h =
 pub without_accepted : (rows : List Row) → None ≡ accepted_named (first_of (codes "accept") rows) → IsNoPushes rows
 without_accepted rows none pushes h =
     let both : None ≡ Some pushes.accepted.items = none ∙ h.accepted in
+    absurd (cc)
+
+pub without_notices : (rows : List Row) → IsNoNotices rows → IsNoService rows
+without_notices rows none service h = none service.notices h.notices
+
+pub without_issuer : (rows : List Row) → None ≡ issuer_named (first_of (codes "issuer") rows) → IsNoNotices rows
+without_issuer rows none notices h =
+    let both : None ≡ Some notices.issuer = none ∙ h.issuer in
     absurd (cc)
 
 pub without_choices : (rows : List Row) → IsNoChoice rows → IsNoService rows

@@ -26,10 +26,11 @@ use Rattle.tk_edge.specs.EdgeFields.{EdgeFields}
 use Rattle.tk_edge.specs.declared.edge.Served.{Served}
 use Rattle.tk_edge.specs.declared.edge.Served.TheVariants.{Nothing}
 use Rattle.tk_edge.specs.declared.reach.Reach.{Reach}
-use Rattle.tk_edge.specs.declared.reach.Reach.TheVariants.{All}
+use Rattle.tk_edge.specs.Paths.{plain}
+use Rattle.tk_edge.specs.declared.reach.PathSet.TheVariants.{All}
 use Rattle.tk_edge.specs.declared.tell.Fault.{Fault}
 use Rattle.tk_edge.specs.declared.tell.Fault.TheVariants.{Write, Log}
-use Rattle.tokend.specs.Decisions.{Decides, Ends, IsUnread, Seals, asking_of, ended_if, fault_of, reach_by}
+use Rattle.tokend.specs.Decisions.{Decides, Ends, IsUnread, Seals, asking_of, ended_if, fault_of, paths_by, reach_by}
 use Rattle.tokend.specs.Draw.{six, past_six}
 use Rattle.tokend.specs.Growing.{Grows}
 use Rattle.tokend.specs.Serving.{connection_fault}
@@ -83,7 +84,7 @@ reach_both has_inner [] ys h k = k
 reach_both has_inner (x ∷ xs) ys h k = (h.0, reach_both has_inner xs ys h.1 k)
 
 -- the requests of a socket reach what they may
-may_reach : (has_inner is_inner : Bool) → MayReach has_inner (reach_by has_inner is_inner)
+may_reach : (has_inner is_inner : Bool) → MayReach has_inner (paths_by has_inner is_inner)
 may_reach true false = refl
 may_reach true true = tt
 may_reach false is_inner = tt
@@ -153,7 +154,7 @@ pub goes_unread : (fault : Fault) (old : Server) (words : ChaCha) (left : ℕ) (
     → Writes before after (connection_fault fault)
     → Goes (record { server = old; log = log; faults = before }) (record { server = record old { words = words; left = left }; log = log; faults = after })
 goes_unread fault old words left log before after is drawn counted told = record {
-  turns = (record { end = Err fault; stays = false; reach = All; granted = None; again = None } ∷ []) ∷ [];
+  turns = (record { end = Err fault; stays = false; reach = plain All; granted = None; again = None } ∷ []) ∷ [];
   served =
       let then : Running = record { edge = old.edge; log = log; faults = after } in (
         then,
@@ -185,7 +186,7 @@ goes_unread fault old words left log before after is drawn counted told = record
 pub goes_parted : (old : Server) (words : ChaCha) (left : ℕ) (log : Option (List ℕ)) (faults : Writer) → words ≡ past_six old.words → old.left ≡ left + 1
     → Goes (record { server = old; log = log; faults = faults }) (record { server = record old { words = words; left = left }; log = log; faults = faults })
 goes_parted old words left log faults drawn counted = record {
-  turns = (record { end = Ok Nothing; stays = false; reach = All; granted = None; again = None } ∷ []) ∷ [];
+  turns = (record { end = Ok Nothing; stays = false; reach = plain All; granted = None; again = None } ∷ []) ∷ [];
   served =
       let then : Running = record { edge = old.edge; log = log; faults = faults } in (
         then,
@@ -322,7 +323,7 @@ one_ended stays off = ap (λ b. ended_if b + 0) off
 
 went_end : (old : Server) (bytes : List ℕ) (over : Bool) (outcome : Outcome) (replied logged : List ℕ) (new : Server) → Ends old bytes over outcome replied logged new → Went old logged new
 went_end old bytes over outcome replied logged new h = record {
-  ends = record { end = h.end; stays = goes_on outcome; reach = reach_by old.has_inner old.is_inner; granted = h.granted; again = None } ∷ [];
+  ends = record { end = h.end; stays = goes_on outcome; reach = reach_by old.edge.terms old.has_inner old.is_inner; granted = h.granted; again = None } ∷ [];
   decided = (
     new.edge,
     logged,
@@ -335,11 +336,11 @@ went_end old bytes over outcome replied logged new h = record {
   counted = omega (arith, h.counted, ap (λ s. s.left) h.moved);
   closes = λ off. one_ended (goes_on outcome) (none_stays old.keeps h.end (asking_of old bytes over) old.edge outcome h.is_outcome off);
   keeps = ap (λ s. s.keeps) h.moved;
-  repeats = subst (AreRepeated old.repeats _) (sym (ap (λ (s : Server). s.repeats) h.moved)) (one_granted h.end (goes_on outcome) (reach_by old.has_inner old.is_inner) h.granted old.repeats);
+  repeats = subst (AreRepeated old.repeats _) (sym (ap (λ (s : Server). s.repeats) h.moved)) (one_granted h.end (goes_on outcome) (reach_by old.edge.terms old.has_inner old.is_inner) h.granted old.repeats);
   reaches = (may_reach old.has_inner old.is_inner, tt);
   has_inner = ap (λ s. s.has_inner) h.moved;
   log_taken = ap (λ s. s.log_taken) h.moved;
-  lines = λ told before after t. one_told h.end (goes_on outcome) (reach_by old.has_inner old.is_inner) h.granted None before after (subst (λ o. ToldOf o before after) (ap (λ s. s.fault) h.moved) t);
+  lines = λ told before after t. one_told h.end (goes_on outcome) (reach_by old.edge.terms old.has_inner old.is_inner) h.granted None before after (subst (λ o. ToldOf o before after) (ap (λ s. s.fault) h.moved) t);
   stuck = λ s. absurd (s h.told);
 }
 
@@ -347,7 +348,7 @@ went_end old bytes over outcome replied logged new h = record {
 went_again : (old : Server) (bytes : List ℕ) (over : Bool) (outcome : Outcome) (replied logged : List ℕ) (new : Server) → Repeats old bytes over outcome replied logged new → Went old logged new
 went_again old bytes over outcome replied logged new h =
     let it : Repetition = record { refreshed = h.it; now = old.now } in
-    let end : Ending = record { end = Ok (Done code.Ok); stays = goes_on outcome; reach = reach_by old.has_inner old.is_inner; granted = None; again = Some it } in
+    let end : Ending = record { end = Ok (Done code.Ok); stays = goes_on outcome; reach = reach_by old.edge.terms old.has_inner old.is_inner; granted = None; again = Some it } in
     let found = found_parts (is_repeat old.repeats.seconds old.now h.repeated.refresh.parent h.repeated.refresh.request) old.repeats.kept h.it h.found in
     record {
       ends = end ∷ [];

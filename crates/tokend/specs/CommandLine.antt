@@ -14,6 +14,7 @@
 --   HasAddresses    clap's matches have these sockets
 --   HasNumbers      clap's matches have these five settings
 --   HasPushes       clap's matches have these options of pushes
+--   HasNotices      clap's matches have these options of what a service says of itself
 --   HasService      clap's matches have this service
 --   HasSources      clap's matches have these sources of facts
 --   HasCheck        clap's matches have this check
@@ -72,12 +73,14 @@ use Rattle.clap.specs.declared.builder.action.ArgAction.TheVariants as action
 use Rattle.clap.specs.declared.builder.value_parser.ValueParser.TheVariants as parser
 use Rattle.tk_message.specs.Choices.{profile_choices}
 use Rattle.tokend.specs.Choices.{HasChoices}
+use Rattle.tokend.specs.Notices.{issuer_named}
 use Rattle.tokend.specs.Ranges.{accepted_named, range_named}
 use Rattle.tokend.specs.declared.address.Address.{Address}
 use Rattle.tokend.specs.declared.address.Address.TheVariants.{Port, Socket}
 use Rattle.tokend.specs.declared.address.Addresses.{Addresses}
 use Rattle.tokend.specs.declared.command_line.Takes.{Takes}
 use Rattle.tokend.specs.declared.command_line.Takes.TheVariants as takes
+use Rattle.tokend.specs.declared.notices.NoticeOptions.{NoticeOptions}
 use Rattle.tokend.specs.declared.options.Check.{Check}
 use Rattle.tokend.specs.declared.options.Numbers.{Numbers}
 use Rattle.tokend.specs.declared.options.Service.{Service}
@@ -144,6 +147,7 @@ abbrev pub choice_rule : Text → Takes → Rule
 choice_rule id takes.Nothing = flag_rule id
 choice_rule id (takes.File is_wanted) = file_rule id is_wanted
 choice_rule id takes.List = file_rule id false
+choice_rule id takes.Url = file_rule id false
 choice_rule id (takes.Word default) = word_rule id default.now
 choice_rule id (takes.Range least greatest is_wanted) = range_rule id least greatest is_wanted
 choice_rule id (takes.Number greatest default) = number_rule id default.now greatest
@@ -176,8 +180,8 @@ loopback_app = with_rules (new_app (codes "loopback")) setting_rules
 -- prune, what is done with bundles that are ahead, the numbers of the site and of all sites, who
 -- may revoke tokens that are not seen, what is done if a consent is given again, the kinds of
 -- redirection URIs, who sees refresh tokens, what is required of challenges, how many connections
--- are open at once, how many are served, how long they are kept, and for how long a refresh may be
--- repeated
+-- are open at once, how many are served, how long they are kept, for how long a refresh may be
+-- repeated, the issuer, and whether health is given
 abbrev pub service_rules : List Rule
 service_rules =
     range_rule (codes "region") 1 greatest_region true
@@ -201,6 +205,8 @@ service_rules =
     ∷ range_rule (codes "requests") 0 greatest_requests false
     ∷ range_rule (codes "keep") 0 greatest_keep false
     ∷ range_rule (codes "repeat") 0 greatest_repeat false
+    ∷ file_rule (codes "issuer") false
+    ∷ flag_rule (codes "health")
     ∷ []
 
 -- the subcommand `serve`
@@ -315,8 +321,19 @@ pub record HasPushes (rows : List Row) (p : PushOptions) : Type 0 where
 abbrev pub IsNoPushes : List Row → Type 0
 IsNoPushes rows = (pushes : PushOptions) → ¬ (HasPushes rows pushes)
 
+-- the rows have these options of what a service says of itself: the issuer, and whether health is
+-- told
+pub record HasNotices (rows : List Row) (n : NoticeOptions) : Type 0 where
+  pub issuer : issuer_named (first_of (codes "issuer") rows) ≡ Some n.issuer
+  pub health : HasFlag rows (codes "health") n.health
+
+-- the value of `--issuer` is no issuer
+abbrev pub IsNoNotices : List Row → Type 0
+IsNoNotices rows = (notices : NoticeOptions) → ¬ (HasNotices rows notices)
+
 -- the rows have this service: the settings, each number in its range, the names of files, whether
--- the log gets bundles taken in, for which there is a log, what is taken of a push, and the choices
+-- the log gets bundles taken in, for which there is a log, what is taken of a push, the choices,
+-- and what the service says of itself
 pub record HasService (rows : List Row) (s : Service) : Type 0 where
   pub numbers : HasNumbers rows s.numbers
   pub region : HasNumber rows (codes "region") 1 greatest_region s.region
@@ -340,6 +357,7 @@ pub record HasService (rows : List Row) (s : Service) : Type 0 where
   pub logged : s.log_taken ≡ true → IsSome s.log
   pub pushes : HasPushes rows s.pushes
   pub choices : HasChoices rows s.choices
+  pub notices : HasNotices rows s.notices
 
 -- the rows have these names of sources
 abbrev pub HasSources : List Row → Sources → Type 0

@@ -8,7 +8,8 @@ use Rattle.tk_edge.specs.Served.{IsServed}
 use Rattle.tk_edge.specs.Told.{Change}
 use Rattle.tk_edge.specs.declared.edge.Served.{Served}
 use Rattle.tk_edge.specs.declared.front.Taken.{Taken}
-use Rattle.tk_edge.specs.declared.reach.Reach.TheVariants.{Admin}
+use Rattle.tk_edge.specs.Paths.{plain}
+use Rattle.tk_edge.specs.declared.reach.PathSet.TheVariants.{Admin}
 use Rattle.tk_edge.specs.declared.tell.Fault.{Fault}
 use Rattle.tk_edge.specs.declared.tell.Fault.TheVariants.{Read}
 
@@ -27,7 +28,7 @@ pub record IsConnection (now : ℕ) (words bytes : List ℕ) (old new : EdgeFiel
     (result : Result Served Fault) : Type 0 where
   pub served : old.sealed ≡ false
       → (reply : Change) × IsServed (record {
-        reach = Admin;
+        reach = plain Admin;
         terms = old.terms;
         log_taken = false;
         known = Some bytes;

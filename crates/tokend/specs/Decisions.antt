@@ -3,7 +3,8 @@
 --   Ending         how a request ended, whether its connection stays open, and what it reached
 --   IsDecision     what is decided of some bytes that have come, and the record of it
 --   FrontDecides   what serving the front of bytes decides
---   reach_by       which paths the requests of a socket reach
+--   paths_by       which paths the requests of a socket reach
+--   reach_by       the same, with the notices that the terms of an edge give
 --   Repeats        a server gives the reply to a refresh again
 --   Decides        what a server decides of the bytes of a connection
 --   Seals          a server whose log has failed is sealed
@@ -11,16 +12,18 @@
 -- in are logged, and `end` is how the request ended.
 use Rattle.std.specs.Prelude.{◌≡◌, ◌≢◌, ◌⊎◌, ⊤, ℕ, ◌+◌, ◌&&◌, Bool, true, false, List, [], length}
 use Rattle.std.specs.Prelude.{find, Option, Some, None, Result, Ok, Err, not, if◌then◌else◌}
-use Rattle.tk_edge.specs.EdgeFields.{EdgeFields}
+use Rattle.tk_edge.specs.EdgeFields.{EdgeFields, reach_of}
 use Rattle.tk_edge.specs.Fronts.{HasCome, IsPartial}
 use Rattle.tk_edge.specs.FrontServed.{IsServedBy}
 use Rattle.tk_edge.specs.OpenReply.{IsOpenReply}
 use Rattle.tk_edge.specs.Served.{Asked, IsTurnedAway}
+use Rattle.tk_edge.specs.Terms.{TermsFields}
 use Rattle.tk_edge.specs.Told.{Change}
 use Rattle.tk_edge.specs.declared.edge.Served.{Served}
 use Rattle.tk_edge.specs.declared.hear.Arrival.{Arrival}
 use Rattle.tk_edge.specs.declared.reach.Reach.{Reach}
-use Rattle.tk_edge.specs.declared.reach.Reach.TheVariants.{All, Clients}
+use Rattle.tk_edge.specs.declared.reach.PathSet.{PathSet}
+use Rattle.tk_edge.specs.declared.reach.PathSet.TheVariants.{All, Clients}
 use Rattle.tk_edge.specs.declared.edge.Served.TheVariants.{Nothing, Done}
 use Rattle.tk_edge.specs.declared.front.Taken.{Taken}
 use Rattle.tk_edge.specs.declared.tell.Fault.{Fault}
@@ -111,35 +114,25 @@ MayGrant asking old end (Some it) =
     × (it ≡ granted_at refresh asking.now (next_in (place_in old.region)) asking.words)
     × (end ≡ Ok (Done code.Ok))
 
--- what is decided of some bytes that have come, at some moment, with its record; the refresh that
--- is kept of it
+-- what is asked at a moment by the bytes that have come, of a request that ended so
+abbrev pub asking_as : List ℕ → Bool → Ending → ℕ → List ℕ → Bool → Asking
+asking_as words log_taken ending now bytes over = record {
+  words = words;
+  log_taken = log_taken;
+  reach = ending.reach;
+  now = now;
+  bytes = bytes;
+  over = over;
+}
+
+-- what is decided of some bytes that have come, at some moment, with its record; whether the
+-- connection may stay, and the refresh that is kept of it
 abbrev pub IsDecisionOf : List ℕ → Bool → EdgeFields → Ending → List ℕ → EdgeFields → Type 0
 IsDecisionOf words log_taken old ending logged new =
     (now : ℕ) × (bytes : List ℕ) × (over : Bool) × (reply : List ℕ)
-    × IsDecided (record {
-      words = words;
-      log_taken = log_taken;
-      reach = ending.reach;
-      now = now;
-      bytes = bytes;
-      over = over;
-    }) old ending.end reply logged new
-    × MayStay (record {
-      words = words;
-      log_taken = log_taken;
-      reach = ending.reach;
-      now = now;
-      bytes = bytes;
-      over = over;
-    }) old ending.stays
-    × MayGrant (record {
-      words = words;
-      log_taken = log_taken;
-      reach = ending.reach;
-      now = now;
-      bytes = bytes;
-      over = over;
-    }) old ending.end ending.granted
+    × IsDecided (asking_as words log_taken ending now bytes over) old ending.end reply logged new
+    × MayStay (asking_as words log_taken ending now bytes over) old ending.stays
+    × MayGrant (asking_as words log_taken ending now bytes over) old ending.end ending.granted
 
 -- a refresh is repeated: it gets its reply again, nothing is logged, and the edge is unchanged
 abbrev pub IsRepetition : Repetition → EdgeFields → Ending → List ℕ → EdgeFields → Type 0
@@ -230,15 +223,19 @@ moved_on old end edge granted left = record old {
 
 -- which paths the requests of a socket reach: those of clients alone over an outer socket beside an
 -- inner one, otherwise all
-abbrev pub reach_by : Bool → Bool → Reach
-reach_by has_inner is_inner = if has_inner && not is_inner then Clients else All
+abbrev pub paths_by : Bool → Bool → PathSet
+paths_by has_inner is_inner = if has_inner && not is_inner then Clients else All
+
+-- what the requests of a socket reach, with the notices that the terms give
+abbrev pub reach_by : TermsFields → Bool → Bool → Reach
+reach_by terms has_inner is_inner = reach_of terms (paths_by has_inner is_inner)
 
 -- the bytes of a connection, as a server decides them
 abbrev pub asking_of : Server → List ℕ → Bool → Asking
 asking_of server bytes over = record {
   words = six server.words;
   log_taken = server.log_taken;
-  reach = reach_by server.has_inner server.is_inner;
+  reach = reach_by server.edge.terms server.has_inner server.is_inner;
   now = server.now;
   bytes = bytes;
   over = over;
@@ -263,7 +260,7 @@ pub record Ends (old : Server) (bytes : List ℕ) (over : Bool) (outcome : Outco
 -- isn't told yet
 pub record Waits (old : Server) (bytes : List ℕ) (over : Bool) (replied logged : List ℕ)
     (new : Server) : Type 0 where
-  pub why : IsPartial (reach_by old.has_inner old.is_inner) bytes over
+  pub why : IsPartial (reach_by old.edge.terms old.has_inner old.is_inner) bytes over
       ⊎ ((old.left ≡ 0) ⊎ (old.fault ≢ None))
   pub same : new ≡ old
   pub unreplied : replied ≡ []
@@ -278,7 +275,7 @@ pub record Repeats (old : Server) (bytes : List ℕ) (over : Bool) (outcome : Ou
   pub it : Refreshed
   pub taken : Taken
   pub reply : List ℕ
-  pub repeated : IsRepeated (reach_by old.has_inner old.is_inner) bytes over old.edge
+  pub repeated : IsRepeated (reach_by old.edge.terms old.has_inner old.is_inner) bytes over old.edge
       (record { refreshed = it; now = old.now }) taken reply
   pub found : find (is_repeat old.repeats.seconds old.now repeated.refresh.parent
       repeated.refresh.request) old.repeats.kept ≡ Some it

@@ -33,7 +33,8 @@ known_of name input = if bytes_eq name (codes "-") then input else None
 
 -- the fault of a source with bad bytes at this offset; there may be no memory for the name
 abbrev pub IsBadSource : Text → ℕ → Fault → Type 0
-IsBadSource name offset (Facts (facts.Malformed text at)) = (string_bytes text ≡ name) × (at ≡ offset)
+IsBadSource name offset (Facts (facts.Malformed text at)) =
+    (string_bytes text ≡ name) × (at ≡ offset)
 IsBadSource name offset (Facts facts.Memory) = ⊤
 IsBadSource name offset fault = ⊥
 

@@ -10,7 +10,7 @@
 --   ServiceLogs   a service with a log has written such a log
 use Rattle.std.specs.Prelude.{◌≡◌, ◌≢◌, ◌⊎◌, ⊤, ℕ, ◌≤◌, true, false, max, List, [], ◌∷◌, ◌++◌}
 use Rattle.std.specs.Prelude.{Option, None, Some, IfSome, IsSome, Result, Ok, Err, String}
-use Rattle.std.specs.Prelude.{Bool, string_bytes}
+use Rattle.std.specs.Prelude.{string_bytes}
 use Rattle.std.specs.FinMap as map
 use Rattle.rand_chacha.specs.ChaCha.{ChaCha}
 use Rattle.tk_handle.specs.declared.dot.Dot.{Dot}

@@ -3,6 +3,7 @@
 --   Choices       HasChoices, what a service does if the profile leaves a choice
 --   Challenges    rules_named, what is required of challenges by the words of an option
 --   Kinds         kinds_named, the kinds of redirection URIs by the words of an option
+--   Notices       issuer_named, the issuer of a service by the value of an option
 --   Ranges        range_named and accepted_named, the region numbers of sites; terms_of a push
 --   Task          Asks, the task that the arguments request
 --   Draw          six, the random words of a connection
@@ -32,6 +33,7 @@ pub mod CommandLine
 pub mod Challenges
 pub mod Choices
 pub mod Kinds
+pub mod Notices
 pub mod Ranges
 pub mod Task
 pub mod Draw

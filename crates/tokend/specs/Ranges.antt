@@ -5,7 +5,7 @@
 --   accepted_named      the numbers of all sites, by the value of `--accept`
 --   is_accept_misnamed  `--accept` is no list of ranges
 --   above               the numbers of this site above its own
---   terms_of            the terms of a push to a service
+--   terms_of            the terms of a service
 use Rattle.std.specs.Prelude.{
   ◌==◌,
   ◌+◌,
@@ -93,12 +93,13 @@ above own None = None
 above own (Some range) =
     if nat_lt own range.last then Some (record { first = own + 1; last = range.last }) else None
 
--- the terms of a push to the service: facts under the numbers of its site above its own aren't
--- accepted
+-- the terms of the service: facts under the numbers of its site above its own aren't accepted
 abbrev pub terms_of : Service → TermsFields
 terms_of service =
     record {
       refuses_ahead = service.pushes.refuses_ahead;
       accepted = service.pushes.accepted.items;
       barred = above service.region service.pushes.range;
+      issuer = service.notices.issuer;
+      health = service.notices.health;
     }

@@ -46,7 +46,10 @@ use Rattle.tokend.specs.declared.fault.Fault.TheVariants.{
 }
 use Rattle.tokend.specs.declared.fault.FactsFault.{FactsFault}
 use Rattle.tokend.specs.declared.fault.FactsFault.TheVariants.{Malformed, Refused}
-use Rattle.tokend.specs.declared.fault.FactsFault.TheVariants.{CannotReadFile as UnreadSource, Memory as NoMemory}
+use Rattle.tokend.specs.declared.fault.FactsFault.TheVariants.{
+  CannotReadFile as UnreadSource,
+  Memory as NoMemory,
+}
 
 -- the exit status of a source whose facts weren't printed or loaded to its end: 2 if it is bad or
 -- refused

@@ -11,7 +11,6 @@
 --   misnames_word   an option has none of its words
 --   missing_kind    the kind of the fault of arguments that name no task
 --   Asks            the arguments request this task
---   AsksToServe     the arguments request a service
 --   AsksToShow      the arguments request help or the version
 --   IsRefusalOf     the kind of a fault in the arguments
 --   IsNoText        the fault of arguments that aren't UTF-8
@@ -32,6 +31,7 @@ use Rattle.tokend.specs.CommandLine.{is_given, is_misnamed, tokend_app}
 use Rattle.tokend.specs.Challenges.{are_rules_misnamed}
 use Rattle.tokend.specs.Choices.{is_consent_misnamed, is_refresh_seen_misnamed, is_unseen_misnamed}
 use Rattle.tokend.specs.Kinds.{are_misnamed}
+use Rattle.tokend.specs.Notices.{is_issuer_misnamed}
 use Rattle.tokend.specs.Ranges.{is_accept_misnamed, is_range_misnamed}
 use Rattle.tokend.specs.declared.fault.Fault.{Fault}
 use Rattle.tokend.specs.declared.fault.Fault.TheVariants.{Memory, Words}
@@ -119,7 +119,8 @@ abbrev pub lacks_option : Option (Text × List Row) → Bool
 lacks_option found = lacks_log found || is_unplaced found
 
 -- the value of `--ahead`, `--revoke-unseen`, `--consent` or `--refresh-seen` is none of its words,
--- or `--redirects` or `--challenge` has another word, or `--range` or `--accept` another number
+-- or `--redirects` or `--challenge` has another word, or `--range` or `--accept` another number, or
+-- `--issuer` is no issuer
 abbrev pub has_misnamed : List Row → Bool
 has_misnamed rows =
     is_misnamed (first_of (codes "ahead") rows)
@@ -130,6 +131,7 @@ has_misnamed rows =
     || are_misnamed (first_of (codes "redirects") rows)
     || is_refresh_seen_misnamed (first_of (codes "refresh-seen") rows)
     || are_rules_misnamed (first_of (codes "challenge") rows)
+    || is_issuer_misnamed (first_of (codes "issuer") rows)
 
 -- the subcommand has an option whose value is none of its words
 abbrev pub misnames_word : Option (Text × List Row) → Bool
@@ -149,10 +151,6 @@ missing_kind found = kind_missing (lacks_option found) (misnames_word found)
 -- the arguments request this task: clap finds no fault in them, and they name the task
 abbrev pub Asks : List Text → Task → Type 0
 Asks words task = (fault_of tokend_app words ≡ []) × IsTask (subcommand_of tokend_app words) task
-
--- the arguments request a service
-abbrev pub AsksToServe : List Text → Type 0
-AsksToServe words = (service : Service) × Asks words (Serve service)
 
 -- the arguments request help or the version, so that clap has a text in place of a task
 abbrev pub AsksToShow : List Text → Type 0

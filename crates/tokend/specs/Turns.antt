@@ -45,8 +45,8 @@ use Rattle.tk_put.specs.Put.{AppendsFront}
 use Rattle.tk_edge.specs.EdgeFields.{EdgeFields}
 use Rattle.tk_edge.specs.Told.{Change}
 use Rattle.tk_edge.specs.declared.edge.Served.{Served}
-use Rattle.tk_edge.specs.declared.reach.Reach.{Reach}
-use Rattle.tk_edge.specs.declared.reach.Reach.TheVariants.{Admin, All, Clients}
+use Rattle.tk_edge.specs.declared.reach.PathSet.{PathSet}
+use Rattle.tk_edge.specs.declared.reach.PathSet.TheVariants.{Admin, All, Clients}
 use Rattle.tk_edge.specs.declared.tell.Fault.{Fault}
 use Rattle.tk_edge.specs.declared.tell.Fault.TheVariants.{Log, Write}
 use Rattle.tokend.specs.Decisions.{Ending, IsDecision, ended_if}
@@ -72,7 +72,7 @@ abbrev pub ClosesEach : Bool → Endings → Type 0
 ClosesEach keeps endings = keeps ≡ false → connections_in endings ≡ length endings
 
 -- a request reaches all paths, or those of clients alone if operators have a socket of their own
-abbrev pub MayReach : Bool → Reach → Type 0
+abbrev pub MayReach : Bool → PathSet → Type 0
 MayReach has_inner All = ⊤
 MayReach has_inner Clients = has_inner ≡ true
 MayReach has_inner Admin = ⊥
@@ -81,7 +81,7 @@ MayReach has_inner Admin = ⊥
 abbrev pub ReachEach : Bool → Endings → Type 0
 ReachEach has_inner [] = ⊤
 ReachEach has_inner (ending ∷ endings) =
-    MayReach has_inner ending.reach × ReachEach has_inner endings
+    MayReach has_inner ending.reach.paths × ReachEach has_inner endings
 
 -- the refreshes that were granted, with those of these requests
 abbrev pub all_granted : List Refreshed → Endings → List Refreshed

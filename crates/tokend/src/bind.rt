@@ -1,6 +1,6 @@
 //! The sockets of a service: `bind` makes the one of an address, and `bind_path` a Unix socket.
 
-ghost use Rattle.std.specs.Prelude.{◌≡◌, IfErr, IfOk};
+ghost use Rattle.std.specs.Prelude.{IfErr, IfOk};
 ghost use Rattle.tokend.specs.Serving.{IsBindFault, IsListenedOn};
 
 use crate::address::Address;

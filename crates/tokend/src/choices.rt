@@ -11,6 +11,7 @@ ghost use Rattle.tokend.specs.Task.{has_misnamed, misnames_word};
 use crate::ahead::is_ahead_misnamed;
 use crate::challenges::{are_rules_misnamed, read_rules};
 use crate::kinds::{are_kinds_misnamed, read_redirects};
+use crate::notices::is_issuer_misnamed;
 use crate::ranges::{is_accept_misnamed, is_range_misnamed};
 use clap::ArgMatches;
 use tk_message::{Choices, ConsentReuse, RefreshSeen, UnseenRevocation};
@@ -52,6 +53,11 @@ fn misnamed_in(matches: &ArgMatches<'_>) -> Option<&'static str>
     }
     if are_rules_misnamed(matches) {
         return Some("--challenge takes 'all' and 'S256', with a comma between");
+    }
+    if is_issuer_misnamed(matches) {
+        return Some(
+            "--issuer takes https://HOST, perhaps with :PORT and /PATH, or http://127.0.0.1",
+        );
     }
     None
 }

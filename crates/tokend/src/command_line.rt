@@ -163,7 +163,7 @@ fn serve_command<'a>(alloc: Global) -> Result<Command<'a>, AllocError>
     let serve = Command::new(alloc, "serve").about(
         "Serves requests over HTTP, those of many connections at once",
     );
-    let choices: [Choice<'a>; 21] = [
+    let choices: [Choice<'a>; 23] = [
         ("region", Takes::Range(1, Service::GREATEST_REGION, true),
             "The number of the region that is served, 1 to 65535, like no other's and never used again [required]"),
         ("port", Takes::Range(0, Address::GREATEST_PORT, false),
@@ -206,6 +206,10 @@ fn serve_command<'a>(alloc: Global) -> Result<Command<'a>, AllocError>
             "How many seconds a connection stays open between its requests, 0 to 3600, 0 for one request each [default: 0]"),
         ("repeat", Takes::Range(0, Service::GREATEST_REPEAT, false),
             "For how many seconds a refresh that is repeated gets its reply again, 0 to 60 [default: 0]"),
+        ("issuer", Takes::Url,
+            "The URL of this server, for its metadata and the iss of its redirects [default: none]"),
+        ("health", Takes::Nothing,
+            "Answers GET /health: whether requests of clients are answered"),
     ];
     match with_choices(alloc, serve, &choices) {
         Ok(serve) => with_settings(alloc, serve),
@@ -244,6 +248,8 @@ enum Takes<'a> {
     File(bool),
     // Words with commas between.
     List,
+    // A URL.
+    Url,
     // A word, with a default.
     Word(&'a str),
     // A number from the first bound to the second. The flag is whether the option is required.
@@ -284,6 +290,7 @@ fn arg_of<'a>(alloc: Global, choice: Choice<'a>) -> Arg<'a>
         Takes::Nothing => arg.action(ArgAction::SetTrue),
         Takes::File(is_wanted) => arg.value_name("FILE").required(is_wanted),
         Takes::List => arg.value_name("LIST"),
+        Takes::Url => arg.value_name("URL"),
         Takes::Word(default) => arg.value_name("WORD").default_value(default),
         Takes::Range(least, greatest, is_wanted) => arg
             .value_name("N")

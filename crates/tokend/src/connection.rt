@@ -3,8 +3,6 @@
 //! A connection has one request, or many one behind the other if connections are kept. While its
 //! replies are to be sent, no more of it is read or decided.
 
-ghost use Rattle.std.specs.Prelude.{◌≤◌, length};
-
 use crate::socket::Stream;
 use mio::{Interest, Registry, Token};
 use std::alloc::Global;

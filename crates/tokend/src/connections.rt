@@ -3,7 +3,7 @@
 //! No contract speaks of sockets: which of them have something to do, what they give and what they
 //! take is unknown. What is decided of the bytes is in `server`.
 
-ghost use Rattle.std.specs.Prelude.{◌↔◌, IsTrue, IfOk, length};
+ghost use Rattle.std.specs.Prelude.{◌↔◌, IsTrue};
 ghost use Rattle.tk_turn.specs.Turns.{AreWithin};
 
 use crate::connection::{Connection, Step};

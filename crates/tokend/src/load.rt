@@ -1,6 +1,6 @@
 //! Loads an old log: `load` takes its bundles into a region, record by record.
 
-ghost use Rattle.std.specs.Prelude.{◌≡◌, ◌≢◌, ◌⊎◌, ℕ, List, IfOk, IfErr, IfSome};
+ghost use Rattle.std.specs.Prelude.{◌≡◌, ◌⊎◌, ℕ, List, IfOk, IfErr, IfSome};
 ghost use Rattle.tokend.specs.Loading as spec;
 ghost use Rattle.tokend.specs.Loading.{Loads, TakesOne};
 ghost use Rattle.tokend.specs.declared.load.LoadFault.TheVariants as fault;

@@ -13,7 +13,7 @@ use std::alloc::Global;
 use std::io::{self, Read, Write};
 use std::mem::replace;
 use std::net::{Ipv4Addr, Net, OpenListener, OpenStream, Shutdown, TcpListener, TcpStream};
-use tk_edge::{Counted, Discard, Edge, Fault as EdgeFault, Reach, Served, Taken};
+use tk_edge::{Counted, Discard, Edge, Fault as EdgeFault, PathSet, Reach, Served, Taken};
 use tk_handle::Moment;
 use tk_world::{Carrier, Event, Outcome, RunError, Settings, World};
 
@@ -137,7 +137,7 @@ fn serve_bytes(
     let mut writer = Counted::new(replace(reply, Vec::new(alloc)));
     let served = edge.serve_front(
         alloc,
-        Reach::Admin,
+        Reach::plain(PathSet::Admin),
         bytes,
         true,
         &mut writer,

@@ -1,42 +1,23 @@
-//! The program `tokend`: an authorization server that runs in several regions, whose sets of facts
+//! The program `tokend`: an authorisation server that runs in several regions, whose sets of facts
 //! merge.
 //!
-//! The program has four subcommands:
-//!
-//! - `tokend script` reads events as lines from the standard input, runs them in a world of
-//!   regions, and prints one line for each.
-//! - `tokend loopback` runs the same events with each request through a socket.
-//! - `tokend serve` replies to the HTTP requests of one region, at a port of 127.0.0.1 or a Unix
-//!   socket, and writes the log before each reply.
-//! - `tokend facts` prints what logs, bundles and vectors hold, as lines of JSON, or says whether
-//!   they can be loaded.
-//!
-//! The crates below decide what an event or a request does, and what its line contains. This crate
-//! has the arguments, the script, sockets, files, clocks, and the exit statuses:
-//!
-//! - 0: done
-//! - 1: memory or a device failed
-//! - 2: bad arguments, or a bad script, seed, log, source of facts or folder of a socket
-//! - 3: another server answers at the socket
+//! `tokend serve` replies to the HTTP requests of one region and writes the log before each reply.
+//! `tokend script` runs events in a world of regions, `tokend loopback` the same with each request
+//! through a socket. `tokend facts` prints what logs, bundles and vectors hold, or says whether
+//! they can be loaded. The crates below decide what an event or a request does, and what its line
+//! contains. This crate has the arguments, files, sockets, clocks, and the exit statuses: 0 done; 1
+//! memory or a device failed; 2 bad arguments, or a bad script, seed, log, source of facts or
+//! folder of a socket; 3 another server answers at the socket.
 //!
 //! In reading order:
 //!
-//! - `command_line`: what clap knows. `words`, `options`: the arguments, and the task that they
-//!   request.
-//! - `script`: the input as events.
-//! - `draw`: random words. `address`: where a service listens.
-//! - `folder`: where logs are found and kept. `log_file`, `load`: logs, new and old.
-//! - `start`: a service before its first connection. `bind`, `listen`: its sockets.
-//! - `serve`: its connections. `turns`: what is done of them, a turn at a time. `server`: what is
-//!   decided of each. `connections`: the table of them.
-//! - `loopback`: a script's requests as connections.
-//! - `sources`, `facts`: the files whose facts are printed; their lines. `check`: whether they can
-//!   be loaded.
-//! - `fault`: what may go wrong, with its line and status. `telling`: lines about faults.
-//! - `program`: the whole program, in order.
-//! - `promises`: the promises about regions.
-//!
-//! The definitions are in `specs/`, listed in `Lib`.
+//! - `command_line`, what clap knows; `words`, `options`: the arguments, and their task.
+//! - `draw`, random words; `address`, where a service listens; `folder`, `log_file`, `load`: logs.
+//! - `start`, a service before its first connection; `bind`, `listen`, its sockets; `serve`, its
+//!   connections; `turns`, a turn at a time; `server`, what is decided of each; `connections`.
+//! - `script`, `loopback`; `sources`, `facts`, `check`: the files that are printed or checked.
+//! - `fault`, `telling`: what may go wrong, with its line and status; `program`, all in order.
+//! - `promises`: the promises about regions. The definitions are in `specs/`, listed in `Lib`.
 #![tactic(auto)]
 
 mod accepting;
@@ -62,6 +43,7 @@ mod load;
 mod log_file;
 mod loopback;
 mod losses;
+mod notices;
 mod options;
 mod program;
 pub mod promises;

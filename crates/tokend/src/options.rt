@@ -24,6 +24,7 @@ ghost use Rattle.tokend.specs.declared.options.Numbers.{Numbers as NumbersValue}
 use crate::address::{Addresses, is_unplaced, read_addresses};
 use crate::choices::{misnamed_word, read_choices};
 use crate::command_line::tokend_command;
+use crate::notices::{NoticeOptions, read_notices};
 use crate::pushes::{PushOptions, read_pushes};
 use crate::sources::read_facts;
 use clap::error::ErrorKind;
@@ -114,6 +115,8 @@ pub struct Service {
     pub pushes: PushOptions,
     /// What the region does if the profile leaves a choice.
     pub choices: Choices,
+    /// What the service says of itself.
+    pub notices: NoticeOptions,
 }
 
 /// Reads the task of the arguments. The first argument is the program's name.
@@ -296,6 +299,9 @@ fn read_service(alloc: Global, matches: &ArgMatches<'_>) -> Result<Option<Servic
     let Some(choices) = read_choices(matches) else {
         return Ok(None);
     };
+    let Some(notices) = read_notices(alloc, matches)? else {
+        return Ok(None);
+    };
     let Some(seed) = read_text(alloc, matches, "seed")? else {
         return Ok(None);
     };
@@ -324,6 +330,7 @@ fn read_service(alloc: Global, matches: &ArgMatches<'_>) -> Result<Option<Servic
         prune,
         pushes,
         choices,
+        notices,
     }))
 }
 

@@ -7,9 +7,8 @@
 //!
 //! A world stands for a state with all facts that its regions made and took in, whatever they
 //! skipped since: `WorldStands` says how. Four promises are about a run from such a state, and name
-//! it. Four hold of any world, whatever
-//! brought it about: that regions agree, that pruning changes no answer, and the two about inactive
-//! tokens.
+//! it. Four hold of any world, whatever brought it about: that regions agree, that pruning changes
+//! no answer, and the two about inactive tokens.
 
 ghost use Rattle.std.specs.Prelude.{◌≡◌, ℕ, IfOk, MatchResult};
 ghost use Rattle.tk_store.specs.FactSet.{Agree, AllIn, FactSet, IsSubset};

@@ -1,4 +1,4 @@
-//! What a service takes of a push: `PushOptions`, and the terms of a push that they make.
+//! What a service takes of a push: `PushOptions`, and the terms of the service.
 
 ghost use Rattle.std.specs.Prelude.{◌≡◌, IfOk, IfSome, IfNone};
 ghost use Rattle.clap.specs.Words.{found_of, rows_of};
@@ -6,11 +6,12 @@ ghost use Rattle.tokend.specs.CommandLine.{HasPushes, IsNoPushes};
 ghost use Rattle.tokend.specs.Ranges as spec;
 
 use crate::ahead::read_refusal;
+use crate::notices::copied;
 use crate::options::Service;
 use crate::ranges::{read_accepted, read_range};
 use clap::ArgMatches;
 use std::alloc::{AllocError, Global};
-use tk_edge::{PushTerms, RegionRange};
+use tk_edge::{RegionRange, Terms};
 
 /// What a service takes of a push, by `--ahead`, `--range` and `--accept`.
 #[derive(Drop)]
@@ -50,15 +51,18 @@ pub(crate) fn read_pushes(
 }
 
 impl Service {
-    /// Returns the terms of a push to the service, or `AllocError` if memory runs out.
-    pub(crate) fn terms(&self) -> Result<PushTerms, AllocError>
+    /// Returns the terms of the service, or `AllocError` if memory runs out.
+    pub(crate) fn terms(&self, alloc: Global) -> Result<Terms, AllocError>
         ensures { IfOk result (λ terms. terms ≡ spec.terms_of self.now) }
     {
         let accepted = self.pushes.accepted.clone()?;
-        Ok(PushTerms {
+        let issuer = copied(alloc, &self.notices.issuer)?;
+        Ok(Terms {
             refuses_ahead: self.pushes.refuses_ahead,
             accepted,
             barred: above(self.region, self.pushes.range),
+            issuer,
+            health: self.notices.health,
         })
     }
 }

@@ -34,7 +34,7 @@ ghost use Rattle.tokend.specs.Repeats.{IsRefresh, used_in};
 
 use crate::draw::draw;
 use crate::repeats::Refreshed;
-use crate::server::{Server, copy, outcome_of, reach, reply_over};
+use crate::server::{Server, copy, outcome_of, paths, reply_over};
 use rand_chacha::ChaCha20Rng;
 use std::alloc::{AllocError, Global};
 use tk_edge::{Arrival, Fault as EdgeFault, Front, Reach, Served, Taken, hear_front};
@@ -68,6 +68,7 @@ fn refresh_in(came: Arrival) -> Option<Refresh>
         Arrival::Silence => None,
         Arrival::Refused(_) => None,
         Arrival::Exchange(_) => None,
+        Arrival::Notice(_) => None,
     }
 }
 
@@ -118,7 +119,8 @@ impl Server {
     /// Returns what the request at the front of the bytes asks, if refreshes may be repeated.
     pub(crate) fn ask(&self, input: &[u8], is_over: bool) -> Asked
         ensures { spec.IsAsked self.entry.now
-            (reach_by self.entry.now.has_inner self.entry.now.is_inner) input.now is_over result }
+            (reach_by self.entry.now.edge.terms self.entry.now.has_inner self.entry.now.is_inner)
+            input.now is_over result }
     {
         if self.repeats.seconds == 0 || !input.starts_with(b"POST /token") {
             return Asked::Other;
@@ -132,10 +134,11 @@ impl Server {
     }
 
     // Returns which paths the requests of the socket reach.
-    fn reached(&self) -> Reach
-        ensures { result ≡ reach_by self.entry.now.has_inner self.entry.now.is_inner }
+    pub(crate) fn reached(&self) -> Reach
+        ensures { result ≡ reach_by self.entry.now.edge.terms self.entry.now.has_inner
+            self.entry.now.is_inner }
     {
-        reach(self.has_inner, self.is_inner)
+        self.edge.reach(paths(self.has_inner, self.is_inner))
     }
 
     // Returns what a refresh asks: a reply again, if it repeats one that was granted.

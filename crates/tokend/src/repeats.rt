@@ -38,7 +38,7 @@ impl Model for Repeats {
     ghost view = { λ r. record { seconds = r.seconds; kept = r.kept.items } };
 }
 
-ghost use Rattle.std.specs.Prelude.{◌≡◌, ◌++◌, [], ◌∷◌, true, false, find};
+ghost use Rattle.std.specs.Prelude.{◌≡◌, [], true, false, find};
 ghost use Rattle.std.specs.Option.{option_copied};
 ghost use Rattle.tokend.specs.Repeats as spec;
 

@@ -36,7 +36,7 @@ pub(crate) struct Server {
 ghost use Rattle.std.specs.Prelude.{◌≡◌, ◌+◌, ◌-◌, ◌<◌, ◌≤◌, ◌++◌, ℕ, List, Option, None, Ok};
 ghost use Rattle.std.specs.Prelude.{IfSome, length, true};
 ghost use Rattle.tk_turn.specs.Outcomes.{goes_on, taken_of};
-ghost use Rattle.tokend.specs.Decisions.{ended_if, outcome_by, reach_by};
+ghost use Rattle.tokend.specs.Decisions.{ended_if, outcome_by, paths_by, reach_by};
 ghost use Rattle.tokend.specs.Decisions.{Decides, FrontDecides, IsReplied};
 ghost use Rattle.tokend.specs.Decisions.{IsUnread, Seals};
 ghost use Rattle.tokend.specs.Repeating.{IsCome};
@@ -49,7 +49,7 @@ use crate::draw::draw;
 use crate::repeating::{Asked, Refresh};
 use crate::telling::say;
 use std::mem::replace;
-use tk_edge::{Counted, Reach, Served, Sink, Taken, keep_open};
+use tk_edge::{Counted, PathSet, Served, Sink, Taken, keep_open};
 use tk_turn::{Outcome, Service};
 
 /// How many bytes a record has at most that aren't of its request.
@@ -90,13 +90,13 @@ impl Service for Server {
 
 // Returns which paths the requests of a socket reach: those of clients alone over an outer socket
 // beside an inner one, otherwise all.
-pub(crate) fn reach(has_inner: bool, is_inner: bool) -> Reach
-    ensures { result ≡ reach_by has_inner is_inner }
+pub(crate) fn paths(has_inner: bool, is_inner: bool) -> PathSet
+    ensures { result ≡ paths_by has_inner is_inner }
 {
     if has_inner && !is_inner {
-        Reach::Clients
+        PathSet::Clients
     } else {
-        Reach::All
+        PathSet::All
     }
 }
 
@@ -183,8 +183,9 @@ impl Server {
     ) -> Outcome
         requires some { 0 < self.old.left }
         requires told { self.old.fault ≡ None }
-        requires came { IfSome refresh (IsCome (reach_by self.old.has_inner self.old.is_inner)
-            input.now is_over) }
+        requires came { IfSome refresh (IsCome
+            (reach_by self.old.edge.terms self.old.has_inner self.old.is_inner) input.now
+            is_over) }
         ensures within { taken_of result ≤ length input.now }
         ensures some { goes_on result ≡ true → 0 < taken_of result }
         ensures decided { (replied logged : List ℕ)
@@ -230,7 +231,7 @@ impl Server {
             × FrontDecides (record {
               words = words.now;
               log_taken = self.old.log_taken;
-              reach = reach_by self.old.has_inner self.old.is_inner;
+              reach = reach_by self.old.edge.terms self.old.has_inner self.old.is_inner;
               now = self.old.now;
               bytes = input.now;
               over = is_over;
@@ -240,11 +241,12 @@ impl Server {
         if !make_room(records, replies, input.len()) {
             return Err(EdgeFault::Memory);
         }
+        let reach = self.reached();
         let mut reply = Counted::new(replace(replies, Vec::new(self.alloc)));
         let mut record = Counted::new(replace(records, Vec::new(self.alloc)));
         let served = self.edge.serve_front(
             self.alloc,
-            reach(self.has_inner, self.is_inner),
+            reach,
             input,
             is_over,
             &mut reply,

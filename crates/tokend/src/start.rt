@@ -38,7 +38,7 @@ pub(crate) fn begin<I: Read + Drop, L: Sink, D: Folder<I, L>>(
             let number = RegionNumber::new(service.region).unwrap();
             let settings = service.numbers.settings().with_choices(service.choices);
             let region = Region::new(alloc, number, settings);
-            match service.terms() {
+            match service.terms(alloc) {
                 Ok(terms) => {
                     let (edge, words) = (Edge::new(region, terms), generator(seed, number));
                     Ok(Server::new(alloc, edge, words))

@@ -1,6 +1,5 @@
 //! Lines about faults: `say` writes one, and `Steady` repeats an interrupted write.
 
-ghost use Rattle.std.specs.Prelude.{◌≡◌};
 ghost use Rattle.std.specs.Io.{WritesAtMost};
 ghost use Rattle.std.specs.Io.KnownBytes.{WriteAppends};
 ghost use Rattle.tk_edge.specs.Failures.{CountsFailure};

@@ -3,7 +3,7 @@
 //! A turn reads what has come, decides the requests that are whole, writes their records at once,
 //! and only then sends their replies.
 
-ghost use Rattle.std.specs.Prelude.{◌≡◌, ◌<◌, ℕ, List, Option, None};
+ghost use Rattle.std.specs.Prelude.{◌≡◌, ◌<◌, None};
 ghost use Rattle.tokend.specs.Growing.{Grows};
 ghost use Rattle.tokend.specs.Telling.{writer_of};
 ghost use Rattle.tokend.specs.Turns.{Goes};

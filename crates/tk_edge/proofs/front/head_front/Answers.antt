@@ -5,7 +5,7 @@ use Rattle.tk_edge.specs.Bounds.{body_limit, request_limit}
 use Rattle.tk_edge.specs.Fronts.{IsOneRequest}
 use Rattle.tk_edge.specs.HeadFields.{AreFields}
 use Rattle.tk_edge.specs.Judged.{MayAsk}
-use Rattle.tk_edge.specs.declared.judge.Judged.TheVariants.{Body, Query, Vector}
+use Rattle.tk_edge.specs.declared.judge.Judged.TheVariants.{Body, Notice, Query, Vector}
 use Rattle.tk_edge.proofs.BoundLaws.{size_within}
 use Rattle.tk_edge.proofs.FrontLaws.{fewer_within, request_takes, rest_is_all, same_front, size_at, stays_at}
 use Rattle.tk_edge.proofs.StreamLaws.{judged_same, judged_may}
@@ -45,6 +45,24 @@ returns-in-Vector-clause-may c =
     subst (MayAsk c.args.reach) c.in-Vector.is (judged_may c.args.reach c.of-method.result.now
     c.of-target.result.now _ _ _ c.fields_of-fields.ensures c.judge-judged.ensures)
 
+pub returns-in-Notice-clause-takes : goal.returns-in-Notice-clause-takes
+returns-in-Notice-clause-takes c = λ h at.
+    let pairs = map name_and_value h.fields in
+    let are : AreFields c.fields_of-fields.result pairs = rw at.fields at c.fields_of-fields.ensures in
+    let size = size_at c.args.reach h c.args.spans.len c.of-method.result.now c.of-target.result.now
+    (Notice c.in-Notice.notice) at.len (c.of-method.ensures ∙ at.method) (c.of-target.ensures ∙ at.path)
+    (sym c.in-Notice.is ∙ c.judge-judged.ensures _ are) in
+    let stays = stays_at c.args.reach h c.args.spans.version c.of-method.result.now
+    c.of-target.result.now pairs c.judge-judged.result c.stays_by.result at.version
+    (c.of-method.ensures ∙ at.method) (c.of-target.ensures ∙ at.path) refl
+    (c.judge-judged.ensures pairs are) (c.stays_by.ensures pairs are) in
+    (h, drop c.args.spans.len c.args.bytes.now, at.reads, sym (add-zero c.args.spans.len) ∙ size, stays)
+
+pub returns-in-Notice-clause-may : goal.returns-in-Notice-clause-may
+returns-in-Notice-clause-may c =
+    subst (MayAsk c.args.reach) c.in-Notice.is (judged_may c.args.reach c.of-method.result.now
+    c.of-target.result.now _ _ _ c.fields_of-fields.ensures c.judge-judged.ensures)
+
 pub returns-in-Body-clause-came : goal.returns-in-Body-clause-came
 returns-in-Body-clause-came c = λ h at.
     let pairs = map name_and_value h.fields in
@@ -80,7 +98,7 @@ returns-in-Body-clause-fewer c =
     let may = judged_may c.args.reach c.of-method.result.now c.of-target.result.now _ _ _
     c.fields_of-fields.ensures c.judge-judged.ensures in
     let fits = subst (MayAsk c.args.reach) c.in-Body.is may in
-    let small : c.in-Body.size ≤ body_limit c.args.reach =
+    let small : c.in-Body.size ≤ body_limit c.args.reach.paths =
     size_within c.args.reach c.in-Body.posted c.in-Body.size fits.0 fits.1 in
     let most : c.args.spans.len + c.in-Body.size ≤ request_limit c.args.reach =
     omega (arith, small, c.requires.short) in

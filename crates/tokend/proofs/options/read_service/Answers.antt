@@ -1,6 +1,6 @@
 use Rattle.std.proofs.Common.{rules}
 use Rattle.clap.specs.Words.{found_of, rows_of}
-use Rattle.tokend.proofs.Tasks.{without_address, without_choices, without_connections, without_pushes, without_region, without_settings}
+use Rattle.tokend.proofs.Tasks.{without_address, without_choices, without_connections, without_notices, without_pushes, without_region, without_settings}
 use Rattle.tokend.proofs.options.read_service.Goals as goal
 
 pub returns-clause-service : goal.returns-clause-service
@@ -24,6 +24,7 @@ returns-clause-service c = record {
   logged = search rules;
   pushes = search rules;
   choices = search rules;
+  notices = search rules;
 }
 
 pub returns-in_default-clause-none : goal.returns-in_default-clause-none
@@ -40,3 +41,6 @@ returns-in_default-3-clause-none c = without_pushes (rows_of (found_of c.args.ma
 
 pub returns-in_default-read_choices-clause-none : goal.returns-in_default-read_choices-clause-none
 returns-in_default-read_choices-clause-none c = without_choices (rows_of (found_of c.args.matches.now)) c.in_default-read_choices.ensures.none
+
+pub returns-in_default-4-clause-none : goal.returns-in_default-4-clause-none
+returns-in_default-4-clause-none c = without_notices (rows_of (found_of c.args.matches.now)) (search rules)

@@ -1,5 +1,4 @@
-use Rattle.std.proofs.Common.{◌≡◌, ◌++◌, List, ap, sym, ◌∙◌, map, [], ◌∷◌, lit<, rules}
-use borrow.Author.Tests.{tests}
+use Rattle.std.proofs.Common.{◌++◌, List, ap, sym, ◌∙◌, map, [], ◌∷◌, lit<}
 use Rattle.std.proofs.lemmas.List.{map-append}
 use Rattle.std.proofs.lemmas.List.Elements.{filter_map-append}
 use Rattle.std.proofs.lemmas.Iterator.Splits.{YieldsList-from_str_split}

@@ -2,7 +2,6 @@ use Rattle.std.proofs.Common.{◌≡◌, true, None, Some, inl, inr, refl, sym, 
 use Rattle.std.proofs.lemmas.Bool.{cases_Bool}
 use Rattle.tokend.specs.Repeating.{IsKept, is_granted}
 use Rattle.tokend.specs.Repeats.{RepeatsFields, granted_at}
-use Rattle.tokend.specs.declared.server.Server.{Server}
 use Rattle.tokend.proofs.RepeatLaws.{granted_done}
 use Rattle.tokend.proofs.server.Server.keep.Goals as goal
 

@@ -1,0 +1,11 @@
+use Rattle.std.proofs.Common.{None, Some, codes, rules, ◌∙◌}
+use Rattle.clap.specs.Words.{found_of}
+use Rattle.tokend.specs.Notices.{is_issuer_misnamed}
+use Rattle.tokend.proofs.Tasks.{by_text}
+use Rattle.tokend.proofs.notices.is_issuer_misnamed.Goals as goal
+
+pub returns-in-Some : goal.returns-in-Some
+returns-in-Some c = search rules ∙ by_text is_issuer_misnamed (found_of c.args.matches.now) (codes "issuer") (Some c.in-Some.text.now) (search rules)
+
+pub returns-in-None : goal.returns-in-None
+returns-in-None c = by_text is_issuer_misnamed (found_of c.args.matches.now) (codes "issuer") None (search rules)
