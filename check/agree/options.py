@@ -14,7 +14,7 @@ FLAG = None, "off"  # an option without a value
 # options whose value is one of some words
 CHOICES = ("ahead", "revoke-unseen", "consent", "refresh-seen")
 # options whose value is some words with commas between
-LISTS = ("range", "accept", "redirects", "challenge")
+LISTS, URLS = ("range", "accept", "redirects", "challenge"), ("issuer",)
 SPELLINGS = {"no log": "none", "without end": "none"}
 
 
@@ -56,7 +56,8 @@ def of_program(program, command):
         limits = range_in(told)
         default = re.search(r"\[default: ([^\]]*)\]", told)
         said = value_said("[required]" in told, default, limits)
-        named = {**dict.fromkeys(CHOICES, "WORD"), **dict.fromkeys(LISTS, "LIST")}.get(name, "FILE")
+        named = {**dict.fromkeys(CHOICES, "WORD"), **dict.fromkeys(LISTS, "LIST"),
+                 **dict.fromkeys(URLS, "URL")}.get(name, "FILE")
         named = "N" if limits else named
         same(where, "--%s's value" % name, named, value)
         options[name] = (limits, said)

@@ -31,7 +31,7 @@ class Judge:
         read, both = (self.run(text.encode(), mark=variant.MARK_BYTES).marks
                       for text in (line, opened))
         if both <= read:
-            raise Broken("the program copies no id of %d bytes" % variant.MARK_BYTES)
+            raise Broken("the program takes no room of %d bytes for a query" % variant.MARK_BYTES)
         return both
 
     def run(self, script, **refusal):

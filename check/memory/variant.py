@@ -10,9 +10,10 @@ import story
 from lib import Broken
 
 
-MARK_BYTES = 7001  # the length of an id that no client has, and of the program's copy of that id
+ID_BYTES = 7001  # the length of an id that no client has
+MARK_BYTES = len("client_id=") + ID_BYTES  # of the query for it: the room for its name and value
 OWN_REGION = story.Event("open 65535")  # the region that marks ask; it holds no fact
-MARK = story.Event("look 65535 1 " + "x" * MARK_BYTES)
+MARK = story.Event("look 65535 1 " + "x" * ID_BYTES)
 ROUNDS = 30
 
 

@@ -119,7 +119,7 @@ class Origins(CorsCase):
         text, self.port = self.added(example("front-end/nginx.conf")), free_port()
         for name, value in (("DIR", self.folder), ("FRONT", self.port), ("PAGE", free_port()),
                             ("INTROSPECT", free_port()), ("USER", self.worker),
-                            ("TOKEND", self.region.url.removeprefix("http://"))):
+                            ("TOKEND", "unix:" + self.region.socket)):
             text = text.replace("@%s@" % name, str(value))
         self.fill("other.conf", text.replace("nginx.pid", "other.pid"))
         self.begin(NGINX, "-e", self.path("nginx.log"), "-c", self.path("other.conf"))

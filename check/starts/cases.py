@@ -97,6 +97,19 @@ def challenge_is_required_by_a_setting(room):
     wanted((status, number) == (6, 4), "a word that is none isn't status 6", (status, number))
 
 
+def issuer_is_passed_by_a_setting(room):
+    for given, passed in (
+            ({}, []), ({"TOKEND_ISSUER": ""}, []),
+            ({"TOKEND_ISSUER": "https://id.example"}, ["https://id.example"]),
+            ({"TOKEND_ISSUER": "https://id.example",
+              "TOKEND_OPTIONS": "--issuer https://other.example"}, ["https://other.example"])):
+        run = room.start(**given)
+        wanted(option_of(run, "--issuer") == passed, "another issuer", run.arguments())
+        run.stop()
+    status, number = room.start(TOKEND_ISSUER="id.example").ended(), room.number()
+    wanted((status, number) == (6, 4), "a text that is none isn't status 6", (status, number))
+
+
 def setting_is_refused(room):
     """A setting that is no good has status 6, and so has no folder."""
     for words in (["site", "x", "1-9"], ["site", "7001", "9-1"], ["site", "7001", "0-9"],
@@ -355,7 +368,8 @@ def proxies_are_ignored(room):
 
 CASES = [
     later_start_has_all, cut_record_is_left_out, second_run_is_refused, option_uses_no_number,
-    choice_is_passed_unless_it_is_made, challenge_is_required_by_a_setting, setting_is_refused,
+    choice_is_passed_unless_it_is_made, challenge_is_required_by_a_setting,
+    issuer_is_passed_by_a_setting, setting_is_refused,
     folder_of_another_user_is_refused, start_by_hand_shows_nobody_its_seed,
     program_that_fails_is_no_bad_log,
     log_of_a_site_without_memory_is_checked, whole_front_of_a_log_is_counted,

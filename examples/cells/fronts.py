@@ -113,6 +113,8 @@ def start(table: Table, folder: Path, given: dict[str, str]) -> None:
     """
     write_maps(table, folder)
     new, path = folder / "haproxy.cfg.new", folder / "haproxy.cfg"
+    new.unlink(missing_ok=True)
+    new.touch(mode=0o600)  # it has the hashes of passwords
     new.write_text(configuration(table, folder, given), encoding="utf-8")
     if begin(["-c", "-q", "-f", str(new)], folder).wait():
         raise Wrong("HAProxy refuses %s: see %s" % (new, folder / "haproxy.out"))

@@ -44,7 +44,8 @@ def said_of(name, options):
 
 def words(settings, number, places, load, log, secret, prune):
     pruned = [] if prune is None else ["--prune", str(prune)]
-    choices = CHOICES + (("challenge", settings.challenge),) * bool(settings.challenge)
+    given = ("challenge", settings.challenge), ("issuer", settings.issuer)
+    choices = CHOICES + tuple(it for it in given if it[1])
     ranges = settings.ranges() if number in settings.numbers else []
     chosen = [word for name, value in choices if not said_of(name, settings.options)
               for word in ("--" + name, value)]

@@ -37,6 +37,7 @@ class Settings(typing.NamedTuple):
     tokend: str
     options: list
     challenge: str
+    issuer: str
     peers: list
     seconds: int
     margin: typing.Optional[int]
@@ -140,6 +141,6 @@ def read(environ, arguments):
         os.path.abspath(folder), places_of(environ), range(first, last + 1),
         environ.get("TOKEND_ACCEPT", ""), command(environ.get("TOKEND") or "tokend"),
         environ.get("TOKEND_OPTIONS", "").split(), environ.get("TOKEND_CHALLENGE", ""),
-        peers_of(environ),
+        environ.get("TOKEND_ISSUER", ""), peers_of(environ),
         number(seconds, 0, 86_400, "TOKEND_PEER_SECONDS"), margin_of(environ),
         number(environ.get("TOKEND_AHEAD_SECONDS") or "0", 0, 86_400, "TOKEND_AHEAD_SECONDS"))

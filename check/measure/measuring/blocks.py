@@ -58,7 +58,9 @@ def profile(parts):
 
 PROXIED = {"direct": "direct, a connection for each request",
            "proxied, new": "by HAProxy, a connection for each request",
-           "proxied, kept": "by HAProxy, kept connections"}
+           "proxied, kept": "by HAProxy, whose clients keep theirs",
+           "direct, --keep": "direct, kept connections",
+           "proxied, --keep": "by HAProxy, kept connections on both sides"}
 
 
 def many_row(it, label, name):
