@@ -62,7 +62,7 @@ def bytes_in(text, place):
 
 
 def counted(line, n, times, place):
-    """The line as it comes for the n-th time of so many."""
+    """The line as it comes for the n-th of its times."""
     def value(found):
         if found[1].startswith("n: "):
             items = found[1][3:].split()

@@ -133,7 +133,7 @@ def limited(row):
 
 
 def started(program, words, row, room, ends):
-    """The program, begun. Where an output fails it is told so, and isn't ended by a signal."""
+    """The program, begun. An output that fails returns an error, and sends it no signal."""
     given = subprocess.PIPE if row.sent() else subprocess.DEVNULL
     with limited(row):
         return subprocess.Popen(
@@ -161,7 +161,7 @@ def send_at_once(connection, sent):
 
 
 def send_in_drips(connection, sent, gap):
-    """Sends the bytes one by one, so many milliseconds apart. It yields what comes back."""
+    """Sends the bytes one by one, some milliseconds apart. Yields what comes back."""
     left, end = sent, time.monotonic() + SECONDS
     while time.monotonic() < end:
         if select.select([connection], [], [], gap / 1000)[0]:

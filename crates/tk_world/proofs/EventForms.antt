@@ -14,7 +14,7 @@ use Rattle.tk_handle.specs.Ranges.{IsRegion, IsMoment}
 use Rattle.tk_vector.specs.VersionVector.{Vector}
 use Rattle.tk_vector.specs.VectorText.{IsVectorText, IsNoVectorText}
 use Rattle.tk_world.specs.declared.event.Event.{Event}
-use Rattle.tk_world.specs.declared.event.Event.TheVariants.{Open, Request, Pull, Deliver, Prune}
+use Rattle.tk_world.specs.declared.event.Event.TheVariants.{Open, Request, Pull, Deliver, Prune, PruneSome}
 use Rattle.tk_world.specs.Fields.{is_space, region_in, moment_in, IsCursorText}
 use Rattle.tk_world.specs.RequestLine.{asked_of}
 use Rattle.tk_world.specs.Line.{texts, IsPrintable, IsEventForm, IsNoEventForm, IsEventLine, IsNoEventLine}
@@ -42,6 +42,10 @@ three (x ∷ fs) e = ap (λ l. x.now ∷ l) (two fs (omega (arith, e)))
 pub four : (fs : List (Bor (List ℕ))) → length fs ≡ 4 → texts fs ≡ text_at fs 0 ∷ text_at fs 1 ∷ text_at fs 2 ∷ text_at fs 3 ∷ []
 four [] e = absurd (omega (arith, e))
 four (x ∷ fs) e = ap (λ l. x.now ∷ l) (three fs (omega (arith, e)))
+
+five : (fs : List (Bor (List ℕ))) → length fs ≡ 5 → texts fs ≡ text_at fs 0 ∷ text_at fs 1 ∷ text_at fs 2 ∷ text_at fs 3 ∷ text_at fs 4 ∷ []
+five [] e = absurd (omega (arith, e))
+five (x ∷ fs) e = ap (λ l. x.now ∷ l) (four fs (omega (arith, e)))
 
 three_up : (fs : List (Bor (List ℕ))) → 3 ≤ length fs → texts fs ≡ text_at fs 0 ∷ text_at fs 1 ∷ text_at fs 2 ∷ texts (drop 3 fs)
 three_up [] e = absurd (omega (arith, e))
@@ -90,6 +94,10 @@ module _ (fs : List (Bor (List ℕ))) where
       let at_moment = moment_found (text_at fs 2) horizon then in
       (rw (three fs long, name, at_region.1, at_moment.1) refl, at_region.0, at_moment.0)
 
+  -- five fields that begin with `prune_some` are those of a slice
+  pub slice_texts : length fs ≡ 5 → text_at fs 0 ≡ codes "prune_some" → codes "prune_some" ∷ text_at fs 1 ∷ text_at fs 2 ∷ text_at fs 3 ∷ text_at fs 4 ∷ [] ≡ texts fs
+  slice_texts long name = ap (λ t. t ∷ text_at fs 1 ∷ text_at fs 2 ∷ text_at fs 3 ∷ text_at fs 4 ∷ []) (sym name) ∙ sym (five fs long)
+
 -- ---- the fields of no event
 
 -- the names of events with three fields differ
@@ -107,6 +115,7 @@ module _ (fs : List (Bor (List ℕ))) where
   open_bad long none (Pull region vector after) h = absurd (omega (arith, count fs _ h.2))
   open_bad long none (Deliver bundle region) h = absurd (omega (arith, count fs _ h.0))
   open_bad long none (Prune region horizon) h = absurd (omega (arith, count fs _ h.0))
+  open_bad long none (PruneSome region horizon after most) h = absurd (omega (arith, count fs _ h.1))
 
   -- three fields that begin with `deliver` are those of a delivery or of no event
   deliver_only : length fs ≡ 3 → text_at fs 0 ≡ codes "deliver" → ((bundle region : ℕ) → text_at fs 1 ≡ decimal bundle → bundle < 2 ^ 64 → text_at fs 2 ≡ decimal region → IsRegion region → ⊥) → IsNoEventForm (texts fs)
@@ -123,6 +132,7 @@ module _ (fs : List (Bor (List ℕ))) where
       let parts = sym (three fs long) ∙ h.0 in
       let same : text_at fs 0 ≡ codes "prune" = cc in
       names_differ (sym name ∙ same)
+  deliver_only long name none (PruneSome region horizon after most) h = absurd (omega (arith, count fs _ h.1))
 
   pub deliver_bad_region : length fs ≡ 3 → text_at fs 0 ≡ codes "deliver" → region_in (text_at fs 2) ≡ None → IsNoEventForm (texts fs)
   deliver_bad_region long name none = deliver_only long name (λ bundle region same high at is. no_region (text_at fs 2) region none is at)
@@ -142,6 +152,7 @@ module _ (fs : List (Bor (List ℕ))) where
   prune_only long name none (Prune region horizon) h =
       let parts = sym (three fs long) ∙ h.0 in
       none region horizon (cc) h.1 (cc) h.2
+  prune_only long name none (PruneSome region horizon after most) h = absurd (omega (arith, count fs _ h.1))
 
   pub prune_bad_region : length fs ≡ 3 → text_at fs 0 ≡ codes "prune" → region_in (text_at fs 1) ≡ None → IsNoEventForm (texts fs)
   prune_bad_region long name none = prune_only long name (λ region horizon at is then late. no_region (text_at fs 1) region none is at)
@@ -163,6 +174,7 @@ module _ (fs : List (Bor (List ℕ))) where
       none region vector after (cc) h.3 (subst (λ t. IsVectorText t vector) entries h.4) (subst (λ t. IsCursorText t after) place h.5)
   pull_only long name none (Deliver bundle region) h = absurd (omega (arith, count fs _ h.0))
   pull_only long name none (Prune region horizon) h = absurd (omega (arith, count fs _ h.0))
+  pull_only long name none (PruneSome region horizon after most) h = absurd (omega (arith, count fs _ h.1))
 
   pub pull_bad_region : length fs ≡ 4 → text_at fs 0 ≡ codes "pull" → region_in (text_at fs 1) ≡ None → IsNoEventForm (texts fs)
   pull_bad_region long name none = pull_only long name (λ region vector after at is entries place. no_region (text_at fs 1) region none is at)
@@ -176,6 +188,7 @@ module _ (fs : List (Bor (List ℕ))) where
     pub deliver : length fs ≡ 3 → text_at fs 0 ≢ codes "deliver"
     pub pull : length fs ≡ 4 → text_at fs 0 ≢ codes "pull"
     pub prune : length fs ≡ 3 → text_at fs 0 ≢ codes "prune"
+    pub slice : length fs ≡ 5 → text_at fs 0 ≢ codes "prune_some"
 
   request_only : IsOther → ((region now : ℕ) (request : List ℕ) → text_at fs 1 ≡ decimal region → IsRegion region → text_at fs 2 ≡ decimal now → IsMoment now → asked_of (text_at fs 0) (texts (drop 3 fs)) ≡ Some request → ⊥) → IsNoEventForm (texts fs)
   request_only other none (Open region) h = let long = other.long in absurd (omega (arith, count fs _ h.0))
@@ -196,6 +209,10 @@ module _ (fs : List (Bor (List ℕ))) where
       let long = count fs _ h.0 in
       let parts = sym (three fs long) ∙ h.0 in
       other.prune long (cc)
+  request_only other none (PruneSome region horizon after most) h =
+      let long = count fs _ h.1 in
+      let parts = sym (five fs long) ∙ h.1 in
+      other.slice long (cc)
 
   -- the fields after the first three
   abbrev pub rest : List (Bor (List ℕ))
@@ -217,6 +234,34 @@ module _ (fs : List (Bor (List ℕ))) where
   no_form short other (Pull region vector after) h = absurd (omega (arith, count fs _ h.2))
   no_form short other (Deliver bundle region) h = absurd (omega (arith, count fs _ h.0))
   no_form short other (Prune region horizon) h = absurd (omega (arith, count fs _ h.0))
+  no_form short other (PruneSome region horizon after most) h = absurd (omega (arith, count fs _ h.1))
+
+-- ---- the fields of a slice
+
+module _ (at then place most : List ℕ) where
+  -- the fields of a slice of a prune
+  abbrev pub slice_fields : List (List ℕ)
+  slice_fields = codes "prune_some" ∷ at ∷ then ∷ place ∷ most ∷ []
+
+  -- five fields that begin with `prune_some` are those of a slice or of no event
+  slice_only : ((region horizon : ℕ) → at ≡ decimal region → IsRegion region → then ≡ decimal horizon → IsMoment horizon → ⊥) → IsNoEventForm slice_fields
+  slice_only none (Open region) h = absurd (omega (arith, ap length h.0))
+  slice_only none (Request region now words request) h =
+      let parts = h.2 in
+      let same : h.0 ≡ codes "prune_some" = cc in
+      no_request_named h.0 (codes "prune_some") h.1 request.items h.5 refl same
+  slice_only none (Pull region vector after) h = absurd (omega (arith, ap length h.2))
+  slice_only none (Deliver bundle region) h = absurd (omega (arith, ap length h.0))
+  slice_only none (Prune region horizon) h = absurd (omega (arith, ap length h.0))
+  slice_only none (PruneSome region horizon after n) h =
+      let parts = h.1 in
+      none region horizon (cc) h.2 (cc) h.3
+
+  pub slice_bad_region : region_in at ≡ None → IsNoEventForm slice_fields
+  slice_bad_region none = slice_only (λ region horizon is here now late. no_region at region none here is)
+
+  pub slice_bad_moment : moment_in then ≡ None → IsNoEventForm slice_fields
+  slice_bad_moment none = slice_only (λ region horizon is here now late. no_moment then horizon none late now)
 
 -- ---- lines
 

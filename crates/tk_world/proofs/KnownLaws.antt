@@ -31,7 +31,7 @@ last_of_dots r (d ∷ ds) = max (if d.region == r then d.serial else 0) (last_of
 abbrev is_uncovered : Vector → Dot → Bool
 is_uncovered v d = not (nat_le d.serial (entry v d.region))
 
--- a value that tells nothing
+-- one value in place of every value
 abbrev naught : {X : Type 0} → X → ℕ
 naught x = 0
 

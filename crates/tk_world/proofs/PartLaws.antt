@@ -1,5 +1,5 @@
 -- A change of one part of a world's fields is what an event does to the world. Key results:
---   open_act, request_act, pull_act, deliver_act, prune_act
+--   open_act, request_act, pull_act, deliver_act, prune_act, slice_act
 --                                     the result of each part
 --   held_at, sorted_after             a region that is held, and the order after a write at an index
 --   settings_after, world_after       the settings and the world after a write at an index
@@ -32,15 +32,15 @@ use Rattle.tk_edge.specs.declared.reach.PathSet.TheVariants.{Admin, All}
 use Rattle.tk_edge.proofs.AnswerLaws.{answers_alone}
 use Rattle.tk_edge.proofs.StreamLaws.{all_heard}
 use Rattle.tk_world.specs.AskedFields.{AskedFields}
-use Rattle.tk_world.specs.Acts.{Turns, MakesAt, OpensAt, PullsAt, DeliversAt, PrunesAt}
+use Rattle.tk_world.specs.Acts.{Turns, MakesAt, OpensAt, PullsAt, DeliversAt, PrunesAt, PrunesSomeAt}
 use Rattle.tk_world.specs.Broken.{Requests, Steps}
 use Rattle.tk_world.specs.Carrying.{Carries, IsReplied, Makes, Way}
-use Rattle.tk_world.specs.Parts.{Opens, Pages, TakesBundle, PrunesTo}
+use Rattle.tk_world.specs.Parts.{Opens, Pages, TakesBundle, PrunesTo, PrunesSomeTo}
 use Rattle.tk_world.specs.Regions.{entry_of, entries_of, IsOpen, HaveSettings}
 use Rattle.tk_world.specs.WorldFields.{WorldFields, with_store, with_bundles, region_at}
 use Rattle.tk_world.specs.declared.event.Event.TheVariants.{Request}
 use Rattle.tk_world.specs.declared.event.Outcome.{Outcome}
-use Rattle.tk_world.specs.declared.event.Outcome.TheVariants.{Opened, Reply, Bundle, Took, Pruned, Memory}
+use Rattle.tk_world.specs.declared.event.Outcome.TheVariants.{Opened, Reply, Bundle, Took, Pruned, PrunedSome, Memory}
 use Rattle.tk_world.proofs.RegionLaws.{entry_at, entries_set, entries_insert, settings_at, settings_set, settings_insert}
 use Rattle.tk_world.proofs.StandsLaws.{same_again}
 
@@ -106,6 +106,10 @@ pub prune_act : (w : WorldFields) (r moment : ℕ) (p q : RegionFields) (o : Out
 prune_act w r moment p q (Pruned n) at t = (p.facts, q.facts, turned w r p.facts q.facts at, t.1)
 prune_act w r moment p q Memory at t = (some_is _ p.facts at, ap (λ (x : RegionFields). with_store w r x.facts) t ∙ same_region w r p.facts at)
 prune_act w r moment p q o at t = absurd t
+
+pub slice_act : (w : WorldFields) (r moment : ℕ) (after : Option Dot) (count : ℕ) (p q : RegionFields) (o : Outcome) → map.get w.regions r ≡ Some p.facts → PrunesSomeTo p moment after count o q → PrunesSomeAt w r moment after count o (with_store w r q.facts)
+slice_act w r moment after count p q (PrunedSome slice) at t = (p.facts, q.facts, turned w r p.facts q.facts at, t.1)
+slice_act w r moment after count p q o at t = absurd t
 
 pub pull_act : (w : WorldFields) (r : ℕ) (P : StoreFields) (v : Vector) (after : Option Dot) (o : Outcome) (bs : List BundleFields) → map.get w.regions r ≡ Some P → Pages (page_of P v after) w.bundles o bs → PullsAt w r v after o (with_bundles w bs)
 pull_act w r P v after (Bundle index count last more) bs at p = (P, at, (p.0, p.1, p.2, p.3, ap (with_bundles w) p.4))
@@ -247,6 +251,10 @@ pub pruned_number : (p q : EdgeFields) (moment : ℕ) (o : Outcome) → PrunesTo
 pruned_number p q moment (Pruned n) t sealed terms = (t.0.number, (t.0.settings, sealed, terms))
 pruned_number p q moment Memory t sealed terms = (ap (λ (r : RegionFields). r.number) t, (ap (λ (r : RegionFields). r.settings) t, sealed, terms))
 pruned_number p q moment o t sealed terms = absurd t
+
+pub sliced_number : (p q : EdgeFields) (moment : ℕ) (after : Option Dot) (count : ℕ) (o : Outcome) → PrunesSomeTo p.region moment after count o q.region → q.sealed ≡ p.sealed → q.terms ≡ p.terms → (q.region.number ≡ p.region.number) × IsAsOpen p q
+sliced_number p q moment place count (PrunedSome slice) t sealed terms = (t.0.number, (t.0.settings, sealed, terms))
+sliced_number p q moment place count o t sealed terms = absurd t
 
 -- ---- the end of a call
 

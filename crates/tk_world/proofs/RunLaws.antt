@@ -14,9 +14,9 @@ use Rattle.tk_store.specs.FactSet.{FactSet, Facts}
 use Rattle.tk_store.specs.Joining.{JoinsFacts, SameFacts}
 use Rattle.tk_store.proofs.JoiningLaws.{joins_nothing, joins_more, joins_same}
 use Rattle.tk_world.specs.declared.event.Event.{Event}
-use Rattle.tk_world.specs.declared.event.Event.TheVariants.{Open, Request, Pull, Deliver, Prune}
+use Rattle.tk_world.specs.declared.event.Event.TheVariants.{Open, Request, Pull, Deliver, Prune, PruneSome}
 use Rattle.tk_world.specs.declared.event.Outcome.{Outcome}
-use Rattle.tk_world.specs.declared.event.Outcome.TheVariants.{Opened, NumberTaken, NoRegion, NoBundle, Reply, Bundle, Took, Pruned, Memory}
+use Rattle.tk_world.specs.declared.event.Outcome.TheVariants.{Opened, NumberTaken, NoRegion, NoBundle, Reply, Bundle, Took, Pruned, PrunedSome, Memory}
 use Rattle.tk_world.specs.Acts.{ActBy, ActsBy}
 use Rattle.tk_world.specs.State.{Kept, State, new_kept, with_region, facts_in}
 use Rattle.tk_world.specs.Carrying.{Way}
@@ -90,6 +90,8 @@ step_shows way old (Deliver i n) NoBundle seen new step r = same_after old new (
 step_shows way old (Prune n moment) (Pruned k) seen new step r = grown old new n step.0 (Some moment) seen step.1 r
 step_shows way old (Prune n moment) NoRegion seen new step r = same_after old new (Prune n moment) seen r step.1.0 step.1.1
 step_shows way old (Prune n moment) Memory seen new step r = same_after old new (Prune n moment) seen r step.1.0 step.1.1
+step_shows way old (PruneSome n moment after count) (PrunedSome slice) seen new step r = grown old new n step.0 (Some moment) seen step.1 r
+step_shows way old (PruneSome n moment after count) NoRegion seen new step r = same_after old new (PruneSome n moment after count) seen r step.1.0 step.1.1
 step_shows way old e o seen new step r = absurd step
 
 -- after a run each region's facts are its old ones joined with what the region has seen
@@ -117,6 +119,8 @@ step_settings way old (Deliver i n) NoBundle seen new step = ap (λ (w : State).
 step_settings way old (Prune n moment) (Pruned k) seen new step = ap (λ (w : State). w.settings) step.1.changes
 step_settings way old (Prune n moment) NoRegion seen new step = ap (λ (w : State). w.settings) step.1.1
 step_settings way old (Prune n moment) Memory seen new step = ap (λ (w : State). w.settings) step.1.1
+step_settings way old (PruneSome n moment after count) (PrunedSome slice) seen new step = ap (λ (w : State). w.settings) step.1.changes
+step_settings way old (PruneSome n moment after count) NoRegion seen new step = ap (λ (w : State). w.settings) step.1.1
 step_settings way old e o seen new step = absurd step
 
 -- a run leaves the settings

@@ -1,18 +1,19 @@
 -- A world still stands for a state after each event, and the event is a step of that state. Key
 -- results:
 --   step_for                     one event
---   step_standing, pull_standing, deliver_standing, prune_standing
+--   step_standing, pull_standing, deliver_standing, prune_standing, slice_standing
 --                                the world still stands for a state
 --   bundle_agrees, bundle_made   no region of a world refuses a bundle of that world
-use Rattle.std.proofs.Common.{◌≡◌, ◌⊎◌, inl, inr, ℕ, max, false, [], take, slice_get, Option, Some, None, is_some, refl, sym, ap, subst, ◌∙◌, arith}
+use Rattle.std.proofs.Common.{◌≡◌, ◌⊎◌, inl, inr, ℕ, max, false, List, [], ◌∷◌, take, slice_get, Option, Some, None, is_some, refl, sym, ap, subst, ◌∙◌, arith}
 use Rattle.std.specs.FinMap as map
 use Rattle.tk_handle.specs.declared.dot.Dot.{Dot}
 use Rattle.tk_vector.specs.VersionVector.{Vector}
 use Rattle.tk_store.specs.FactSet.{FactSet, Facts, AllIn, with_facts}
 use Rattle.tk_store.specs.Joining.{JoinsFacts}
-use Rattle.tk_store.specs.StoreFields.{StoreFields, empty_store}
+use Rattle.tk_store.specs.StoreFields.{StoreFields, empty_store, with_skipped, with_horizon}
 use Rattle.tk_store.proofs.JoiningLaws.{joins_with_facts, joins_nothing}
 use Rattle.tk_store.proofs.SubsetLaws.{subset_itself, subset_with_facts, keeps_with_facts, AllIn-take, AllIn-subset}
+use Rattle.tk_ledger.specs.Slices.{Steps}
 use Rattle.tk_bundle.specs.BundleFields.{BundleFields}
 use Rattle.tk_bundle.specs.Page as bundles
 use Rattle.tk_region.specs.RegionFields.{place_in}
@@ -20,11 +21,12 @@ use Rattle.tk_message.specs.Place.{next_in}
 use Rattle.tk_region.specs.Taking.{AgreesWith, has_unmade, items_taken, raised}
 use Rattle.tk_retention.specs.StandsFor.{StandsFor}
 use Rattle.tk_retention.proofs.KeepingLaws.{prune_stands}
+use Rattle.tk_retention.proofs.SliceStands.{slice_stands}
 use Rattle.tk_world.specs.declared.event.Event.{Event}
-use Rattle.tk_world.specs.declared.event.Event.TheVariants.{Open, Request, Pull, Deliver, Prune}
+use Rattle.tk_world.specs.declared.event.Event.TheVariants.{Open, Request, Pull, Deliver, Prune, PruneSome}
 use Rattle.tk_world.specs.declared.event.Outcome.{Outcome}
-use Rattle.tk_world.specs.declared.event.Outcome.TheVariants.{Opened, NumberTaken, NoRegion, NoBundle, Bundle, Took, Pruned, Memory}
-use Rattle.tk_world.specs.Acts.{OpensAt, PullsAt, DeliversAt, PrunesAt, ActBy}
+use Rattle.tk_world.specs.declared.event.Outcome.TheVariants.{Opened, NumberTaken, NoRegion, NoBundle, Bundle, Took, Pruned, PrunedSome, Memory}
+use Rattle.tk_world.specs.Acts.{OpensAt, PullsAt, DeliversAt, PrunesAt, PrunesSomeAt, ActBy}
 use Rattle.tk_world.specs.Carrying.{Way, in_place}
 use Rattle.tk_world.specs.Pages.{page_of}
 use Rattle.tk_world.specs.State.{Kept, Sent, State, new_kept, with_region, with_bundle}
@@ -223,6 +225,32 @@ prune_step_for way w r moment NoRegion new act U s S = record { seen = []; made 
 prune_step_for way w r moment Memory new act U s S = record { seen = []; made = U; after = s; step = (some_for w U s S r act.0, (refl, refl)); stands = unchanged_stands w new U s act.1 S }
 prune_step_for way w r moment o new act U s S = absurd act
 
+-- ---- a slice of a prune
+
+-- facts that go leave the horizon
+steps_horizon : (P Q : StoreFields) (ds : List Dot) → Steps P ds Q → Q.horizon ≡ P.horizon
+steps_horizon P Q [] is = ap (λ (R : StoreFields). R.horizon) is
+steps_horizon P Q (d ∷ ds) steps = steps_horizon (with_skipped P d) Q ds steps.1
+
+slice_step_for : (way : Way) (w : WorldFields) (r moment : ℕ) (after : Option Dot) (count : ℕ) (o : Outcome) (new : WorldFields) → PrunesSomeAt w r moment after count o new → (U : FactSet) (s : State) → WorldStands w U s → StepFor way s (PruneSome r moment after count) o new
+slice_step_for way w r moment after count (PrunedSome slice) new act U s S =
+    let P = act.0 in
+    let Q = act.1 in
+    let x = open_for w U s S r P act.2.is_open in
+    let j : Kept = record { facts = x.k.facts; horizon = raised_to x.k.horizon (Some moment) } in
+    record {
+      seen = [];
+      made = U;
+      after = with_region s r j;
+      step = (x.k, record { is_open = x.at; grown = x.k.facts; joins = joins_nothing x.k.facts; changes = refl }, refl);
+      stands = unchanged_stands _ new U _ act.2.changes
+          (stands_put w U U s r Q j S (subset_itself U) (consists_kept s U r x.k j S.consists x.at (S.consists.held r x.k x.at) (subset_itself x.k.facts)) S.sound
+          (slice_stands P Q moment after count slice U x.k.facts act.3 x.stands S.sound)
+          (ap (λ h. max h moment) x.horizon ∙ sym (steps_horizon (with_horizon P moment) Q act.3.went.dots act.3.went.steps)));
+    }
+slice_step_for way w r moment after count NoRegion new act U s S = record { seen = []; made = U; after = s; step = (closed_for w U s S r act.0, (refl, refl)); stands = unchanged_stands w new U s act.1 S }
+slice_step_for way w r moment after count o new act U s S = absurd act
+
 -- ---- any event
 
 pub step_for : (way : Way) (w : WorldFields) (e : Event) (o : Outcome) (new : WorldFields) → ActBy way w e o new → (U : FactSet) (s : State) → WorldStands w U s → StepFor way s e o new
@@ -235,6 +263,7 @@ step_for way w (Pull r v after) o new act U s S =
     record { seen = x.seen; made = x.made; after = x.after_it; step = x.pulls; stands = x.stands }
 step_for way w (Deliver i r) o new act U s S = deliver_step_for way w i r o new act U s S
 step_for way w (Prune r moment) o new act U s S = prune_step_for way w r moment o new act U s S
+step_for way w (PruneSome r moment after count) o new act U s S = slice_step_for way w r moment after count o new act U s S
 
 -- an event leaves a world that stands for a state
 pub step_standing : (way : Way) (w : WorldFields) (e : Event) (o : Outcome) (new : WorldFields) → ActBy way w e o new → IsStanding w → IsStanding new
@@ -250,6 +279,9 @@ deliver_standing w i r o new act standing = let x = deliver_step_for in_place w 
 
 pub prune_standing : (w : WorldFields) (r moment : ℕ) (o : Outcome) (new : WorldFields) → PrunesAt w r moment o new → IsStanding w → IsStanding new
 prune_standing w r moment o new act standing = let x = prune_step_for in_place w r moment o new act standing.0 standing.1 standing.2 in (x.made, x.after, x.stands)
+
+pub slice_standing : (w : WorldFields) (r moment : ℕ) (after : Option Dot) (count : ℕ) (o : Outcome) (new : WorldFields) → PrunesSomeAt w r moment after count o new → IsStanding w → IsStanding new
+slice_standing w r moment after count o new act standing = let x = slice_step_for in_place w r moment after count o new act standing.0 standing.1 standing.2 in (x.made, x.after, x.stands)
 
 -- ---- a bundle that a region has no reason to refuse
 

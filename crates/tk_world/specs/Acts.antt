@@ -1,7 +1,7 @@
 -- What events do to a world, exactly: to its regions' stores and its bundles (own).
 --   Turns          the store of an open region becomes another
 --   MakesAt        the fact made for what was heard, if any, is added to a region
---   OpensAt, AnswersAt, PullsAt, DeliversAt, PrunesAt
+--   OpensAt, AnswersAt, PullsAt, DeliversAt, PrunesAt, PrunesSomeAt
 --                  how an event of each kind may end
 --   ActBy, ActsBy  one event, and one after another, if requests go this way
 use Rattle.std.specs.Prelude.{◌≡◌, ◌⊎◌, ℕ, List, [], ◌∷◌, ◌++◌, length, slice_get}
@@ -11,6 +11,7 @@ use Rattle.tk_handle.specs.declared.dot.Dot.{Dot}
 use Rattle.tk_vector.specs.VersionVector.{Vector}
 use Rattle.tk_store.specs.StoreFields.{StoreFields, empty_store}
 use Rattle.tk_ledger.specs.Retention.{Prunes}
+use Rattle.tk_ledger.specs.Slices.{PrunesSome}
 use Rattle.tk_bundle.specs.BundleFields.{BundleFields}
 use Rattle.tk_bundle.specs.Page.{page_of}
 use Rattle.tk_region.specs.RegionFields.{with_made}
@@ -24,7 +25,7 @@ use Rattle.tk_world.specs.declared.event.Event.TheVariants as event
 use Rattle.tk_world.specs.declared.event.Outcome.{Outcome}
 use Rattle.tk_world.specs.declared.event.Outcome.TheVariants.{Opened, NumberTaken, NoRegion}
 use Rattle.tk_world.specs.declared.event.Outcome.TheVariants.{NoBundle, Reply, Bundle, Took, Pruned}
-use Rattle.tk_world.specs.declared.event.Outcome.TheVariants.{Memory}
+use Rattle.tk_world.specs.declared.event.Outcome.TheVariants.{PrunedSome, Memory}
 use Rattle.tk_world.specs.AskedFields.{AskedFields}
 use Rattle.tk_world.specs.Carrying.{Way}
 use Rattle.tk_world.specs.WorldFields.{WorldFields, with_store, with_bundles, region_at}
@@ -104,6 +105,14 @@ PrunesAt old r moment NoRegion new = IsNoRegion old r new
 PrunesAt old r moment Memory new = IsIdle old r new
 PrunesAt old r moment outcome new = ⊥
 
+-- the region looks at `count` facts above the cursor, and those that may go are skipped, at its
+-- horizon, which is not before the moment; the slice has the next cursor
+abbrev pub PrunesSomeAt : WorldFields → ℕ → ℕ → Option Dot → ℕ → Outcome → WorldFields → Type 0
+PrunesSomeAt old r moment after count (PrunedSome slice) new =
+    (P Q : StoreFields) × Turns old r P Q new × PrunesSome P moment after count slice Q
+PrunesSomeAt old r moment after count NoRegion new = IsNoRegion old r new
+PrunesSomeAt old r moment after count outcome new = ⊥
+
 -- ---- events, one after another
 
 -- the event may have this outcome and lead from the old world to the new one, if requests go this
@@ -115,6 +124,8 @@ ActBy way old (event.Request r now words bytes) outcome new =
 ActBy way old (event.Pull r v after) outcome new = PullsAt old r v after outcome new
 ActBy way old (event.Deliver i r) outcome new = DeliversAt old i r outcome new
 ActBy way old (event.Prune r moment) outcome new = PrunesAt old r moment outcome new
+ActBy way old (event.PruneSome r moment after count) outcome new =
+    PrunesSomeAt old r moment after count outcome new
 
 -- one event after another, if requests go this way
 abbrev pub ActsBy : Way → WorldFields → List Event → List Outcome → WorldFields → Type 0

@@ -1,4 +1,4 @@
--- The numbers and texts that a line's fields stand for.
+-- The numbers and texts that a line's fields stand for (own).
 --   is_space         the byte between two fields of a line
 --   region_in        the region whose number a text is
 --   moment_in        the moment whose seconds a text is

@@ -16,7 +16,8 @@
 --   Headline      RunStands, a run of a world as a run of that state; AnswersFor, the answers
 --   Promises      TellsOfSets, IntrospectAlike, RevokedInactive, FamiliesInactive: the promises
 --                 about introspection
---   Parts         Opens, Pages, TakesBundle, PrunesTo: how the parts of a step may end
+--   Parts         Opens, Pages, TakesBundle, PrunesTo, PrunesSomeTo: how the parts of a step may
+--                 end
 --   Fields        region_in, moment_in, IsCursorText: the numbers and texts of a line's fields
 --   RequestLine   asked_of, the requests of lines, whole and short
 --   Line          IsEventLine, the event of a line; HasWords, the random words of a request

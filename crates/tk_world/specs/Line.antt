@@ -1,4 +1,5 @@
--- The lines that are events, and the random words of requests.
+-- The lines that are events, and the random words of requests (own).
+--   IsSliceForm     the fields of a slice of a prune
 --   IsEventForm     the event of a line's fields
 --   IsEventLine     the event of a line
 --   HasWords        the random words of a request
@@ -9,9 +10,11 @@ use Rattle.std.specs.Option.{option_map}
 use Rattle.std.specs.Borrow.{Bor}
 use Rattle.std.specs.List.{All, slice_split}
 use Rattle.tk_handle.specs.Ranges.{IsRegion, IsMoment}
+use Rattle.tk_handle.specs.declared.dot.Dot.{Dot}
 use Rattle.tk_vector.specs.VectorText.{IsVectorText}
 use Rattle.tk_world.specs.declared.event.Event.{Event}
 use Rattle.tk_world.specs.declared.event.Event.TheVariants.{Open, Request, Pull, Deliver, Prune}
+use Rattle.tk_world.specs.declared.event.Event.TheVariants.{PruneSome}
 use Rattle.tk_world.specs.Fields.{is_space, IsCursorText}
 use Rattle.tk_world.specs.RequestLine.{asked_of}
 
@@ -27,8 +30,15 @@ texts fields = map (λ field. field.now) fields
 abbrev pub bytes_in : Option (Vec ℕ Global) → Option (List ℕ)
 bytes_in bytes = option_map (λ v. v.items) bytes
 
+-- the fields of a slice of a prune: `prune_some R H AFTER COUNT`
+abbrev pub IsSliceForm : List (List ℕ) → ℕ → ℕ → Option Dot → ℕ → Type 0
+IsSliceForm fields region horizon after count =
+    (place : List ℕ)
+    × (fields ≡ codes "prune_some" ∷ decimal region ∷ decimal horizon ∷ place ∷ decimal count ∷ [])
+    × IsRegion region × IsMoment horizon × IsCursorText place after × (count < 2 ^ 64)
+
 -- the event of a line's fields: `open R`, NAME R NOW and a request's form, `pull R VECTOR AFTER`,
--- `deliver B R`, or `prune R H`
+-- `deliver B R`, `prune R H`, or `prune_some R H AFTER COUNT`
 abbrev pub IsEventForm : List (List ℕ) → Event → Type 0
 IsEventForm fields (Open region) = (fields ≡ codes "open" ∷ decimal region ∷ []) × IsRegion region
 IsEventForm fields (Request region now words bytes) =
@@ -44,6 +54,8 @@ IsEventForm fields (Deliver bundle region) =
 IsEventForm fields (Prune region horizon) =
     (fields ≡ codes "prune" ∷ decimal region ∷ decimal horizon ∷ []) × IsRegion region
     × IsMoment horizon
+IsEventForm fields (PruneSome region horizon after count) =
+    IsSliceForm fields region horizon after count
 
 -- the fields have no event's form
 abbrev pub IsNoEventForm : List (List ℕ) → Type 0
@@ -66,3 +78,4 @@ HasWords words (Request region now drawn bytes) = drawn ≡ words
 HasWords words (Pull region vector after) = ⊤
 HasWords words (Deliver bundle region) = ⊤
 HasWords words (Prune region horizon) = ⊤
+HasWords words (PruneSome region horizon after count) = ⊤

@@ -4,8 +4,11 @@
 --   IsPlaced     a region has the number and the settings of another
 --   TakesBundle  taking a bundle in
 --   PrunesTo     pruning
-use Rattle.std.specs.Prelude.{◌≡◌, ◌⊎◌, ℕ, List, [], ◌∷◌, ◌++◌, length, insert, Ok, Err}
+--   PrunesSomeTo pruning a slice
+use Rattle.std.specs.Prelude.{◌≡◌, ◌⊎◌, ℕ, List, [], ◌∷◌, ◌++◌, length, insert, Option, Ok, Err}
+use Rattle.tk_handle.specs.declared.dot.Dot.{Dot}
 use Rattle.tk_ledger.specs.Retention.{Prunes}
+use Rattle.tk_ledger.specs.Slices.{PrunesSome}
 use Rattle.tk_bundle.specs.BundleFields.{BundleFields}
 use Rattle.tk_bundle.specs.Page.{PageFields}
 use Rattle.tk_region.specs.RegionFields.{RegionFields}
@@ -14,6 +17,7 @@ use Rattle.tk_region.specs.declared.take.TakeError.TheVariants as take
 use Rattle.tk_edge.specs.EdgeFields.{EdgeFields}
 use Rattle.tk_world.specs.declared.event.Outcome.{Outcome}
 use Rattle.tk_world.specs.declared.event.Outcome.TheVariants.{Opened, Bundle, Took, Pruned, Memory}
+use Rattle.tk_world.specs.declared.event.Outcome.TheVariants.{PrunedSome}
 
 -- inserting a region may end with the region in its place, or unchanged when memory runs out
 abbrev pub Opens : List EdgeFields → ℕ → EdgeFields → Outcome → List EdgeFields → Type 0
@@ -50,3 +54,9 @@ PrunesTo old moment (Pruned n) new =
     IsPlaced old new × Prunes old.facts moment n new.facts
 PrunesTo old moment Memory new = new ≡ old
 PrunesTo old moment outcome new = ⊥
+
+-- `count` facts above the cursor were looked at, and those that may go were skipped
+abbrev pub PrunesSomeTo : RegionFields → ℕ → Option Dot → ℕ → Outcome → RegionFields → Type 0
+PrunesSomeTo old moment after count (PrunedSome slice) new =
+    IsPlaced old new × PrunesSome old.facts moment after count slice new.facts
+PrunesSomeTo old moment after count outcome new = ⊥

@@ -1,4 +1,4 @@
--- The lines that are printed of events and their outcomes.
+-- The lines that are printed of events and their outcomes (own).
 --   location_in    the value of a reply's `Location`
 --   body_in        the body of a reply
 --   outcome_line   the line of an outcome, for an event of a region
@@ -10,19 +10,20 @@ use Rattle.std.specs.List.{flat_map, starts_with, zip}
 use Rattle.std.specs.Option.{option_map}
 use Rattle.tk_handle.specs.declared.dot.Dot.{Dot}
 use Rattle.tk_handle.specs.DotText.{dot_text}
+use Rattle.tk_ledger.specs.declared.slices.Slice.{Slice}
 use Rattle.tk_message.specs.StatusCode.{status_number}
 use Rattle.tk_world.specs.declared.event.Event.{Event}
 use Rattle.tk_world.specs.World.{region_of}
 use Rattle.tk_world.specs.declared.event.Outcome.{Outcome}
 use Rattle.tk_world.specs.declared.event.Outcome.TheVariants.{Opened, NumberTaken, NoRegion}
 use Rattle.tk_world.specs.declared.event.Outcome.TheVariants.{NoBundle, Reply, Bundle, Took, Pruned}
-use Rattle.tk_world.specs.declared.event.Outcome.TheVariants.{Memory}
+use Rattle.tk_world.specs.declared.event.Outcome.TheVariants.{PrunedSome, Memory}
 
 -- the line feed that ends a line
 abbrev pub newline : List ℕ
 newline = 10 ∷ []
 
--- the dot of a bundle's last fact, or `-` for an empty bundle
+-- the dot of a bundle's last fact or of a slice's, or `-` if there is none
 abbrev pub last_text : Option Dot → List ℕ
 last_text None = codes "-"
 last_text (Some dot) = dot_text dot
@@ -83,6 +84,12 @@ bundle_line index count last more =
     ++ (codes " "
     ++ (last_text last ++ ((if more then codes " more" else codes " end") ++ newline))))))
 
+-- the line of a slice of a prune: how many facts went, and the next cursor, or `-` at the end of a
+-- pass
+abbrev pub slice_line : Slice → List ℕ
+slice_line slice =
+    codes "pruned " ++ (decimal slice.gone ++ (codes " " ++ (last_text slice.at ++ newline)))
+
 -- the line of an outcome, for an event of a region
 abbrev pub outcome_line : ℕ → Outcome → List ℕ
 outcome_line region Opened = numbered_line (codes "opened ") region
@@ -94,6 +101,7 @@ outcome_line region (Reply status bytes) =
 outcome_line region (Bundle index count last more) = bundle_line index count last more
 outcome_line region (Took count) = numbered_line (codes "took ") count
 outcome_line region (Pruned count) = numbered_line (codes "pruned ") count
+outcome_line region (PrunedSome slice) = slice_line slice
 outcome_line region Memory = codes "memory" ++ newline
 
 -- the line of an event and its outcome

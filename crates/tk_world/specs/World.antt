@@ -7,6 +7,7 @@
 --   IsPull        how making a bundle may end
 --   IsDelivery    how a delivery may end
 --   IsPruning     how a prune may end
+--   IsSlicing     how a slice of a prune may end
 --   StepBy        one event, if requests go this way: its outcome, the facts that it showed its
 --                 region, and the new state
 --   RunBy         one step after another, if requests go this way
@@ -26,10 +27,11 @@ use Rattle.tk_edge.specs.Answers.{answer_by, fact_by}
 use Rattle.tk_edge.specs.declared.hear.Arrival.{Arrival}
 use Rattle.tk_world.specs.declared.event.Event.{Event}
 use Rattle.tk_world.specs.declared.event.Event.TheVariants.{Open, Request, Pull, Deliver, Prune}
+use Rattle.tk_world.specs.declared.event.Event.TheVariants.{PruneSome}
 use Rattle.tk_world.specs.declared.event.Outcome.{Outcome}
 use Rattle.tk_world.specs.declared.event.Outcome.TheVariants.{Opened, NumberTaken, NoRegion}
 use Rattle.tk_world.specs.declared.event.Outcome.TheVariants.{NoBundle, Reply, Bundle, Took, Pruned}
-use Rattle.tk_world.specs.declared.event.Outcome.TheVariants.{Memory}
+use Rattle.tk_world.specs.declared.event.Outcome.TheVariants.{PrunedSome, Memory}
 use Rattle.tk_world.specs.AskedFields.{AskedFields}
 use Rattle.tk_world.specs.Carrying.{Way, in_place}
 use Rattle.tk_world.specs.Pages.{page_of}
@@ -119,6 +121,15 @@ IsPruning old r moment Memory seen new =
     IsSome (map.get old.regions r) × IsUnchanged old seen new
 IsPruning old r moment outcome seen new = ⊥
 
+-- a slice of a prune raises the region's horizon to the moment, whatever facts it looked at and
+-- skipped; all facts stay
+abbrev pub IsSlicing : State → ℕ → ℕ → Outcome → Facts → State → Type 0
+IsSlicing old r moment (PrunedSome slice) seen new =
+    (k : Kept) × Grows old r k (Some moment) seen new × (seen ≡ [])
+IsSlicing old r moment NoRegion seen new =
+    (map.get old.regions r ≡ None) × IsUnchanged old seen new
+IsSlicing old r moment outcome seen new = ⊥
+
 -- ---- steps and runs
 
 -- From old, the event may have this outcome, show its region these facts, and lead to new, if
@@ -130,6 +141,8 @@ StepBy way old (Request r now words bytes) outcome seen new =
 StepBy way old (Pull r v after) outcome seen new = IsPull old r v after outcome seen new
 StepBy way old (Deliver i r) outcome seen new = IsDelivery old i r outcome seen new
 StepBy way old (Prune r moment) outcome seen new = IsPruning old r moment outcome seen new
+StepBy way old (PruneSome r moment after count) outcome seen new =
+    IsSlicing old r moment outcome seen new
 
 -- one step after another, with what each showed its region, if requests go this way
 abbrev pub RunBy : Way → State → List Event → List Outcome → List Facts → State → Type 0
@@ -161,6 +174,7 @@ region_of (Request r now words bytes) = r
 region_of (Pull r v after) = r
 region_of (Deliver i r) = r
 region_of (Prune r moment) = r
+region_of (PruneSome r moment after count) = r
 
 -- what a region has seen: the facts that it made and took in
 abbrev pub seen_by : ℕ → List Event → List Facts → Facts

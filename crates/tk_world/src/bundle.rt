@@ -1,4 +1,5 @@
 //! A bundle that a region made: `MadeBundle`, kept as bytes and seen as its horizon and items.
+//! `pull_page` makes one of a page.
 
 use std::marker::Model;
 
@@ -26,7 +27,17 @@ ghost use Rattle.std.specs.Prelude.{◌≡◌, Some};
 ghost use Rattle.tk_format.specs.Format.{whole};
 ghost use Rattle.tk_bundle.specs.Bundle.{bundle, bundle_bytes};
 ghost use Rattle.tk_bundle.specs.BundleFields.{BundleFields};
+ghost use Rattle.tk_bundle.specs.Page as pages;
+ghost use Rattle.tk_bundle.specs.Page.{IsPageOf};
 ghost use Rattle.tk_world.specs.Bundles.{bundle_in_bytes, IsReadable};
+ghost use Rattle.tk_world.specs.Parts.{Pages};
+
+use crate::event::Outcome;
+use std::alloc::Global;
+use tk_bundle::Page;
+use tk_handle::Dot;
+use tk_region::Region;
+use tk_vector::VersionVector;
 
 impl MadeBundle {
     // Wraps bytes that spell a bundle.
@@ -54,4 +65,39 @@ fn spelling(bytes: &[u8]) -> &[u8]
     ensures read { whole bundle result.now ≡ Some (bundle_in_bytes bytes.now) }
 {
     bytes
+}
+
+// Adds the bundle of the region's page to the others.
+pub(crate) fn pull_page(
+    alloc: Global,
+    region: &Region,
+    bundles: &mut Vec<MadeBundle>,
+    vector: &VersionVector,
+    after: Option<Dot>,
+) -> Outcome
+    ensures { Pages (pages.page_of region.now.facts vector.now after) bundles.old.items result
+        bundles.new.items }
+{
+    match region.page(alloc, vector, after) {
+        Ok(page) => keep_page(bundles, page),
+        Err(_) => Outcome::Memory,
+    }
+}
+
+// Adds the bundle of a page, and returns its outcome.
+fn keep_page(bundles: &mut Vec<MadeBundle>, page: Page) -> Outcome
+    requires { (fields : pages.PageFields) × IsPageOf page fields × bundle.Fits fields.bundle }
+    ensures { (fields : pages.PageFields) → IsPageOf page fields → bundle.Fits fields.bundle
+        → Pages fields bundles.old.items result bundles.new.items }
+{
+    let made = Outcome::Bundle {
+        index: bundles.len() as u64,
+        count: page.count,
+        last: page.last,
+        more: page.more,
+    };
+    match bundles.push(MadeBundle::new(page.bytes)) {
+        Ok(()) => made,
+        Err(_) => Outcome::Memory,
+    }
 }

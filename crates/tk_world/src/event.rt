@@ -1,6 +1,7 @@
 //! The events that may happen to a world (`Event`), and how each ends (`Outcome`).
 
 use tk_handle::{Dot, Moment, RegionNumber};
+use tk_ledger::Slice;
 use tk_message::StatusCode;
 use tk_vector::VersionVector;
 
@@ -34,6 +35,14 @@ pub enum Event {
         region: RegionNumber,
         horizon: Moment,
     },
+    /// A region looks at `count` facts above a cursor, or from the least dot on, and skips each
+    /// that may go at its horizon, which is raised to this moment if that is later.
+    PruneSome {
+        region: RegionNumber,
+        horizon: Moment,
+        after: Option<Dot>,
+        count: u64,
+    },
 }
 
 /// How an event ended.
@@ -65,6 +74,8 @@ pub enum Outcome {
     Took(u16),
     /// How many facts were skipped.
     Pruned(u64),
+    /// How many facts a slice of a prune skipped, and the cursor of the next slice.
+    PrunedSome(Slice),
     /// Memory ran out. Nothing changed, except that a delivery may have raised the horizon and
     /// added the first items of its bundle.
     Memory,

@@ -8,7 +8,8 @@
 //! In reading order:
 //!
 //! - `Event`, `Outcome`, `World`: what happens to a world. `Carrier`: how requests reach its
-//!   regions. Inside, `region` hands bundles to one region, and has it prune.
+//!   regions. Inside, `region` hands bundles to one region, and has it prune, whole or in slices;
+//!   `bundle` makes bundles of its pages.
 //! - `line`, `request_line`, `fields`: `Event::read_line` reads an event, a line.
 //! - `print`, `reply_parts`: `print_outcomes` writes outcomes as lines.
 //!

@@ -1,7 +1,7 @@
 //! Events as lines of text: `Event::read_line` reads one.
 
 ghost use Rattle.std.specs.Prelude.{◌≡◌, ◌↔◌, ℕ, List, ◌∷◌, decimal, Some, IfOk, IfSome, IsErrOf};
-ghost use Rattle.std.specs.Prelude.{IsSome};
+ghost use Rattle.std.specs.Prelude.{IsSome, [], codes};
 ghost use Rattle.tk_handle.specs.Ranges.{IsMoment, IsRegion};
 ghost use Rattle.tk_world.specs.Line.{IsPrintable, texts, IsEventForm, IsNoEventForm, IsEventLine};
 ghost use Rattle.tk_world.specs.Line.{IsNoEventLine, HasWords};
@@ -29,12 +29,14 @@ impl Event {
     /// - `pull R VECTOR AFTER`
     /// - `deliver B R`
     /// - `prune R H`
+    /// - `prune_some R H AFTER COUNT`
     ///
     /// Fields are one or more bytes of `%x21-7E`, with one space between two fields. Their values:
     ///
     /// - R is the number of a region, NOW and H are moments, B is a bundle's number from 0.
     /// - VECTOR is `-`, or entries `R:S` of rising regions, joined by commas.
-    /// - AFTER is `-`, or the dot `R:S` above which the page begins.
+    /// - AFTER is `-`, or the dot `R:S` above which the page or the slice begins.
+    /// - COUNT is a number of facts, from 0.
     /// - METHOD is capital letters.
     ///
     /// A `req` line makes the head of an HTTP/1.1 request, an empty line and the body. The four
@@ -100,8 +102,37 @@ fn event_of(alloc: Global, fields: &[&str], words: [u64; 6]) -> Result<Event, Re
                 None => Err(ReadError::Malformed),
             }
         }
+        ["prune_some", at, horizon, after, count] => slice_event(at, horizon, after, count),
         [name, at, now, form @ ..] => request_event(alloc, name, at, now, form, words),
         _ => Err(ReadError::Malformed),
+    }
+}
+
+// Reads the event of the fields of a slice of a prune.
+fn slice_event(at: &str, horizon: &str, after: &str, count: &str) -> Result<Event, ReadError>
+    ensures found { IfOk result (IsEventForm
+        (codes "prune_some" ∷ at.now ∷ horizon.now ∷ after.now ∷ count.now ∷ [])) }
+    ensures words { (words : List ℕ) → IfOk result (HasWords words) }
+    ensures malformed { IsErrOf result ReadError.Malformed → IsNoEventForm
+        (codes "prune_some" ∷ at.now ∷ horizon.now ∷ after.now ∷ count.now ∷ []) }
+{
+    let Some(region) = region(at) else {
+        return Err(ReadError::Malformed);
+    };
+    let Some(horizon) = moment(horizon) else {
+        return Err(ReadError::Malformed);
+    };
+    let Some(after) = cursor(after) else {
+        return Err(ReadError::Malformed);
+    };
+    match read_decimal(count.as_bytes()) {
+        Some(count) => Ok(Event::PruneSome {
+            region,
+            horizon,
+            after,
+            count,
+        }),
+        None => Err(ReadError::Malformed),
     }
 }
 

@@ -14,6 +14,7 @@ use crate::reply_parts::{body_in, location_in};
 use itoa::Buffer;
 use std::io::{self, Write};
 use tk_handle::{Dot, RegionNumber};
+use tk_ledger::Slice;
 use tk_message::StatusCode;
 use tk_put::put_all;
 
@@ -59,6 +60,7 @@ fn region_of(event: &Event) -> RegionNumber
         Event::Pull { region, .. } => *region,
         Event::Deliver { region, .. } => *region,
         Event::Prune { region, .. } => *region,
+        Event::PruneSome { region, .. } => *region,
     }
 }
 
@@ -85,6 +87,7 @@ fn print_outcome<O: Write>(
         } => print_bundle(output, *index, *count, *last, *more),
         Outcome::Took(count) => print_number(output, b"took ", u64::from(*count)),
         Outcome::Pruned(count) => print_number(output, b"pruned ", *count),
+        Outcome::PrunedSome(slice) => print_slice(output, *slice),
         Outcome::Memory => put_all(output, &[b"memory\n"]),
     }
 }
@@ -127,6 +130,27 @@ fn print_bundle<O: Write>(
             )
         }
         None => put_all(output, &[b"bundle ", index, b" ", count, b" -", end]),
+    }
+}
+
+// Writes the line of a slice: how many facts went, and the next cursor.
+fn print_slice<O: Write>(output: &mut O, slice: Slice) -> io::Result<()>
+    ensures { Prints result (O.contents output.old) (O.contents output.new)
+        (spec.slice_line slice) }
+{
+    let mut gone_digits = Buffer::new();
+    let gone = gone_digits.format(slice.gone).as_bytes();
+    match slice.at {
+        Some(dot) => {
+            let (mut region_digits, mut serial_digits) = (Buffer::new(), Buffer::new());
+            let region = region_digits.format(dot.region().number()).as_bytes();
+            let serial = serial_digits.format(dot.serial()).as_bytes();
+            put_all(
+                output,
+                &[b"pruned ", gone, b" ", region, b":", serial, b"\n"],
+            )
+        }
+        None => put_all(output, &[b"pruned ", gone, b" -\n"]),
     }
 }
 

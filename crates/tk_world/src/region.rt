@@ -1,16 +1,17 @@
-//! One region in a world: `deliver` hands it a bundle, `prune` has it skip what is over.
+//! One region in a world: `deliver` hands it a bundle, `prune` has it skip what is over, and
+//! `prune_some` some of that.
 
 ghost use Rattle.std.specs.Prelude.{◌≡◌, false};
 ghost use Rattle.tk_message.specs.Place.{next_in};
 ghost use Rattle.tk_region.specs.RegionFields.{place_in};
 ghost use Rattle.tk_region.specs.Taking.{AgreesWith, has_unmade};
-ghost use Rattle.tk_world.specs.Parts.{PrunesTo, TakesBundle};
+ghost use Rattle.tk_world.specs.Parts.{PrunesSomeTo, PrunesTo, TakesBundle};
 
 use crate::bundle::MadeBundle;
 use crate::event::Outcome;
 use std::alloc::Global;
 use tk_edge::Edge;
-use tk_handle::Moment;
+use tk_handle::{Dot, Moment};
 use tk_region::TakeError;
 
 // Takes a bundle in. The region has no reason to refuse a bundle of its world.
@@ -40,4 +41,14 @@ pub(crate) fn prune(alloc: Global, edge: &mut Edge, moment: Moment) -> Outcome
         Ok(count) => Outcome::Pruned(count),
         Err(_) => Outcome::Memory,
     }
+}
+
+// Has the region look at some facts, and skip those that may go by the moment.
+pub(crate) fn prune_some(edge: &mut Edge, moment: Moment, after: Option<Dot>, count: u64) -> Outcome
+    ensures prunes { PrunesSomeTo edge.old.region moment after count result edge.new.region }
+    ensures sealed { edge.new.sealed ≡ edge.old.sealed }
+    ensures terms { edge.new.terms ≡ edge.old.terms }
+{
+    let slice = edge.region_mut().prune_some(moment, after, count);
+    Outcome::PrunedSome(slice)
 }

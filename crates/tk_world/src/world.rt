@@ -1,6 +1,6 @@
 //! A world: `World` has regions and the bundles between them, and runs lists of events.
 
-use crate::bundle::MadeBundle;
+use crate::bundle::{MadeBundle, pull_page};
 use std::alloc::Global;
 use std::marker::Model;
 use tk_edge::{Edge, Terms};
@@ -55,14 +55,12 @@ ghost use Rattle.std.specs.Ordering.{nat_cmp};
 ghost use Rattle.std.specs.FinMap as map;
 ghost use Rattle.tk_handle.specs.SortedEntries.{IsAt, IsGap};
 ghost use Rattle.tk_store.specs.FactSet.{FactSet};
-ghost use Rattle.tk_bundle.specs.Bundle.{bundle, bundle_bytes};
-ghost use Rattle.tk_bundle.specs.Page as pages;
-ghost use Rattle.tk_bundle.specs.Page.{IsPageOf};
-ghost use Rattle.tk_world.specs.Acts.{ActsBy, DeliversAt, OpensAt, PrunesAt, PullsAt};
+ghost use Rattle.tk_bundle.specs.Bundle.{bundle_bytes};
+ghost use Rattle.tk_world.specs.Acts.{ActsBy, DeliversAt, OpensAt, PrunesAt, PrunesSomeAt, PullsAt};
 ghost use Rattle.tk_world.specs.Broken.{BreaksOff, Requests, Steps};
 ghost use Rattle.tk_world.specs.Carrying.{in_place};
 ghost use Rattle.tk_world.specs.Headline.{AnswersFor, RunStands};
-ghost use Rattle.tk_world.specs.Parts.{Opens, Pages};
+ghost use Rattle.tk_world.specs.Parts.{Opens};
 ghost use Rattle.tk_world.specs.Promises.{TellsOfSets, IntrospectAlike, RevokedInactive};
 ghost use Rattle.tk_world.specs.Promises.{FamiliesInactive};
 ghost use Rattle.tk_world.specs.Regions.{entries_of};
@@ -72,9 +70,8 @@ ghost use Rattle.tk_world.specs.WorldStands.{IsStanding, WorldStands};
 
 use crate::carrier::{Carrier, InPlace, RunError};
 use crate::event::{Event, Outcome};
-use crate::region::{deliver, prune};
+use crate::region::{deliver, prune, prune_some};
 use std::alloc::AllocError;
-use tk_bundle::Page;
 use tk_handle::{Dot, Moment, RegionNumber};
 use tk_vector::VersionVector;
 
@@ -237,6 +234,12 @@ impl World {
             } => Ok(self.pull(*region, vector, *after)),
             Event::Deliver { bundle, region } => Ok(self.deliver(*bundle, *region)),
             Event::Prune { region, horizon } => Ok(self.prune(*region, *horizon)),
+            Event::PruneSome {
+                region,
+                horizon,
+                after,
+                count,
+            } => Ok(self.prune_some(*region, *horizon, *after, *count)),
         }
     }
 
@@ -310,6 +313,22 @@ impl World {
             Err(_) => Outcome::NoRegion,
         }
     }
+
+    // Has a region skip some of what is over.
+    fn prune_some(
+        &mut self,
+        region: RegionNumber,
+        horizon: Moment,
+        after: Option<Dot>,
+        count: u64,
+    ) -> Outcome
+        ensures { PrunesSomeAt self.old region horizon after count result self.new }
+    {
+        match find_region(&self.regions, region) {
+            Ok(at) => prune_some(&mut self.regions[at], horizon, after, count),
+            Err(_) => Outcome::NoRegion,
+        }
+    }
 }
 
 // Pushes an outcome if there is room.
@@ -357,39 +376,4 @@ fn insert_region(regions: &mut Vec<Edge>, at: usize, edge: Edge) -> Result<(), A
 {
     regions.insert(at, edge)?;
     Ok(())
-}
-
-// Adds the bundle of the region's page to the others.
-fn pull_page(
-    alloc: Global,
-    region: &Region,
-    bundles: &mut Vec<MadeBundle>,
-    vector: &VersionVector,
-    after: Option<Dot>,
-) -> Outcome
-    ensures { Pages (pages.page_of region.now.facts vector.now after) bundles.old.items result
-        bundles.new.items }
-{
-    match region.page(alloc, vector, after) {
-        Ok(page) => keep_page(bundles, page),
-        Err(_) => Outcome::Memory,
-    }
-}
-
-// Adds the bundle of a page, and returns its outcome.
-fn keep_page(bundles: &mut Vec<MadeBundle>, page: Page) -> Outcome
-    requires { (fields : pages.PageFields) × IsPageOf page fields × bundle.Fits fields.bundle }
-    ensures { (fields : pages.PageFields) → IsPageOf page fields → bundle.Fits fields.bundle
-        → Pages fields bundles.old.items result bundles.new.items }
-{
-    let made = Outcome::Bundle {
-        index: bundles.len() as u64,
-        count: page.count,
-        last: page.last,
-        more: page.more,
-    };
-    match bundles.push(MadeBundle::new(page.bytes)) {
-        Ok(()) => made,
-        Err(_) => Outcome::Memory,
-    }
 }

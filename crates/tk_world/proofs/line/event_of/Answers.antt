@@ -3,8 +3,8 @@ use borrow.Author.Tests.{tests}
 use Rattle.std.proofs.lemmas.Grind.{common_steps}
 use Rattle.tk_format.specs.Decimals.{decimal_in}
 use Rattle.tk_vector.specs.VectorText.{IsNoVectorText}
-use Rattle.tk_world.specs.Line.{IsEventForm}
-use Rattle.tk_world.proofs.EventForms.{open_there, deliver_there, pull_there, prune_there, with_rest, open_bad, deliver_bad_region, prune_bad_region, prune_bad_moment, pull_bad_region, pull_bad_vector, IsOther, request_bad, no_form}
+use Rattle.tk_world.specs.Line.{IsEventForm, IsNoEventForm}
+use Rattle.tk_world.proofs.EventForms.{open_there, deliver_there, pull_there, prune_there, with_rest, slice_texts, open_bad, deliver_bad_region, prune_bad_region, prune_bad_moment, pull_bad_region, pull_bad_vector, IsOther, request_bad, no_form}
 use Rattle.tk_world.proofs.line.event_of.Goals as goal
 
 pub returns-in_default-region-clause-malformed : goal.returns-in_default-region-clause-malformed
@@ -18,6 +18,10 @@ returns-in-Some-moment-clause-found c =
 pub returns-in-None-moment-clause-malformed : goal.returns-in-None-moment-clause-malformed
 returns-in-None-moment-clause-malformed c _ =
     prune_bad_moment c.args.fields.now (omega arith) (search (rules, tests)) (sym c.moment.ensures ∙ c.in-None-moment.is)
+
+pub returns-in-prune_some-clause-malformed : goal.returns-in-prune_some-clause-malformed
+returns-in-prune_some-clause-malformed c e =
+    subst IsNoEventForm (slice_texts c.args.fields.now (omega arith) (search (rules, tests))) (c.slice_event.ensures.malformed e)
 
 pub returns-in_default-region-2-clause-malformed : goal.returns-in_default-region-2-clause-malformed
 returns-in_default-region-2-clause-malformed c _ =
@@ -49,7 +53,7 @@ returns-in_ok-vector-in-pull-clause-found c =
 
 pub returns-in-len3-up-clause-malformed : goal.returns-in-len3-up-clause-malformed
 returns-in-len3-up-clause-malformed c e =
-    let other : IsOther c.args.fields.now = record { long = grind arith; deliver = λ n e. grind (arith, common_steps); pull = λ n e. grind (arith, common_steps); prune = λ n e. grind (arith, common_steps) } in
+    let other : IsOther c.args.fields.now = record { long = grind arith; deliver = λ n e. grind (arith, common_steps); pull = λ n e. grind (arith, common_steps); prune = λ n e. grind (arith, common_steps); slice = λ n e. grind (arith, common_steps) } in
     request_bad c.args.fields.now other (c.request_event.ensures.malformed e)
 
 pub returns-in-len3-up-clause-found : goal.returns-in-len3-up-clause-found
