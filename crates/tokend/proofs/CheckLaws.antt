@@ -14,7 +14,7 @@ use Rattle.tk_put.specs.Put.{AppendsFront}
 use Rattle.tk_edge.specs.Told.{Change}
 use Rattle.tk_store.specs.StoreFields.{held_facts}
 use Rattle.tk_region.specs.RegionFields.{RegionFields}
-use Rattle.tokend.specs.CheckRun.{BeginsCheck, Checks, ChecksFacts, IsRefusedSource, IsTold, IsToldAs, LoadsEach, LoadsNamed, LoadsSource, LoadsSources, loaded_text}
+use Rattle.tokend.specs.CheckRun.{BeginsCheck, Checks, ChecksFacts, IsRefusedSource, IsReported, IsReportedAs, LoadsEach, LoadsNamed, LoadsSource, LoadsSources, loaded_text}
 use Rattle.tokend.specs.FactsRun.{IsSourceFault, TellsDropped, known_of, with_cut}
 use Rattle.tokend.specs.Status.{LeavesBegun}
 use Rattle.tokend.specs.declared.load.LoadFault.{LoadFault}
@@ -44,7 +44,7 @@ is_refused name offset (BadLine n) h = absurd h
 is_refused name offset Memory h = absurd h
 is_refused name offset Output h = absurd h
 
-is_told : (name : Text) (why : LoadFault) (fault : Fault) → IsToldAs name why fault → IsSourceFault fault
+is_told : (name : Text) (why : LoadFault) (fault : Fault) → IsReportedAs name why fault → IsSourceFault fault
 is_told name (load.Malformed offset) fault h = is_bad name offset fault h
 is_told name (load.Refused offset) fault h = is_refused name offset fault h
 is_told name load.Read fault h = is_unread name fault h
@@ -54,7 +54,7 @@ source_fault : (name : Text) (known : Option (List ℕ)) (fault : Fault) (old ne
 source_fault name known fault old new (inr h) = subst IsSourceFault (sym (ap (fault_in fault) h.1)) (is_unread name h.0 h.2)
 source_fault name known fault old new (inl h) = by h.1 h.4
   where
-    by : (loaded : Result ℕ LoadFault) → IsTold name loaded (Err fault) → IsSourceFault fault
+    by : (loaded : Result ℕ LoadFault) → IsReported name loaded (Err fault) → IsSourceFault fault
     by (Ok cut) e = absurd (no_error fault cut e)
     by (Err why) told = is_told name why fault told
 

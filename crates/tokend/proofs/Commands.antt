@@ -8,7 +8,7 @@ use Rattle.std.proofs.lemmas.List.{map-append}
 use Rattle.std.specs.Prelude.{IfOk, IsOkAnd}
 use Rattle.clap.specs.Simple.{on_top}
 use Rattle.clap.specs.Words.{AddsSubcommand, App, Rule, app_of, with_rule, with_subcommand}
-use Rattle.tokend.specs.CommandLine.{with_rules}
+use Rattle.tokend.specs.Rules.{with_rules}
 use Rattle.clap.specs.declared.builder.command.Command.{Command}
 use Rattle.clap.specs.declared.builder.command.Command.TheViews.{out-Command}
 

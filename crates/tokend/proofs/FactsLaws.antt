@@ -12,7 +12,7 @@ use Rattle.clap.specs.declared.parser.matches.Found.{Found}
 use Rattle.clap.proofs.WalkLemmas.{raw_values-rows}
 use Rattle.tk_listing.specs.declared.print.PrintFault.{PrintFault}
 use Rattle.tk_listing.specs.declared.print.PrintFault.TheVariants as print
-use Rattle.tokend.specs.FactsRun.{BeginsFacts, IsBadSource, IsFactsFault, IsSourceFault, IsTold, IsToldAs, IsUnreadSource, PrintsEach, PrintsFacts, PrintsNamed, PrintsSource, PrintsSources, TellsDropped, with_cut}
+use Rattle.tokend.specs.FactsRun.{BeginsFacts, IsBadSource, IsFactsFault, IsSourceFault, IsReported, IsReportedAs, IsUnreadSource, PrintsEach, PrintsFacts, PrintsNamed, PrintsSource, PrintsSources, TellsDropped, with_cut}
 use Rattle.tokend.specs.Status.{LeavesBegun}
 use Rattle.tokend.specs.declared.options.Sources.{Sources}
 use Rattle.tokend.specs.Telling.{Writing}
@@ -74,7 +74,7 @@ of_source (BadLine n) h = absurd h
 of_source Memory h = absurd h
 of_source Output h = absurd h
 
-is_told : (name : Text) (why : PrintFault) (fault : Fault) → IsToldAs name why fault → IsFactsFault fault
+is_told : (name : Text) (why : PrintFault) (fault : Fault) → IsReportedAs name why fault → IsFactsFault fault
 is_told name (print.Malformed offset) fault h = of_source fault (is_bad name offset fault h)
 is_told name print.Read fault h = of_source fault (is_unread name fault h)
 is_told name print.Memory fault h = subst IsFactsFault (sym h) tt
@@ -88,7 +88,7 @@ source_fault : (name : Text) (known : Option (List ℕ)) (fault : Fault) (old ne
 source_fault name known fault old new (inr h) = subst IsFactsFault (sym (ap (fault_in fault) h.1)) (of_source h.0 (is_unread name h.0 h.2))
 source_fault name known fault old new (inl h) = by h.0 h.2
   where
-    by : (printed : Result ℕ PrintFault) → IsTold name printed (Err fault) → IsFactsFault fault
+    by : (printed : Result ℕ PrintFault) → IsReported name printed (Err fault) → IsFactsFault fault
     by (Ok cut) e = absurd (cc)
     by (Err why) told = is_told name why fault told
 

@@ -22,7 +22,7 @@ use Rattle.tokend.specs.LoopbackRun.{by_loopback}
 use Rattle.tokend.specs.Task.{Asks, AsksToShow}
 use Rattle.tokend.specs.Script.{greatest_length, IsFaultOf, IsFirstBad}
 use Rattle.tokend.specs.ScriptRun.{in_world, IsReadFault, IsScript, IsScriptFault, IsScriptRun, LeavesScript, Mode, PrintsScript}
-use Rattle.tokend.specs.ProgramRun.{BeginsLines, BeginsToServe, FailsToRun, FailsToServe, IsDone, IsFaultFor, Leaves, PrintsLines, Tells}
+use Rattle.tokend.specs.ProgramRun.{BeginsLines, BeginsToServe, FailsToRun, FailsToServe, IsDone, IsFaultFor, Leaves, PrintsLines, ReportsFault}
 use Rattle.tokend.specs.Status.{status_of, LeavesBegun}
 use Rattle.tokend.specs.declared.options.Service.{Service}
 use Rattle.tokend.specs.declared.options.Task.TheVariants.{Serve}
@@ -217,7 +217,7 @@ no_status Output e = absurd (cc)
 
 -- how a run ends: with its status, and with the line of its fault
 abbrev pub Ends : {E T : Type 0} → (E → Writer) → Result T Fault → ℕ → E → E → Type 0
-Ends view ran status old new = MatchResult ran (λ _. (status ≡ 0) × (new ≡ old)) (λ fault. (status ≡ status_of fault) × Tells fault (view old) (view new))
+Ends view ran status old new = MatchResult ran (λ _. (status ≡ 0) × (new ≡ old)) (λ fault. (status ≡ status_of fault) × ReportsFault fault (view old) (view new))
 
 -- what a run without a fault has done, if nothing is written afterwards
 pub ended_well : {E T : Type 0} (view : E → Writer) (P : E → Type 0) (ran : Result T Fault) (status : ℕ) (mid new : E) → Ends view ran status mid new → OnOk ran (P mid) → status ≡ 0 → P new
@@ -227,7 +227,7 @@ ended_well view P (Err fault) status mid new ends h e = absurd (no_status fault 
 module _ (kept : List ℕ → Option (List ℕ)) (words : List Text) (input output output_new : Option (List ℕ)) where
   pub ended_badly : {E T : Type 0} (view : E → Writer) (ran : Result T Fault) (status k : ℕ) (old mid new : E) → Ends view ran status mid new → IfErr ran (IsFaultFor words input)
       → IfErr ran (λ fault. Leaves kept words input fault output output_new) → OnErr ran (mid ≡ old) → status ≡ k → 0 < k
-      → (fault : Fault) × (status_of fault ≡ k) × IsFaultFor words input fault × Leaves kept words input fault output output_new × Tells fault (view old) (view new)
+      → (fault : Fault) × (status_of fault ≡ k) × IsFaultFor words input fault × Leaves kept words input fault output output_new × ReportsFault fault (view old) (view new)
   ended_badly view (Ok x) status k old mid new ends faults left silent e some = absurd (omega (arith, ends.0, e, some))
   ended_badly view (Err fault) status k old mid new ends faults left silent e some =
-      (fault, sym ends.0 ∙ e, faults, left, subst (λ m. Tells fault (view m) (view new)) silent ends.1)
+      (fault, sym ends.0 ∙ e, faults, left, subst (λ m. ReportsFault fault (view m) (view new)) silent ends.1)

@@ -16,7 +16,7 @@ use Rattle.tokend.specs.KeptLog.{AreLogged, AreOld, HasLogged, IsLog, IsTorn, Kn
 use Rattle.tokend.specs.Loading.{AreBundles, Loads, TakesEach, TakesFront}
 use Rattle.tokend.specs.ServiceRun.{with_region}
 use Rattle.tokend.specs.Ranges.{terms_of}
-use Rattle.tokend.specs.Starting.{IsEmptyLog, IsToldAs, LoadsFile, LoadsOld, PrunesOld, edge_of}
+use Rattle.tokend.specs.Starting.{IsEmptyLog, IsReportedAs, LoadsFile, LoadsOld, PrunesOld, edge_of}
 use Rattle.tokend.specs.Telling.{Writing}
 use Rattle.tokend.specs.Turns.{AreDecisions, AreTurns, Endings, IsKept, IsLost, IsTurn, Running, ServesLogged, keeps_in, past_each}
 use Rattle.tokend.specs.declared.fault.Fault.{Fault}
@@ -46,7 +46,7 @@ from_file known name old new dropped (inr h) = of h.1 h.3 h.4
     known_logged None front same = tt
     known_logged (Some bytes) front same = subst (λ b. AreLogged b front.1.bundles) same (logged h.0 front)
 
-    of : (result : Result ℕ LoadFault) → Loads old h.0 result new → IsToldAs name result (Ok dropped) → Fronts known old new
+    of : (result : Result ℕ LoadFault) → Loads old h.0 result new → IsReportedAs name result (Ok dropped) → Fronts known old new
     of (Ok n) loads told =
         let front : (rest : List ℕ) × TakesFront old h.0 rest new × IsTorn rest = (loads.0, loads.1, loads.2) in
         (loads.1.bundles, loads.1.fit, loads.1.each, known_logged known front h.2)
@@ -138,10 +138,10 @@ module _ {L : Type 0} (kept : List ℕ → Option (List ℕ)) (holds : L → Opt
   service_logs service output faults ran taken some knows unsealed =
       let run = ran.run in
       let edge_is = ran.start.0 in
-      let old = from_old kept service.load ran.edge.region run.region run.dropped run.loaded in
+      let old = from_old kept service.files.load ran.edge.region run.region run.dropped run.loaded in
       let started : with_region (with_region ran.edge run.region) run.opened.region ≡ edge_of (terms_of service) run.opened.region = ap (λ (e : EdgeFields). with_region (with_region e run.region) run.opened.region) edge_is in
-      let w = written service.log (terms_of service) (keeps_in service.keep) (is_some service.at.inner) (unwrap_or service.repeat 0) ran.words service.requests ran.edge.region run.region run.opened.region service.prune run.opened.pruned run.opened.end faults old.0
+      let w = written service.files.log (terms_of service) (keeps_in service.limits.keep) (is_some service.at.inner) (unwrap_or service.limits.repeat 0) ran.words service.limits.requests ran.edge.region run.region run.opened.region service.files.prune run.opened.pruned run.opened.end faults old.0
       (ap (λ (e : EdgeFields). e.region.facts) edge_is) old.1 old.2 run.opened.prunes some knows unsealed
-      (subst (λ t. ServesLogged holds opens service.log ran.words service.requests (keeps_in service.keep) (unwrap_or service.repeat 0) (is_some service.at.inner) t (record { start = edge_of (terms_of service) run.opened.region; end = run.opened.end; faults = faults })) taken
-      (subst (λ (e : EdgeFields). ServesLogged holds opens service.log ran.words service.requests (keeps_in service.keep) (unwrap_or service.repeat 0) (is_some service.at.inner) service.log_taken (record { start = e; end = run.opened.end; faults = faults })) started run.opened.served)) in
+      (subst (λ t. ServesLogged holds opens service.files.log ran.words service.limits.requests (keeps_in service.limits.keep) (unwrap_or service.limits.repeat 0) (is_some service.at.inner) t (record { start = edge_of (terms_of service) run.opened.region; end = run.opened.end; faults = faults })) taken
+      (subst (λ (e : EdgeFields). ServesLogged holds opens service.files.log ran.words service.limits.requests (keeps_in service.limits.keep) (unwrap_or service.limits.repeat 0) (is_some service.at.inner) service.files.log_taken (record { start = e; end = run.opened.end; faults = faults })) started run.opened.served)) in
       record { olds = old.0; bytes = w.0; old = old.3; log = w.1; logged = w.2.0; begun = w.2.1; told = (w.2.2, w.2.3) }

@@ -21,9 +21,10 @@ use Rattle.clap.specs.declared.error.kind.ErrorKind.TheVariants as kind
 use Rattle.tk_handle.specs.Ranges.{greatest_region}
 use Rattle.tk_region.specs.SettingsFields.{greatest_code, greatest_access, greatest_refresh, greatest_family, greatest_cap}
 use Rattle.tokend.specs.Notices.{issuer_named}
-use Rattle.tokend.specs.CommandLine.{IsNoNotices, HasAddress, HasCheck, HasFlag, HasNumber, HasNumbers, HasService, IsNoAddress, IsNoPushes, greatest_connections, greatest_port, is_given, refusal_named, tokend_app}
+use Rattle.tokend.specs.CommandLine.{IsNoNotices, HasAddress, HasCheck, HasFlag, HasNumber, HasNumbers, HasService, IsNoAddress, IsNoFiles, IsNoPushes, is_given, refusal_named, tokend_app}
 use Rattle.tokend.specs.Choices.{IsNoChoice}
 use Rattle.tokend.specs.Ranges.{accepted_named, range_named}
+use Rattle.tokend.specs.Rules.{greatest_connections, greatest_port}
 use Rattle.tokend.specs.Task.{Asks, IsFactsTask, IsNoCheck, IsNoService, IsNoTask, IsRefusalOf, IsTask, has_misnamed, is_unplaced, is_unplaced_in, lacks_log, misnames_word, missing_kind}
 use Rattle.tokend.specs.declared.address.Address.{Address}
 use Rattle.tokend.specs.declared.address.Address.TheVariants.{Port, Socket}
@@ -308,9 +309,12 @@ without_address rows none service h = none service.at.outer h.at.outer
 pub without_connections : (rows : List Row) → ((n : ℕ) → ¬ (HasNumber rows (codes "connections") 1 greatest_connections n)) → IsNoService rows
 without_connections rows none service h = none service.connections h.connections
 
-pub without_seed : (rows : List Row) → first_of (codes "seed") rows ≡ None → IsNoService rows
-without_seed rows none service h =
-    let both : None ≡ Some (string_bytes service.seed) = sym none ∙ h.seed in
+pub without_files : (rows : List Row) → IsNoFiles rows → IsNoService rows
+without_files rows none service h = none service.files h.files
+
+pub without_seed : (rows : List Row) → first_of (codes "seed") rows ≡ None → IsNoFiles rows
+without_seed rows none files h =
+    let both : None ≡ Some (string_bytes files.seed) = sym none ∙ h.seed in
     absurd (cc)
 
 pub without_pushes : (rows : List Row) → IsNoPushes rows → IsNoService rows
@@ -358,8 +362,8 @@ without_choices rows (inr (inr (inr (inr none)))) service h =
 
 -- bundles taken in are to be logged without a log
 pub without_log : (rows : List Row) (flag : Bool) (log : Option (List ℕ)) → HasFlag rows (codes "log-taken") flag → flag ≡ true
-    → first_of (codes "log") rows ≡ log → log ≡ None → IsNoService rows
-without_log rows flag log given is text none service h = no_log service.log (h.logged (h.log_taken ∙ sym given ∙ is)) (sym (text ∙ none) ∙ h.log)
+    → first_of (codes "log") rows ≡ log → log ≡ None → IsNoFiles rows
+without_log rows flag log given is text none files h = no_log files.log (h.logged (h.log_taken ∙ sym given ∙ is)) (sym (text ∙ none) ∙ h.log)
   where
     no_log : {A : Type 0} (l : Option (String A)) → IsSome l → None ≡ option_map string_bytes l → ⊥
     no_log None some e = cc

@@ -41,7 +41,7 @@ use Rattle.tokend.specs.Decisions.{Ending, Repeats}
 use Rattle.tokend.specs.Repeats.{RepeatsFields, Repetition, is_repeat}
 use Rattle.tokend.specs.declared.repeats.Refreshed.{Refreshed}
 use Rattle.tokend.specs.Turns.{AreAmong, AreRepeated}
-use Rattle.tokend.specs.Turns.{AreDecisions, AreTold, AreTurns, Endings, Goes, IsKept, IsLost, IsTurn, MayLackReply, MayReach, ReachEach, Running, Site, ToldOf, all_ends, connections_in, past_each, running}
+use Rattle.tokend.specs.Turns.{AreDecisions, AreReported, AreTurns, Endings, Goes, IsKept, IsLost, IsTurn, MayLackReply, MayReach, ReachEach, Running, Site, ReportsOf, all_ends, connections_in, past_each, running}
 use Rattle.tokend.specs.declared.server.Server.{Server}
 use Rattle.tokend.proofs.Deciding.{decision_grows, may_stay, none_stays, parted, unread}
 use Rattle.tokend.proofs.Growing.{grows_same, grows_twice}
@@ -89,8 +89,8 @@ may_reach true false = refl
 may_reach true true = tt
 may_reach false is_inner = tt
 
-told_both : (xs ys : Endings) (old mid new : Writer) → AreTold xs old mid → AreTold ys mid new → AreTold (xs ++ ys) old new
-told_both [] ys old mid new h k = subst (λ o. AreTold ys o new) h k
+told_both : (xs ys : Endings) (old mid new : Writer) → AreReported xs old mid → AreReported ys mid new → AreReported (xs ++ ys) old new
+told_both [] ys old mid new h k = subst (λ o. AreReported ys o new) h k
 told_both (x ∷ xs) ys old mid new h k = (h.0, h.1, told_both xs ys h.0 mid new h.2 k)
 
 turns_both : (words : ChaCha) (log_taken : Bool) (old : Running) (xs : List Endings) (mid : Running) (ys : List Endings) (new : Running)
@@ -246,7 +246,7 @@ goes_unsent server log before after told = record {
 -- ---- the decisions of a turn
 
 -- Requests were decided, one after the other. Only the last one may have a fault, and its line
--- tells it.
+-- reports it.
 record Went (old : Server) (logged : List ℕ) (new : Server) : Type 0 where
   ends : Endings
   decided : AreDecisions old.words old.log_taken old.edge ends logged new.edge
@@ -258,7 +258,7 @@ record Went (old : Server) (logged : List ℕ) (new : Server) : Type 0 where
   reaches : ReachEach old.has_inner ends
   has_inner : new.has_inner ≡ old.has_inner
   log_taken : new.log_taken ≡ old.log_taken
-  lines : old.fault ≡ None → (before after : Writer) → ToldOf new.fault before after → AreTold ends before after
+  lines : old.fault ≡ None → (before after : Writer) → ReportsOf new.fault before after → AreReported ends before after
   stuck : (old.fault ≡ None → ⊥) → (ends ≡ []) × (new ≡ old)
 
 went_nowhere : (old : Server) (logged : List ℕ) (new : Server) → new ≡ old → logged ≡ [] → Went old logged new
@@ -273,7 +273,7 @@ went_nowhere old logged new same none = record {
   reaches = tt;
   has_inner = ap (λ s. s.has_inner) same;
   log_taken = ap (λ s. s.log_taken) same;
-  lines = λ told before after h. subst (λ o. ToldOf o before after) (ap (λ s. s.fault) same ∙ told) h;
+  lines = λ told before after h. subst (λ o. ReportsOf o before after) (ap (λ s. s.fault) same ∙ told) h;
   stuck = λ _. (refl, same);
 }
 
@@ -281,14 +281,14 @@ some_none : (f : Fault) → Some f ≡ None → ⊥
 some_none f e = cc
 
 lines_both : (old mid new : Server) (logged more : List ℕ) (h : Went old logged mid) (k : Went mid more new) → old.fault ≡ None → (before after : Writer)
-    → ToldOf new.fault before after → AreTold (h.ends ++ k.ends) before after
+    → ReportsOf new.fault before after → AreReported (h.ends ++ k.ends) before after
 lines_both old mid new logged more h k told before after t =
-    elim mid.fault as (λ o. mid.fault ≡ o → AreTold (h.ends ++ k.ends) before after) [
-      | None ↦ λ e. told_both h.ends k.ends before before after (h.lines told before before (subst (λ o. ToldOf o before before) (sym e) refl)) (k.lines e before after t)
+    elim mid.fault as (λ o. mid.fault ≡ o → AreReported (h.ends ++ k.ends) before after) [
+      | None ↦ λ e. told_both h.ends k.ends before before after (h.lines told before before (subst (λ o. ReportsOf o before before) (sym e) refl)) (k.lines e before after t)
       | Some f ↦ λ e.
           let s = k.stuck (λ none. some_none f (sym e ∙ none)) in
-          told_both h.ends k.ends before after after (h.lines told before after (subst (λ (x : Server). ToldOf x.fault before after) s.1 t))
-          (subst (λ l. AreTold l after after) (sym s.0) refl)
+          told_both h.ends k.ends before after after (h.lines told before after (subst (λ (x : Server). ReportsOf x.fault before after) s.1 t))
+          (subst (λ l. AreReported l after after) (sym s.0) refl)
     ] refl
 
 went_both : (old mid new : Server) (logged more : List ℕ) → Went old logged mid → Went mid more new → Went old (logged ++ more) new
@@ -313,8 +313,8 @@ went_both old mid new logged more h k =
           (subst (λ l. l ++ k.ends ≡ []) (sym one.0) two.0, two.1 ∙ one.1);
     }
 
-one_told : (end : Result Served Fault) (stays : Bool) (reach : Reach) (granted : Option Refreshed) (again : Option Repetition) (before after : Writer) → ToldOf (fault_of end) before after
-    → AreTold (record { end = end; stays = stays; reach = reach; granted = granted; again = again } ∷ []) before after
+one_told : (end : Result Served Fault) (stays : Bool) (reach : Reach) (granted : Option Refreshed) (again : Option Repetition) (before after : Writer) → ReportsOf (fault_of end) before after
+    → AreReported (record { end = end; stays = stays; reach = reach; granted = granted; again = again } ∷ []) before after
 one_told (Ok served) stays reach granted again before after h = (before, refl, h)
 one_told (Err fault) stays reach granted again before after h = (after, h, refl)
 
@@ -340,7 +340,7 @@ went_end old bytes over outcome replied logged new h = record {
   reaches = (may_reach old.has_inner old.is_inner, tt);
   has_inner = ap (λ s. s.has_inner) h.moved;
   log_taken = ap (λ s. s.log_taken) h.moved;
-  lines = λ told before after t. one_told h.end (goes_on outcome) (reach_by old.edge.terms old.has_inner old.is_inner) h.granted None before after (subst (λ o. ToldOf o before after) (ap (λ s. s.fault) h.moved) t);
+  lines = λ told before after t. one_told h.end (goes_on outcome) (reach_by old.edge.terms old.has_inner old.is_inner) h.granted None before after (subst (λ o. ReportsOf o before after) (ap (λ s. s.fault) h.moved) t);
   stuck = λ s. absurd (s h.told);
 }
 
@@ -372,7 +372,7 @@ went_again old bytes over outcome replied logged new h =
       reaches = (may_reach old.has_inner old.is_inner, tt);
       has_inner = ap (λ s. s.has_inner) h.moved;
       log_taken = ap (λ s. s.log_taken) h.moved;
-      lines = λ told before after t. (before, refl, subst (λ o. ToldOf o before after) (ap (λ s. s.fault) h.moved) t);
+      lines = λ told before after t. (before, refl, subst (λ o. ReportsOf o before after) (ap (λ s. s.fault) h.moved) t);
       stuck = λ s. absurd (s h.told);
     }
 
@@ -421,7 +421,7 @@ module _ (places : List ℕ) (old new : State Server) (log : LogChange) (before 
   then = record { edge = new.service.edge; log = log.after; faults = after }
 
   -- a turn by what it decided, and what became of its records
-  gone : (mid : Server) (logged : List ℕ) → Went old.service logged mid → old.service.fault ≡ None → ToldOf mid.fault before told
+  gone : (mid : Server) (logged : List ℕ) → Went old.service logged mid → old.service.fault ≡ None → ReportsOf mid.fault before told
       → new.service.words ≡ mid.words → new.service.left ≡ mid.left → new.service.keeps ≡ mid.keeps → new.service.repeats ≡ mid.repeats → new.service.has_inner ≡ mid.has_inner → new.service.log_taken ≡ mid.log_taken
       → IsKept (record { edge = old.service.edge; log = log.before; faults = before }) mid.edge logged told then
       ⊎ IsLost (record { edge = old.service.edge; log = log.before; faults = before }) mid.edge logged told then → Gone
@@ -457,19 +457,19 @@ module _ (places : List ℕ) (old new : State Server) (log : LogChange) (before 
 
   -- the records were kept
   pub goes_kept : (mid : State Server) (logged : List ℕ) → AreDecidedAt Decides places old.service old.links mid.service mid.links logged → turn.IsKept places mid new log logged
-      → old.service.fault ≡ None → ToldOf new.service.fault before told → after ≡ told → Gone
+      → old.service.fault ≡ None → ReportsOf new.service.fault before told → after ≡ told → Gone
   goes_kept mid logged decided kept untold lines same =
       gone mid.service logged (went_at places old.service old.links mid.service mid.links logged decided) untold
-      (subst (λ (x : Server). ToldOf x.fault before told) kept.service lines)
+      (subst (λ (x : Server). ReportsOf x.fault before told) kept.service lines)
       (ap (λ (x : Server). x.words) kept.service) (ap (λ (x : Server). x.left) kept.service) (ap (λ (x : Server). x.keeps) kept.service) (ap (λ (x : Server). x.repeats) kept.service) (ap (λ (x : Server). x.has_inner) kept.service) (ap (λ (x : Server). x.log_taken) kept.service)
       (inl (record { log = kept.appended; edge = ap (λ (x : Server). x.edge) kept.service; faults = same }))
 
   -- the log failed
   pub goes_lost : (mid : State Server) (logged : List ℕ) → AreDecidedAt Decides places old.service old.links mid.service mid.links logged → turn.IsLost Seals places mid new log logged
-      → old.service.fault ≡ None → ToldOf new.service.fault before told → Writes told after (connection_fault Log) → Gone
+      → old.service.fault ≡ None → ReportsOf new.service.fault before told → Writes told after (connection_fault Log) → Gone
   goes_lost mid logged decided lost untold lines line =
       gone mid.service logged (went_at places old.service old.links mid.service mid.links logged decided) untold
-      (subst (λ o. ToldOf o before told) (ap (λ (x : Server). x.fault) lost.service) lines)
+      (subst (λ o. ReportsOf o before told) (ap (λ (x : Server). x.fault) lost.service) lines)
       (ap (λ (x : Server). x.words) lost.service) (ap (λ (x : Server). x.left) lost.service) (ap (λ (x : Server). x.keeps) lost.service) (ap (λ (x : Server). x.repeats) lost.service) (ap (λ (x : Server). x.has_inner) lost.service) (ap (λ (x : Server). x.log_taken) lost.service)
       (inr (record { some = lost.some; log = lost.appended; edge = ap (λ (x : Server). x.edge) lost.service; faults = line }))
 

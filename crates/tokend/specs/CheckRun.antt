@@ -1,6 +1,6 @@
 -- What checking whether sources can be loaded does.
 --   IsRefusedSource   the fault of a source with a bundle that is refused
---   IsToldAs          the program's fault for that of loading a source
+--   IsReportedAs      the program's fault for that of loading a source
 --   LoadsSource       a source is loaded, or isn't to its end
 --   LoadsEach         sources are loaded one after the other
 --   LoadsSources      the sources that the arguments name are loaded
@@ -39,24 +39,24 @@ IsRefusedSource name offset (Facts facts.Memory) = ⊤
 IsRefusedSource name offset fault = ⊥
 
 -- the program's fault for that of loading a source
-abbrev pub IsToldAs : Text → LoadFault → Fault → Type 0
-IsToldAs name (load.Malformed offset) fault = IsBadSource name offset fault
-IsToldAs name (load.Refused offset) fault = IsRefusedSource name offset fault
-IsToldAs name load.Read fault = IsUnreadSource name fault
-IsToldAs name load.Memory fault = fault ≡ Facts facts.Memory
+abbrev pub IsReportedAs : Text → LoadFault → Fault → Type 0
+IsReportedAs name (load.Malformed offset) fault = IsBadSource name offset fault
+IsReportedAs name (load.Refused offset) fault = IsRefusedSource name offset fault
+IsReportedAs name load.Read fault = IsUnreadSource name fault
+IsReportedAs name load.Memory fault = fault ≡ Facts facts.Memory
 
 -- the program's result of loading a source
-abbrev pub IsTold : Text → Result ℕ LoadFault → Result ℕ Fault → Type 0
-IsTold name (Ok dropped) result = result ≡ Ok dropped
-IsTold name (Err why) (Ok n) = ⊥
-IsTold name (Err why) (Err fault) = IsToldAs name why fault
+abbrev pub IsReported : Text → Result ℕ LoadFault → Result ℕ Fault → Type 0
+IsReported name (Ok dropped) result = result ≡ Ok dropped
+IsReported name (Err why) (Ok n) = ⊥
+IsReported name (Err why) (Err fault) = IsReportedAs name why fault
 
 -- a source with these bytes, if they are known, is loaded as an old log is, or can't be opened
 abbrev pub LoadsSource : Text → Option (List ℕ) → RegionFields → Result ℕ Fault → RegionFields
     → Type 0
 LoadsSource name known old result new =
     ((log : List ℕ) × (loaded : Result ℕ LoadFault) × IfSome known (λ bytes. log ≡ bytes)
-    × Loads old log loaded new × IsTold name loaded result)
+    × Loads old log loaded new × IsReported name loaded result)
     ⊎ ((fault : Fault) × (result ≡ Err fault) × IsUnreadSource name fault × (new ≡ old))
 
 -- sources are loaded one after the other, up to the first that isn't loaded to its end; only

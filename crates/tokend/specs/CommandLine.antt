@@ -1,11 +1,4 @@
 -- The command line, as clap's contracts see it.
---   number_rule     an option with a number and a default
---   range_rule      an option with a number in a range
---   file_rule       an option with the name of a file
---   word_rule       an option with a word and a default
---   flag_rule       an option without a value
---   setting_rules   the five settings of a region
---   service_rules   the options of a service alone
 --   tokend_app      the whole program for clap
 --   IsDecimal       a text that stands for a number
 --   HasFlag         whether an option without a value was given
@@ -15,6 +8,8 @@
 --   HasNumbers      clap's matches have these five settings
 --   HasPushes       clap's matches have these options of pushes
 --   HasNotices      clap's matches have these options of what a service says of itself
+--   HasFiles        clap's matches have these files of a service
+--   HasLimits       clap's matches have these limits of a service
 --   HasService      clap's matches have this service
 --   HasSources      clap's matches have these sources of facts
 --   HasCheck        clap's matches have this check
@@ -25,7 +20,6 @@ use Rattle.std.specs.Prelude.{
   List,
   [],
   ◌∷◌,
-  ◌++◌,
   Option,
   Some,
   None,
@@ -50,12 +44,10 @@ use Rattle.std.specs.Str.Parse.{IsNumeral, digits_value, without_leading_plus}
 use Rattle.clap.specs.Words.{
   App,
   Row,
-  Rule,
   Text,
   all_of,
   first_of,
   new_app,
-  new_rule,
   one_of,
   with_subcommand,
 }
@@ -69,103 +61,33 @@ use Rattle.tk_region.specs.SettingsFields.{
   greatest_cap,
 }
 use Rattle.tk_handle.specs.Ranges.{greatest_moment, greatest_region}
-use Rattle.clap.specs.declared.builder.action.ArgAction.TheVariants as action
-use Rattle.clap.specs.declared.builder.value_parser.ValueParser.TheVariants as parser
 use Rattle.tk_message.specs.Choices.{profile_choices}
 use Rattle.tokend.specs.Choices.{HasChoices}
 use Rattle.tokend.specs.Notices.{issuer_named}
 use Rattle.tokend.specs.Ranges.{accepted_named, range_named}
+use Rattle.tokend.specs.Rules.{
+  check_rules,
+  greatest_connections,
+  greatest_keep,
+  greatest_port,
+  greatest_repeat,
+  greatest_requests,
+  names_rule,
+  service_rules,
+  setting_rules,
+  with_rules,
+}
 use Rattle.tokend.specs.declared.address.Address.{Address}
 use Rattle.tokend.specs.declared.address.Address.TheVariants.{Port, Socket}
 use Rattle.tokend.specs.declared.address.Addresses.{Addresses}
-use Rattle.tokend.specs.declared.command_line.Takes.{Takes}
-use Rattle.tokend.specs.declared.command_line.Takes.TheVariants as takes
+use Rattle.tokend.specs.declared.files.FileOptions.{FileOptions}
+use Rattle.tokend.specs.declared.limits.LimitOptions.{LimitOptions}
 use Rattle.tokend.specs.declared.notices.NoticeOptions.{NoticeOptions}
 use Rattle.tokend.specs.declared.options.Check.{Check}
 use Rattle.tokend.specs.declared.options.Numbers.{Numbers}
 use Rattle.tokend.specs.declared.options.Service.{Service}
 use Rattle.tokend.specs.declared.options.Sources.{Sources}
 use Rattle.tokend.specs.declared.pushes.PushOptions.{PushOptions}
-
--- the greatest port
-abbrev pub greatest_port : ℕ
-greatest_port = 65535
-
--- the greatest number of connections that are open at once
-abbrev pub greatest_connections : ℕ
-greatest_connections = 65536
-
--- the greatest number of connections to serve
-abbrev pub greatest_requests : ℕ
-greatest_requests = 4294967295
-
--- the greatest number of seconds for which a connection stays open between its requests
-abbrev pub greatest_keep : ℕ
-greatest_keep = 3600
-
--- the greatest number of seconds for which a refresh that is repeated gets its reply again
-abbrev pub greatest_repeat : ℕ
-greatest_repeat = 60
-
--- the option `--id N`, with a number from 1 to the greatest and a default
-abbrev pub number_rule : Text → Text → ℕ → Rule
-number_rule id default greatest =
-    record (new_rule id) {
-      long = Some id;
-      value_names = 1;
-      defaults = default ∷ [];
-      parser = Some (parser.Unsigned 1 greatest);
-    }
-
--- the option `--id N`, with a number from the least to the greatest; the flag is whether it is
--- required
-abbrev pub range_rule : Text → ℕ → ℕ → Bool → Rule
-range_rule id least greatest is_wanted =
-    record (new_rule id) {
-      long = Some id;
-      value_names = 1;
-      required = is_wanted;
-      parser = Some (parser.Unsigned least greatest);
-    }
-
--- the option `--id FILE`; the flag is whether it is required
-abbrev pub file_rule : Text → Bool → Rule
-file_rule id is_wanted =
-    record (new_rule id) { long = Some id; value_names = 1; required = is_wanted }
-
--- the option `--id WORD`, with a default
-abbrev pub word_rule : Text → Text → Rule
-word_rule id default =
-    record (new_rule id) { long = Some id; value_names = 1; defaults = default ∷ [] }
-
--- the option `--id`, without a value
-abbrev pub flag_rule : Text → Rule
-flag_rule id = record (new_rule id) { long = Some id; action = Some action.SetTrue }
-
--- the option of this name with this value
-abbrev pub choice_rule : Text → Takes → Rule
-choice_rule id takes.Nothing = flag_rule id
-choice_rule id (takes.File is_wanted) = file_rule id is_wanted
-choice_rule id takes.List = file_rule id false
-choice_rule id takes.Url = file_rule id false
-choice_rule id (takes.Word default) = word_rule id default.now
-choice_rule id (takes.Range least greatest is_wanted) = range_rule id least greatest is_wanted
-choice_rule id (takes.Number greatest default) = number_rule id default.now greatest
-
--- a command with these options behind its own
-abbrev pub with_rules : App → List Rule → App
-with_rules app rules = on_top (λ s. record s { rules = s.rules ++ rules }) app
-
--- the settings: the lives of a code (a minute), an access token (an hour), a refresh token (a day)
--- and a family (thirty days), all in seconds, and the cap (the greatest)
-abbrev pub setting_rules : List Rule
-setting_rules =
-    number_rule (codes "code") (codes "60") greatest_code
-    ∷ number_rule (codes "access") (codes "3600") greatest_access
-    ∷ number_rule (codes "refresh") (codes "86400") greatest_refresh
-    ∷ number_rule (codes "family") (codes "2592000") greatest_family
-    ∷ number_rule (codes "cap") (codes "9223372036854775806") greatest_cap
-    ∷ []
 
 -- the subcommand `script`
 abbrev pub script_app : App
@@ -174,40 +96,6 @@ script_app = with_rules (new_app (codes "script")) setting_rules
 -- the subcommand `loopback`
 abbrev pub loopback_app : App
 loopback_app = with_rules (new_app (codes "loopback")) setting_rules
-
--- the options of a service: the region's number and the seed, which are required; the port, the
--- socket and the inner one, the log, whether it gets bundles taken in, the old log, the moment of a
--- prune, what is done with bundles that are ahead, the numbers of the site and of all sites, who
--- may revoke tokens that are not seen, what is done if a consent is given again, the kinds of
--- redirection URIs, who sees refresh tokens, what is required of challenges, how many connections
--- are open at once, how many are served, how long they are kept, for how long a refresh may be
--- repeated, the issuer, and whether health is given
-abbrev pub service_rules : List Rule
-service_rules =
-    range_rule (codes "region") 1 greatest_region true
-    ∷ range_rule (codes "port") 0 greatest_port false
-    ∷ file_rule (codes "socket") false
-    ∷ file_rule (codes "inner") false
-    ∷ file_rule (codes "seed") true
-    ∷ file_rule (codes "log") false
-    ∷ flag_rule (codes "log-taken")
-    ∷ file_rule (codes "load") false
-    ∷ range_rule (codes "prune") 0 greatest_moment false
-    ∷ word_rule (codes "ahead") (codes "taken")
-    ∷ file_rule (codes "range") false
-    ∷ file_rule (codes "accept") false
-    ∷ word_rule (codes "revoke-unseen") (codes "any")
-    ∷ word_rule (codes "consent") (codes "new")
-    ∷ file_rule (codes "redirects") false
-    ∷ word_rule (codes "refresh-seen") (codes "all")
-    ∷ file_rule (codes "challenge") false
-    ∷ number_rule (codes "connections") (codes "1024") greatest_connections
-    ∷ range_rule (codes "requests") 0 greatest_requests false
-    ∷ range_rule (codes "keep") 0 greatest_keep false
-    ∷ range_rule (codes "repeat") 0 greatest_repeat false
-    ∷ file_rule (codes "issuer") false
-    ∷ flag_rule (codes "health")
-    ∷ []
 
 -- the subcommand `serve`
 abbrev pub serve_app : App
@@ -221,18 +109,6 @@ events_app =
     (on_top (λ s. record s { has_version = true; subcommand_required = true })
     (new_app (codes "tokend")))
     script_app.top) loopback_app.top
-
--- the names of files, as many as are given
-abbrev pub names_rule : Rule
-names_rule =
-    record (new_rule (codes "file")) { value_names = 1; action = Some action.Append }
-
--- the options of a check: whether there is one, and the number of the region that loads
-abbrev pub check_rules : List Rule
-check_rules =
-    flag_rule (codes "check")
-    ∷ number_rule (codes "region") (codes "65535") greatest_region
-    ∷ []
 
 -- the subcommand `facts`
 abbrev pub facts_app : App
@@ -322,7 +198,7 @@ abbrev pub IsNoPushes : List Row → Type 0
 IsNoPushes rows = (pushes : PushOptions) → ¬ (HasPushes rows pushes)
 
 -- the rows have these options of what a service says of itself: the issuer, and whether health is
--- told
+-- given
 pub record HasNotices (rows : List Row) (n : NoticeOptions) : Type 0 where
   pub issuer : issuer_named (first_of (codes "issuer") rows) ≡ Some n.issuer
   pub health : HasFlag rows (codes "health") n.health
@@ -331,30 +207,42 @@ pub record HasNotices (rows : List Row) (n : NoticeOptions) : Type 0 where
 abbrev pub IsNoNotices : List Row → Type 0
 IsNoNotices rows = (notices : NoticeOptions) → ¬ (HasNotices rows notices)
 
--- the rows have this service: the settings, each number in its range, the names of files, whether
--- the log gets bundles taken in, for which there is a log, what is taken of a push, the choices,
--- and what the service says of itself
+-- the rows have these files of a service: the seed, the log, whether it gets bundles taken in, for
+-- which there is a log, the old log, and the moment of its prune
+pub record HasFiles (rows : List Row) (f : FileOptions) : Type 0 where
+  pub seed : HasText rows (codes "seed") (Some f.seed)
+  pub log : HasText rows (codes "log") f.log
+  pub load : HasText rows (codes "load") f.load
+  pub prune : IfSome f.prune (HasNumber rows (codes "prune") 0 greatest_moment)
+  pub unpruned : IfNone f.prune ((n : ℕ)
+      → ¬ (HasNumber rows (codes "prune") 0 greatest_moment n))
+  pub log_taken : HasFlag rows (codes "log-taken") f.log_taken
+  pub logged : f.log_taken ≡ true → IsSome f.log
+
+-- the seed is missing, or the log for bundles taken in
+abbrev pub IsNoFiles : List Row → Type 0
+IsNoFiles rows = (files : FileOptions) → ¬ (HasFiles rows files)
+
+-- the rows have these limits of a service's connections, each in its range, or without a limit
+pub record HasLimits (rows : List Row) (l : LimitOptions) : Type 0 where
+  pub requests : IfSome l.requests (HasNumber rows (codes "requests") 0 greatest_requests)
+  pub endless : IfNone l.requests ((n : ℕ)
+      → ¬ (HasNumber rows (codes "requests") 0 greatest_requests n))
+  pub keep : IfSome l.keep (HasNumber rows (codes "keep") 0 greatest_keep)
+  pub unkept : IfNone l.keep ((n : ℕ) → ¬ (HasNumber rows (codes "keep") 0 greatest_keep n))
+  pub repeat : IfSome l.repeat (HasNumber rows (codes "repeat") 0 greatest_repeat)
+  pub unrepeated : IfNone l.repeat ((n : ℕ)
+      → ¬ (HasNumber rows (codes "repeat") 0 greatest_repeat n))
+
+-- the rows have this service: the settings, each number in its range, the sockets, the limits, the
+-- files, what is taken of a push, the choices, and what the service says of itself
 pub record HasService (rows : List Row) (s : Service) : Type 0 where
   pub numbers : HasNumbers rows s.numbers
   pub region : HasNumber rows (codes "region") 1 greatest_region s.region
   pub at : HasAddresses rows s.at
   pub connections : HasNumber rows (codes "connections") 1 greatest_connections s.connections
-  pub requests : IfSome s.requests (HasNumber rows (codes "requests") 0 greatest_requests)
-  pub endless : IfNone s.requests ((n : ℕ)
-      → ¬ (HasNumber rows (codes "requests") 0 greatest_requests n))
-  pub keep : IfSome s.keep (HasNumber rows (codes "keep") 0 greatest_keep)
-  pub unkept : IfNone s.keep ((n : ℕ) → ¬ (HasNumber rows (codes "keep") 0 greatest_keep n))
-  pub repeat : IfSome s.repeat (HasNumber rows (codes "repeat") 0 greatest_repeat)
-  pub unrepeated : IfNone s.repeat ((n : ℕ)
-      → ¬ (HasNumber rows (codes "repeat") 0 greatest_repeat n))
-  pub seed : HasText rows (codes "seed") (Some s.seed)
-  pub log : HasText rows (codes "log") s.log
-  pub load : HasText rows (codes "load") s.load
-  pub prune : IfSome s.prune (HasNumber rows (codes "prune") 0 greatest_moment)
-  pub unpruned : IfNone s.prune ((n : ℕ)
-      → ¬ (HasNumber rows (codes "prune") 0 greatest_moment n))
-  pub log_taken : HasFlag rows (codes "log-taken") s.log_taken
-  pub logged : s.log_taken ≡ true → IsSome s.log
+  pub limits : HasLimits rows s.limits
+  pub files : HasFiles rows s.files
   pub pushes : HasPushes rows s.pushes
   pub choices : HasChoices rows s.choices
   pub notices : HasNotices rows s.notices

@@ -257,7 +257,7 @@ pub record Ends (old : Server) (bytes : List ℕ) (over : Bool) (outcome : Outco
   pub moved : new ≡ moved_on old end new.edge granted left
 
 -- a server decides nothing: no request is whole, no connection is left to be served, or a fault
--- isn't told yet
+-- isn't reported yet
 pub record Waits (old : Server) (bytes : List ℕ) (over : Bool) (replied logged : List ℕ)
     (new : Server) : Type 0 where
   pub why : IsPartial (reach_by old.edge.terms old.has_inner old.is_inner) bytes over

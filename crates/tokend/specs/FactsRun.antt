@@ -2,7 +2,7 @@
 --   known_of         the bytes of a source, if they are known
 --   IsBadSource      the fault of a source with bad bytes
 --   IsUnreadSource   the fault of a source that can't be read
---   IsTold           the program's result of printing a source
+--   IsReported       the program's result of printing a source
 --   PrintsSource     a source is printed, or isn't to its end
 --   PrintsEach       sources are printed one after the other
 --   PrintsSources    the sources that the arguments name are printed
@@ -45,17 +45,17 @@ IsUnreadSource name (Facts facts.Memory) = ⊤
 IsUnreadSource name fault = ⊥
 
 -- the program's fault for that of a source
-abbrev pub IsToldAs : Text → PrintFault → Fault → Type 0
-IsToldAs name (print.Malformed offset) fault = IsBadSource name offset fault
-IsToldAs name print.Read fault = IsUnreadSource name fault
-IsToldAs name print.Memory fault = fault ≡ Facts facts.Memory
-IsToldAs name print.Output fault = fault ≡ Output
+abbrev pub IsReportedAs : Text → PrintFault → Fault → Type 0
+IsReportedAs name (print.Malformed offset) fault = IsBadSource name offset fault
+IsReportedAs name print.Read fault = IsUnreadSource name fault
+IsReportedAs name print.Memory fault = fault ≡ Facts facts.Memory
+IsReportedAs name print.Output fault = fault ≡ Output
 
 -- the program's result of printing a source
-abbrev pub IsTold : Text → Result ℕ PrintFault → Result ℕ Fault → Type 0
-IsTold name (Ok cut) result = result ≡ Ok cut
-IsTold name (Err why) (Ok n) = ⊥
-IsTold name (Err why) (Err fault) = IsToldAs name why fault
+abbrev pub IsReported : Text → Result ℕ PrintFault → Result ℕ Fault → Type 0
+IsReported name (Ok cut) result = result ≡ Ok cut
+IsReported name (Err why) (Ok n) = ⊥
+IsReported name (Err why) (Err fault) = IsReportedAs name why fault
 
 -- a source with these bytes, if they are known, is printed, or isn't to its end: it fails, or can't
 -- be opened
@@ -63,7 +63,7 @@ abbrev pub PrintsSource : Text → Option (List ℕ) → Result ℕ Fault → Op
     → Option (List ℕ) → Type 0
 PrintsSource name known result old new =
     ((printed : Result ℕ PrintFault) × PrintsInput known printed old new
-    × IsTold name printed result)
+    × IsReported name printed result)
     ⊎ ((fault : Fault) × (result ≡ Err fault) × IsUnreadSource name fault × Keeps old new)
 
 -- the number of bytes that are dropped of a source, and of those behind it

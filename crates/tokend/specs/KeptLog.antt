@@ -167,8 +167,8 @@ pub record HasWritten {L : Type 0} (kept : List ℕ → Option (List ℕ))
     (start end : RegionFields) (faults : Writing) : Type 0 where
   pub olds : List BundleFields
   pub bytes : List ℕ
-  pub old : AreOld kept service.load olds
-  pub log : IsLog holds opens service.log bytes
+  pub old : AreOld kept service.files.load olds
+  pub log : IsLog holds opens service.files.log bytes
   pub logged : HasLogged olds end bytes
   pub begun : logged.start ≡ start
   pub told : (logged.faults ≡ faults.before) × (logged.told ≡ faults.after)
@@ -181,6 +181,6 @@ abbrev pub ServiceLogs : {L : Type 0} → (List ℕ → Option (List ℕ)) → (
 ServiceLogs kept holds opens =
     (service : Service) (output : Change) (faults : Writing)
     → (ran : IsServiceRun kept holds opens service output faults)
-    → service.log_taken ≡ true → IsSome service.log → KnowsLogs holds
+    → service.files.log_taken ≡ true → IsSome service.files.log → KnowsLogs holds
     → ran.run.opened.end.sealed ≡ false
     → HasWritten kept holds opens service ran.run.opened.region ran.run.opened.end.region faults

@@ -1,4 +1,5 @@
 -- The definitions of this crate:
+--   Rules         service_rules, the options of the subcommands as clap's contracts see them
 --   CommandLine   tokend_app, the command line as clap's contracts see it
 --   Choices       HasChoices, what a service does if the profile leaves a choice
 --   Challenges    rules_named, what is required of challenges by the words of an option
@@ -29,6 +30,7 @@
 --   FactsRun      PrintsFacts, what printing the facts of sources does
 --   CheckRun      ChecksFacts, what checking whether sources can be loaded does
 --   ProgramRun    IsDone, IsFaultFor: what a run of the program does
+pub mod Rules
 pub mod CommandLine
 pub mod Challenges
 pub mod Choices

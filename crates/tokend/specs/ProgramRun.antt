@@ -9,7 +9,7 @@
 --   IsDone          a run without a fault
 --   IsFaultFor      the faults that a run may have
 --   Leaves          what a fault leaves of the output
---   Tells           what is written of a fault
+--   ReportsFault    what is written of a fault
 use Rattle.std.specs.Prelude.{◌≡◌, ◌⊎◌, ⊤, ℕ, List, Option, IfSome}
 use Rattle.clap.specs.Words.{Text, kind_of}
 use Rattle.tk_region.specs.SettingsFields.{SettingsFields}
@@ -112,7 +112,7 @@ FailsToRun words input fault =
     × IsScriptFault (by_loopback settings) input fault)
     ⊎ FailsToTell words fault)
 
--- Facts were told, or a service has run, each with what it wrote of faults. Or the lines of a
+-- Facts were reported, or a service has run, each with what it wrote of faults. Or the lines of a
 -- script were written, or the arguments request help or the version: then nothing is written of
 -- faults.
 abbrev pub IsDone : {L : Type 0} → (List ℕ → Option (List ℕ)) → (L → Option (List ℕ))
@@ -140,5 +140,5 @@ Leaves kept words input fault old new =
 
 -- the fault's line was written, or its beginning by a writer that failed; clap writes the faults of
 -- arguments
-abbrev pub Tells : Fault → Writer → Writer → Type 0
-Tells fault old new = IfSome (fault_text fault) (Writes old new)
+abbrev pub ReportsFault : Fault → Writer → Writer → Type 0
+ReportsFault fault old new = IfSome (fault_text fault) (Writes old new)

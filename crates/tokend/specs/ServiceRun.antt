@@ -32,12 +32,13 @@ pub record HasOpened {L : Type 0} (holds : L → Option (List ℕ)) (opens : Lis
     (faults : Writing) : Type 0 where
   pub pruned : Option ℕ
   pub region : RegionFields
-  pub prunes : PrunesOld service.prune start.region (Ok pruned) region
+  pub prunes : PrunesOld service.files.prune start.region (Ok pruned) region
   pub announced : Announces (record { dropped = dropped; pruned = pruned }) service.at
       output.before output.after
   pub end : EdgeFields
-  pub served : ServesLogged holds opens service.log words service.requests (keeps_in service.keep)
-      (unwrap_or service.repeat 0) (is_some service.at.inner) service.log_taken
+  pub served : ServesLogged holds opens service.files.log words service.limits.requests
+      (keeps_in service.limits.keep) (unwrap_or service.limits.repeat 0)
+      (is_some service.at.inner) service.files.log_taken
       (record { start = with_region start region; end = end; faults = faults })
 
 -- the old log was loaded, and the service opened with the region that came of it
@@ -46,7 +47,7 @@ pub record HasRun {L : Type 0} (kept : List ℕ → Option (List ℕ)) (holds : 
     (output : Change) (faults : Writing) : Type 0 where
   pub dropped : ℕ
   pub region : RegionFields
-  pub loaded : LoadsOld kept service.load start.region (Ok dropped) region
+  pub loaded : LoadsOld kept service.files.load start.region (Ok dropped) region
   pub opened : HasOpened holds opens service dropped (with_region start region) words output faults
 
 -- the service has run from some start that its seed gives

@@ -117,7 +117,7 @@ BeginsToAnnounce opening at old new =
 -- announced exactly if one was requested
 abbrev pub BeginsOpening : Service → ℕ → Option (List ℕ) → Option (List ℕ) → Type 0
 BeginsOpening service dropped old new =
-    (pruned : Option ℕ) × (is_some pruned ≡ is_some service.prune)
+    (pruned : Option ℕ) × (is_some pruned ≡ is_some service.files.prune)
     × BeginsToAnnounce (record { dropped = dropped; pruned = pruned }) service.at old new
 
 -- a beginning of the announcement was written of a service that began with this region; the dropped
@@ -125,7 +125,8 @@ BeginsOpening service dropped old new =
 abbrev pub BeginsAnnouncement : (List ℕ → Option (List ℕ)) → Service → RegionFields
     → Option (List ℕ) → Option (List ℕ) → Type 0
 BeginsAnnouncement kept service start old new =
-    (dropped : ℕ) × (region : RegionFields) × LoadsOld kept service.load start (Ok dropped) region
+    (dropped : ℕ) × (region : RegionFields)
+    × LoadsOld kept service.files.load start (Ok dropped) region
     × BeginsOpening service dropped old new
 
 -- the line about a connection that ended in a fault
@@ -158,10 +159,11 @@ IsLogFault name fault = ⊥
 abbrev pub IsFileFault : Service → Fault → Type 0
 IsFileFault service Memory = ⊤
 IsFileFault service (CannotReadFile file) =
-    (string_bytes file ≡ string_bytes service.seed) ⊎ IsNameOf service.load (string_bytes file)
-IsFileFault service (CannotOpen file) = IsNameOf service.log (string_bytes file)
+    (string_bytes file ≡ string_bytes service.files.seed)
+    ⊎ IsNameOf service.files.load (string_bytes file)
+IsFileFault service (CannotOpen file) = IsNameOf service.files.log (string_bytes file)
 IsFileFault service BadSeedFile = ⊤
-IsFileFault service BadLogFile = IsSome service.load ⊎ IsSome service.log
+IsFileFault service BadLogFile = IsSome service.files.load ⊎ IsSome service.files.log
 IsFileFault service fault = ⊥
 
 -- the faults of making a socket
@@ -187,8 +189,8 @@ IsStartFault service SharedFolder = ⊤
 IsStartFault service SocketInUse = ⊤
 IsStartFault service Output = ⊤
 IsStartFault service Memory = ⊤
-IsStartFault service (CannotOpen file) = IsNameOf service.log (string_bytes file)
-IsStartFault service BadLogFile = IsSome service.log
+IsStartFault service (CannotOpen file) = IsNameOf service.files.log (string_bytes file)
+IsStartFault service BadLogFile = IsSome service.files.log
 IsStartFault service fault = ⊥
 
 -- the faults of a service before its first connection: of its sockets, its prune, the output or a
@@ -197,7 +199,8 @@ abbrev pub IsServiceFault : Service → Fault → Type 0
 IsServiceFault service CannotListen = ⊤
 IsServiceFault service SharedFolder = ⊤
 IsServiceFault service SocketInUse = ⊤
-IsServiceFault service PruneAhead = (service.pushes.refuses_ahead ≡ true) × IsSome service.prune
+IsServiceFault service PruneAhead =
+    (service.pushes.refuses_ahead ≡ true) × IsSome service.files.prune
 IsServiceFault service Output = ⊤
 IsServiceFault service fault = IsFileFault service fault
 

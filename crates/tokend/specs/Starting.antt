@@ -2,7 +2,7 @@
 --   first_edge    the edge of the region before any log is loaded
 --   first_words   the generator of random words, by the seed
 --   IsStart       the start of a service
---   IsToldAs      the program's result of loading a log
+--   IsReportedAs  the program's result of loading a log
 --   LoadsFile     what the file of a name brings
 --   LoadsOld      what the old log brings, if there is one
 --   IsEmptyLog    a log that was opened is empty
@@ -67,29 +67,29 @@ IsStart service edge words = (edge ≡ first_edge service)
     × ((seed : List ℕ) × (length seed ≡ 32) × (words ≡ first_words seed service.region))
 
 -- the program's result of loading the log of this name
-abbrev pub IsToldAs : List ℕ → Result ℕ LoadFault → Result ℕ Fault → Type 0
-IsToldAs name (Ok dropped) told = told ≡ Ok dropped
-IsToldAs name (Err (Malformed offset)) told = told ≡ Err fault.BadLogFile
-IsToldAs name (Err (Refused offset)) told = told ≡ Err fault.BadLogFile
-IsToldAs name (Err Memory) told = told ≡ Err fault.Memory
-IsToldAs name (Err Read) (Err f) = IsUnread name f
-IsToldAs name (Err Read) (Ok dropped) = ⊥
+abbrev pub IsReportedAs : List ℕ → Result ℕ LoadFault → Result ℕ Fault → Type 0
+IsReportedAs name (Ok dropped) reported = reported ≡ Ok dropped
+IsReportedAs name (Err (Malformed offset)) reported = reported ≡ Err fault.BadLogFile
+IsReportedAs name (Err (Refused offset)) reported = reported ≡ Err fault.BadLogFile
+IsReportedAs name (Err Memory) reported = reported ≡ Err fault.Memory
+IsReportedAs name (Err Read) (Err f) = IsUnread name f
+IsReportedAs name (Err Read) (Ok dropped) = ⊥
 
 -- the file can't be opened and the region is unchanged, or the log in the file is loaded; `known`
 -- is the file's bytes, if they are known
 abbrev pub LoadsFile : Option (List ℕ) → List ℕ → RegionFields → Result ℕ Fault → RegionFields
     → Type 0
-LoadsFile known name old told new = (IsToldAs name (Err Read) told × (new ≡ old))
+LoadsFile known name old reported new = (IsReportedAs name (Err Read) reported × (new ≡ old))
     ⊎ ((log : List ℕ) × (result : Result ℕ LoadFault) × IfSome known (λ bytes. log ≡ bytes)
-    × Loads old log result new × IsToldAs name result told)
+    × Loads old log result new × IsReportedAs name result reported)
 
 -- the old log of this name is loaded, if there is one; `kept` has the bytes of the file of a name,
 -- if they are known
 abbrev pub LoadsOld : {A : Type 0} → (List ℕ → Option (List ℕ)) → Option (String A)
     → RegionFields → Result ℕ Fault → RegionFields → Type 0
-LoadsOld kept None old told new = (told ≡ Ok 0) × (new ≡ old)
-LoadsOld kept (Some name) old told new =
-    LoadsFile (kept (string_bytes name)) (string_bytes name) old told new
+LoadsOld kept None old reported new = (reported ≡ Ok 0) × (new ≡ old)
+LoadsOld kept (Some name) old reported new =
+    LoadsFile (kept (string_bytes name)) (string_bytes name) old reported new
 
 -- a log that was opened is empty, if its bytes are known
 abbrev pub IsEmptyLog : Option (List ℕ) → Type 0

@@ -1,7 +1,7 @@
 -- What the turns of a service do to its edge, its log and the lines about faults (own).
 --   past_each      the generator after the words of requests
 --   AreDecisions   requests are decided, one after the other
---   AreTold        the lines about their faults
+--   AreReported    the lines about their faults
 --   IsTurn         the requests of a turn are decided, and their records are written at once
 --   AreTurns       turns, one after the other
 --   connections_in   how many connections ended
@@ -124,19 +124,20 @@ AreDecisions words log_taken old (end ∷ ends) records new =
 
 -- a fault's line was written, or its beginning by a writer that failed; nothing is written without
 -- a fault
-abbrev pub Told : Result Served Fault → Writer → Writer → Type 0
-Told (Ok served) old new = new ≡ old
-Told (Err fault) old new = Writes old new (connection_fault fault)
+abbrev pub Reports : Result Served Fault → Writer → Writer → Type 0
+Reports (Ok served) old new = new ≡ old
+Reports (Err fault) old new = Writes old new (connection_fault fault)
 
 -- this fault's line was written, if there is one
-abbrev pub ToldOf : Option Fault → Writer → Writer → Type 0
-ToldOf None old new = new ≡ old
-ToldOf (Some fault) old new = Writes old new (connection_fault fault)
+abbrev pub ReportsOf : Option Fault → Writer → Writer → Type 0
+ReportsOf None old new = new ≡ old
+ReportsOf (Some fault) old new = Writes old new (connection_fault fault)
 
--- the faults of these requests were told, in order
-abbrev pub AreTold : Endings → Writer → Writer → Type 0
-AreTold [] old new = new ≡ old
-AreTold (end ∷ ends) old new = (mid : Writer) × Told end.end old mid × AreTold ends mid new
+-- the faults of these requests were reported, in order
+abbrev pub AreReported : Endings → Writer → Writer → Type 0
+AreReported [] old new = new ≡ old
+AreReported (end ∷ ends) old new =
+    (mid : Writer) × Reports end.end old mid × AreReported ends mid new
 
 -- an edge, with the bytes of its log and the writer of the lines about faults
 pub record Running : Type 0 where
@@ -151,7 +152,8 @@ pub record IsKept (old : Running) (mid : EdgeFields) (records : List ℕ) (told 
   pub edge : new.edge ≡ mid
   pub faults : new.faults ≡ told
 
--- the log failed, so that it has a beginning of the records; the edge is sealed, and the fault told
+-- the log failed, so that it has a beginning of the records; the edge is sealed, and the fault
+-- reported
 pub record IsLost (old : Running) (mid : EdgeFields) (records : List ℕ) (told : Writer)
     (new : Running) : Type 0 where
   pub some : records ≢ []
@@ -167,7 +169,7 @@ pub record IsTurn (words : ChaCha) (log_taken : Bool) (old : Running) (ends : En
   pub records : List ℕ
   pub told : Writer
   pub decided : AreDecisions words log_taken old.edge ends records edge
-  pub lines : AreTold ends old.faults told
+  pub lines : AreReported ends old.faults told
   pub log : IsKept old edge records told new ⊎ IsLost old edge records told new
 
 -- nothing happened, or the line of a reply was written that its client didn't take

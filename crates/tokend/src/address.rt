@@ -27,7 +27,7 @@ impl Address {
 /// The sockets at which a service listens.
 #[derive(Drop)]
 pub struct Addresses {
-    /// The one for clients, and for all if there is no inner one.
+    /// The socket for clients, or for all paths if there is no inner one.
     pub outer: Address,
     /// The path of the Unix socket at which operators and other regions are answered, and nowhere
     /// else, if there is one.

@@ -13,8 +13,8 @@ ghost use Rattle.tokend.specs.CheckRun.{
   Checks,
   ChecksFacts,
   IsRefusedSource,
-  IsTold,
-  IsToldAs,
+  IsReported,
+  IsReportedAs,
   LoadsEach,
   LoadsSource,
   LoadsSources,
@@ -218,7 +218,7 @@ fn load_file<R: AllocGlobal + Files>(rt: &R, region: &mut Region, name: &str) ->
 
 // Returns the program's result of loading the source of this name.
 fn told(alloc: Global, name: &str, loaded: Result<u64, LoadFault>) -> Result<u64, Fault>
-    ensures { IsTold name.now loaded result }
+    ensures { IsReported name.now loaded result }
 {
     match loaded {
         Ok(dropped) => Ok(dropped),
@@ -228,7 +228,7 @@ fn told(alloc: Global, name: &str, loaded: Result<u64, LoadFault>) -> Result<u64
 
 // Returns the program's fault for that of loading the source of this name.
 fn fault_of(alloc: Global, name: &str, fault: LoadFault) -> Fault
-    ensures { IsToldAs name.now fault result }
+    ensures { IsReportedAs name.now fault result }
 {
     match fault {
         LoadFault::Malformed(offset) => bad(alloc, name, offset),

@@ -6,17 +6,19 @@ ghost use Rattle.std.specs.Prelude.{◌≡◌, ◌∷◌, [], IfOk, IsOkAnd, fal
 ghost use Rattle.clap.specs.Words.{app_of, rule_of, with_subcommand};
 ghost use Rattle.clap.specs.declared.builder.command.Command.TheViews.{out-Command};
 ghost use Rattle.tokend.specs.CommandLine.{
-  check_rules,
-  choice_rule,
   events_app,
   facts_app,
   loopback_app,
-  names_rule,
   script_app,
   serve_app,
   served_app,
-  setting_rules,
   tokend_app,
+};
+ghost use Rattle.tokend.specs.Rules.{
+  check_rules,
+  choice_rule,
+  names_rule,
+  setting_rules,
   with_rules,
 };
 
@@ -155,7 +157,6 @@ fn loopback_command<'a>(alloc: Global) -> Result<Command<'a>, AllocError>
 }
 
 // The subcommand `serve`.
-#[rattlefmt::skip]
 fn serve_command<'a>(alloc: Global) -> Result<Command<'a>, AllocError>
     ensures shape { IfOk result (λ c. app_of c ≡ serve_app) }
     ensures local { IfOk result (λ c. (out-Command c).has_globals ≡ false) }
@@ -163,59 +164,62 @@ fn serve_command<'a>(alloc: Global) -> Result<Command<'a>, AllocError>
     let serve = Command::new(alloc, "serve").about(
         "Serves requests over HTTP, those of many connections at once",
     );
-    let choices: [Choice<'a>; 23] = [
-        ("region", Takes::Range(1, Service::GREATEST_REGION, true),
-            "The number of the region that is served, 1 to 65535, like no other's and never used again [required]"),
-        ("port", Takes::Range(0, Address::GREATEST_PORT, false),
-            "The port that is listened on, 0 to 65535, 0 for a free one [required, or --socket]"),
-        ("socket", Takes::File(false),
-            "The Unix socket that is listened on in place of a port"),
-        ("inner", Takes::File(false),
-            "The Unix socket that alone answers /admin/ and /sync/ [default: none]"),
-        ("seed", Takes::File(true),
-            "The file of 32 secret random bytes that handles are made from, another for each start [required]"),
-        ("log", Takes::File(false),
-            "A new file that each fact made is appended to before its reply [default: none]"),
-        ("log-taken", Takes::Nothing,
-            "Appends each bundle taken in to the log too, before its reply; requires --log"),
-        ("load", Takes::File(false),
-            "The log of an earlier run, whose facts are taken in first [default: none]"),
-        ("prune", Takes::Range(0, Moment::GREATEST, false),
-            "Skips all facts of families that are over at this moment, in seconds since 1970, 0 to 253402300799 [default: none]"),
-        ("ahead", Takes::Word("taken"),
-            "Whether a pushed bundle whose horizon is later than the clock is taken or refused"),
-        ("range", Takes::List,
-            "The numbers of this site, FIRST-LAST; a push of facts under those above its own is refused [default: none]"),
-        ("accept", Takes::List,
-            "The numbers of all sites, FIRST-LAST with commas between; a push of facts under others is refused [default: 1-65535]"),
-        ("revoke-unseen", Takes::Word("any"),
-            "Who may revoke a token of another region before it is known here: any, authenticated or none"),
-        ("consent", Takes::Word("new"),
-            "What is given if a good consent is held: a new one, or the held one without a fact"),
-        ("redirects", Takes::List,
-            "The kinds of redirection URIs that a new client may have: https, loopback (at any port too), app [default: every absolute URL]"),
-        ("refresh-seen", Takes::Word("all"),
-            "Who sees a refresh token at /introspect: all, its client and resource servers; or client, its client alone"),
-        ("challenge", Takes::List,
-            "What is required of PKCE: all, a challenge of every client; S256, that method [default: a challenge of public clients]"),
-        ("connections", Takes::Number(Service::GREATEST_CONNECTIONS, "1024"),
-            "How many connections are open at once at most, 1 to 65536"),
-        ("requests", Takes::Range(0, Service::GREATEST_REQUESTS, false),
-            "How many connections are served, 0 to 4294967295 [default: without end]"),
-        ("keep", Takes::Range(0, Service::GREATEST_KEEP, false),
-            "How many seconds a connection stays open between its requests, 0 to 3600, 0 for one request each [default: 0]"),
-        ("repeat", Takes::Range(0, Service::GREATEST_REPEAT, false),
-            "For how many seconds a refresh that is repeated gets its reply again, 0 to 60 [default: 0]"),
-        ("issuer", Takes::Url,
-            "The URL of this server, for its metadata and the iss of its redirects [default: none]"),
-        ("health", Takes::Nothing,
-            "Answers GET /health: whether requests of clients are answered"),
-    ];
-    match with_choices(alloc, serve, &choices) {
+    match with_choices(alloc, serve, &SERVICE_CHOICES) {
         Ok(serve) => with_settings(alloc, serve),
         Err(error) => Err(error),
     }
 }
+
+// The options of a service alone.
+#[rattlefmt::skip]
+const SERVICE_CHOICES: [Choice<'static>; 23] = [
+    ("region", Takes::Range(1, Service::GREATEST_REGION, true),
+        "The number of the region that is served, 1 to 65535, like no other's and never used again [required]"),
+    ("port", Takes::Range(0, Address::GREATEST_PORT, false),
+        "The port that is listened on, 0 to 65535, 0 for a free one [required, or --socket]"),
+    ("socket", Takes::File(false),
+        "The Unix socket that is listened on in place of a port"),
+    ("inner", Takes::File(false),
+        "The Unix socket that alone answers /admin/ and /sync/ [default: none]"),
+    ("seed", Takes::File(true),
+        "The file of 32 secret random bytes that handles are made from, another for each start [required]"),
+    ("log", Takes::File(false),
+        "A new file that each fact made is appended to before its reply [default: none]"),
+    ("log-taken", Takes::Nothing,
+        "Appends each bundle taken in to the log too, before its reply; requires --log"),
+    ("load", Takes::File(false),
+        "The log of an earlier run, whose facts are taken in first [default: none]"),
+    ("prune", Takes::Range(0, Moment::GREATEST, false),
+        "Skips all facts of families that are over at this moment, in seconds since 1970, 0 to 253402300799 [default: none]"),
+    ("ahead", Takes::Word("taken"),
+        "Whether a pushed bundle whose horizon is later than the clock is taken or refused"),
+    ("range", Takes::List,
+        "The numbers of this site, FIRST-LAST; a push of facts under those above its own is refused [default: none]"),
+    ("accept", Takes::List,
+        "The numbers of all sites, FIRST-LAST with commas between; a push of facts under others is refused [default: 1-65535]"),
+    ("revoke-unseen", Takes::Word("any"),
+        "Who may revoke a token of another region before it is known here: any, authenticated or none"),
+    ("consent", Takes::Word("new"),
+        "What is given if a good consent is held: a new one, or the held one without a fact"),
+    ("redirects", Takes::List,
+        "The kinds of redirection URIs that a new client may have: https, loopback (at any port too), app [default: every absolute URL]"),
+    ("refresh-seen", Takes::Word("all"),
+        "Who sees a refresh token at /introspect: all, its client and resource servers; or client, its client alone"),
+    ("challenge", Takes::List,
+        "What is required of PKCE: all, a challenge of every client; S256, that method [default: a challenge of public clients]"),
+    ("connections", Takes::Number(Service::GREATEST_CONNECTIONS, "1024"),
+        "How many connections are open at once at most, 1 to 65536"),
+    ("requests", Takes::Range(0, Service::GREATEST_REQUESTS, false),
+        "How many connections are served, 0 to 4294967295 [default: without end]"),
+    ("keep", Takes::Range(0, Service::GREATEST_KEEP, false),
+        "How many seconds a connection stays open between its requests, 0 to 3600, 0 for one request each [default: 0]"),
+    ("repeat", Takes::Range(0, Service::GREATEST_REPEAT, false),
+        "For how many seconds a refresh that is repeated gets its reply again, 0 to 60 [default: 0]"),
+    ("issuer", Takes::Url,
+        "The URL of this server, for its metadata and the iss of its redirects [default: none]"),
+    ("health", Takes::Nothing,
+        "Answers GET /health: whether requests of clients are answered"),
+];
 
 // Adds the five settings of a region to a command, each with its default.
 #[rattlefmt::skip]

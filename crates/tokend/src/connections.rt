@@ -62,7 +62,7 @@ pub(crate) struct Connections {
     pub links: Vec<Link>,
     /// The places with something to do in this turn.
     pub listed: Vec<usize>,
-    // Those with something to do in the next one.
+    // The places with something to do in the next turn.
     again: Vec<usize>,
     /// The places of the outer socket whose requests this turn may decide, and those of the inner
     /// one.
@@ -77,7 +77,7 @@ pub(crate) struct Connections {
     pub undecided: u64,
     /// How many of them are large.
     pub large: usize,
-    /// What was lost of connections, and isn't told yet.
+    /// How many connections ended in each way since the last report.
     pub losses: Losses,
     /// How long a kept connection stays open between its requests, in milliseconds, or 0: none is.
     pub keep: u64,

@@ -121,7 +121,7 @@ impl Door {
     }
 }
 
-// Returns whether a client wasn't accepted for want of a descriptor.
+// Returns whether a client wasn't accepted because no descriptor was left.
 fn lacks_descriptor(error: &io::Error) -> bool {
     match error.raw_os_error() {
         Some(number) => NO_DESCRIPTOR.contains(&number),

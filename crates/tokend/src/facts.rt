@@ -7,8 +7,8 @@ ghost use Rattle.tokend.specs.FactsRun.{
   BeginsFacts,
   IsBadSource,
   IsFactsFault,
-  IsTold,
-  IsToldAs,
+  IsReported,
+  IsReportedAs,
   IsUnreadSource,
   PrintsEach,
   PrintsFacts,
@@ -170,7 +170,7 @@ fn print_file<R: AllocGlobal + Files, O: Write>(
 
 // Returns the program's result of printing the source of this name.
 fn told(alloc: Global, name: &str, printed: Result<u64, PrintFault>) -> Result<u64, Fault>
-    ensures { IsTold name.now printed result }
+    ensures { IsReported name.now printed result }
 {
     match printed {
         Ok(cut) => Ok(cut),
@@ -180,7 +180,7 @@ fn told(alloc: Global, name: &str, printed: Result<u64, PrintFault>) -> Result<u
 
 // Returns the program's fault for that of the source of this name.
 fn fault_of(alloc: Global, name: &str, fault: PrintFault) -> Fault
-    ensures { IsToldAs name.now fault result }
+    ensures { IsReportedAs name.now fault result }
 {
     match fault {
         PrintFault::Malformed(offset) => bad(alloc, name, offset),

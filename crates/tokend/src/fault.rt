@@ -4,7 +4,7 @@ ghost use Rattle.std.specs.Prelude.{◌≡◌, ◌++◌, ◌∷◌, [], codes, d
 ghost use Rattle.std.specs.IoError.{error_kind};
 ghost use Rattle.tokend.specs.declared.fault.Fault.TheVariants as fault;
 ghost use Rattle.tokend.specs.Status.{facts_status, facts_text, input_fault};
-ghost use Rattle.tokend.specs.ProgramRun.{Tells};
+ghost use Rattle.tokend.specs.ProgramRun.{ReportsFault};
 ghost use Rattle.tokend.specs.Status.{status_of, IsUnopened, IsUnread};
 ghost use Rattle.tokend.specs.Telling.{Writes, writer_of};
 
@@ -102,7 +102,7 @@ impl Fault {
 /// clap writes the faults of the arguments. An output that failed has no line, only its status. If
 /// `faults` fails, it has the beginning of the line, and the program goes on.
 pub(crate) fn tell<F: Sink>(faults: &mut F, fault: &Fault)
-    ensures { Tells fault.now (writer_of F.holds F.failed faults.old)
+    ensures { ReportsFault fault.now (writer_of F.holds F.failed faults.old)
         (writer_of F.holds F.failed faults.new) }
 {
     match fault {

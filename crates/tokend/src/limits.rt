@@ -1,6 +1,24 @@
-//! The greatest numbers that the options of a service take.
+//! The greatest numbers that the options of a service take, and the limits of its connections:
+//! `LimitOptions`.
 
-use crate::options::Service;
+ghost use Rattle.clap.specs.Words.{found_of, rows_of};
+ghost use Rattle.tokend.specs.CommandLine.{HasLimits};
+
+use crate::options::{Service, number};
+use clap::ArgMatches;
+
+/// The limits of a service's connections, by `--requests`, `--keep` and `--repeat`.
+#[derive(Clone, Copy)]
+pub struct LimitOptions {
+    /// How many connections to serve; `None` for no end.
+    pub requests: Option<u64>,
+    /// For how many seconds a connection stays open between its requests. `None` or 0: each
+    /// connection has one request.
+    pub keep: Option<u64>,
+    /// For how many seconds a refresh that is repeated gets its reply again. `None` or 0: a repeat
+    /// is a reuse.
+    pub repeat: Option<u64>,
+}
 
 impl Service {
     /// The greatest number of a region.
@@ -17,4 +35,18 @@ impl Service {
 
     /// The greatest number of seconds for which a refresh that is repeated gets its reply again.
     pub const GREATEST_REPEAT: u64 = 60;
+}
+
+/// Reads the limits of a service's connections.
+pub(crate) fn read_limits(matches: &ArgMatches<'_>) -> LimitOptions
+    ensures { HasLimits (rows_of (found_of matches.now)) result }
+{
+    let requests = number(matches, "requests", 0, Service::GREATEST_REQUESTS);
+    let keep = number(matches, "keep", 0, Service::GREATEST_KEEP);
+    let repeat = number(matches, "repeat", 0, Service::GREATEST_REPEAT);
+    LimitOptions {
+        requests,
+        keep,
+        repeat,
+    }
 }

@@ -1,6 +1,6 @@
 //! How connections ended without a reply: `Losses`.
 
-/// How many connections ended in each way, which isn't told yet.
+/// How many connections ended in each way since the last report.
 #[derive(Clone, Copy)]
 pub(crate) struct Losses {
     /// How many ended before a request was whole, or weren't accepted.

@@ -34,6 +34,7 @@ mod door;
 mod draw;
 mod facts;
 mod fault;
+mod files;
 pub mod folder;
 mod kinds;
 mod leaving;

@@ -24,6 +24,8 @@ ghost use Rattle.tokend.specs.declared.options.Numbers.{Numbers as NumbersValue}
 use crate::address::{Addresses, is_unplaced, read_addresses};
 use crate::choices::{misnamed_word, read_choices};
 use crate::command_line::tokend_command;
+use crate::files::{FileOptions, read_files};
+use crate::limits::{LimitOptions, read_limits};
 use crate::notices::{NoticeOptions, read_notices};
 use crate::pushes::{PushOptions, read_pushes};
 use crate::sources::read_facts;
@@ -31,7 +33,6 @@ use clap::error::ErrorKind;
 use clap::{ArgMatches, Command, Error};
 use std::alloc::{AllocError, Global};
 use std::convert::AsStr;
-use tk_handle::Moment;
 use tk_message::Choices;
 use tk_world::Settings;
 
@@ -93,24 +94,10 @@ pub struct Service {
     pub at: Addresses,
     /// How many connections are open at once at most, those of the inner socket aside.
     pub connections: u64,
-    /// How many connections to serve; `None` for no end.
-    pub requests: Option<u64>,
-    /// For how many seconds a connection stays open between its requests. `None` or 0: each
-    /// connection has one request.
-    pub keep: Option<u64>,
-    /// For how many seconds a refresh that is repeated gets its reply again. `None` or 0: a repeat
-    /// is a reuse.
-    pub repeat: Option<u64>,
-    /// The file of the generator's key.
-    pub seed: String,
-    /// The file to which records are written, if any.
-    pub log: Option<String>,
-    /// Whether the log also gets the bundles that are taken in. There is a log then.
-    pub log_taken: bool,
-    /// The old log to load before the first connection, if any.
-    pub load: Option<String>,
-    /// The moment up to which the region is pruned once the old log is loaded, if any.
-    pub prune: Option<u64>,
+    /// The limits of its connections.
+    pub limits: LimitOptions,
+    /// Its files.
+    pub files: FileOptions,
     /// What is taken of a push.
     pub pushes: PushOptions,
     /// What the region does if the profile leaves a choice.
@@ -302,32 +289,16 @@ fn read_service(alloc: Global, matches: &ArgMatches<'_>) -> Result<Option<Servic
     let Some(notices) = read_notices(alloc, matches)? else {
         return Ok(None);
     };
-    let Some(seed) = read_text(alloc, matches, "seed")? else {
+    let Some(files) = read_files(alloc, matches)? else {
         return Ok(None);
     };
-    let log = read_text(alloc, matches, "log")?;
-    let log_taken = flag(matches, "log-taken");
-    if log_taken && log.is_none() {
-        return Ok(None);
-    }
-    let load = read_text(alloc, matches, "load")?;
-    let prune = number(matches, "prune", 0, Moment::GREATEST);
-    let requests = number(matches, "requests", 0, Service::GREATEST_REQUESTS);
-    let keep = number(matches, "keep", 0, Service::GREATEST_KEEP);
-    let repeat = number(matches, "repeat", 0, Service::GREATEST_REPEAT);
     Ok(Some(Service {
         numbers,
         region: region as u16,
         at,
         connections,
-        requests,
-        keep,
-        repeat,
-        seed,
-        log,
-        log_taken,
-        load,
-        prune,
+        limits: read_limits(matches),
+        files,
         pushes,
         choices,
         notices,

@@ -18,7 +18,7 @@ ghost use Rattle.std.specs.Io.KnownBytes.{Appends, Keeps};
 ghost use Rattle.tk_world.specs.Printed.{lines_text};
 ghost use Rattle.clap.specs.Words.{Text, kind_of};
 ghost use Rattle.clap.specs.declared.error.kind.ErrorKind.TheVariants as kind;
-ghost use Rattle.tokend.specs.ProgramRun.{IsDone, IsFaultFor, Leaves, Tells};
+ghost use Rattle.tokend.specs.ProgramRun.{IsDone, IsFaultFor, Leaves, ReportsFault};
 ghost use Rattle.tk_put.specs.Put.{AppendsFront, Prints};
 ghost use Rattle.tokend.specs.LoopbackRun.{by_loopback};
 ghost use Rattle.tokend.specs.ScriptRun.{
@@ -94,7 +94,7 @@ where
         × IsFaultFor (map S.text words.now) (I.remaining input.old) fault
         × Leaves (D.kept folder.now) (map S.text words.now) (I.remaining input.old) fault
         (O.contents output.old) (O.contents output.new)
-        × Tells fault (writer_of F.holds F.failed faults.old)
+        × ReportsFault fault (writer_of F.holds F.failed faults.old)
         (writer_of F.holds F.failed faults.new) }
 
     // Status 2: the output has no new byte, or the lines before bad bytes of `facts`.
@@ -102,7 +102,7 @@ where
         × IsFaultFor (map S.text words.now) (I.remaining input.old) fault
         × Leaves (D.kept folder.now) (map S.text words.now) (I.remaining input.old) fault
         (O.contents output.old) (O.contents output.new)
-        × Tells fault (writer_of F.holds F.failed faults.old)
+        × ReportsFault fault (writer_of F.holds F.failed faults.old)
         (writer_of F.holds F.failed faults.new) }
 
     // Status 3: the output has no new byte.
@@ -110,7 +110,7 @@ where
         × IsFaultFor (map S.text words.now) (I.remaining input.old) fault
         × Leaves (D.kept folder.now) (map S.text words.now) (I.remaining input.old) fault
         (O.contents output.old) (O.contents output.new)
-        × Tells fault (writer_of F.holds F.failed faults.old)
+        × ReportsFault fault (writer_of F.holds F.failed faults.old)
         (writer_of F.holds F.failed faults.new) }
 {
     finish(run(rt, folder, words, input, output, faults), faults)
@@ -120,7 +120,7 @@ where
 pub(crate) fn finish<F: Sink>(ran: Result<(), Fault>, faults: &mut F) -> u8
     ensures { MatchResult ran (λ _. (result ≡ 0) × (faults.new ≡ faults.old))
         (λ fault. (result ≡ status_of fault)
-        × Tells fault (writer_of F.holds F.failed faults.old)
+        × ReportsFault fault (writer_of F.holds F.failed faults.old)
         (writer_of F.holds F.failed faults.new)) }
 {
     match ran {

@@ -224,7 +224,7 @@ impl Server {
     }
 }
 
-// Returns whether a request was granted what it asked for.
+// Returns whether the request was granted.
 fn is_granted(served: Served) -> bool
     ensures { result ≡ spec.is_granted served }
 {

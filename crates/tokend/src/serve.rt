@@ -50,7 +50,7 @@ where
     R: AllocGlobal + Files + Clock + Net,
     requires settings { IsSettings (settings_of service.now.numbers) }
     requires region { IsRegion service.now.region }
-    requires prune { IfSome service.now.prune IsMoment }
+    requires prune { IfSome service.now.files.prune IsMoment }
     ensures done { OnOk result
         (IsServiceRun (D.kept folder.now) L.holds (D.opens folder.now) service.now
         (record { before = O.contents output.old; after = O.contents output.new })
@@ -64,7 +64,7 @@ where
         (O.contents output.old) (O.contents output.new)) }
     ensures silent { OnErr result (faults.new ≡ faults.old) }
 {
-    if service.pushes.refuses_ahead && is_ahead(rt, service.prune) {
+    if service.pushes.refuses_ahead && is_ahead(rt, service.files.prune) {
         return Err(Fault::PruneAhead);
     }
     match begin(rt.alloc(), folder, service) {
@@ -99,7 +99,7 @@ fn load_and_serve<R, I: Read + Drop, L: Sink + Drop, D: Folder<I, L>, O: Write, 
 ) -> Result<(), Fault>
 where
     R: AllocGlobal + Files + Clock + Net,
-    requires { IfSome service.now.prune IsMoment }
+    requires { IfSome service.now.files.prune IsMoment }
     ensures done { OnOk result
         (HasRun (D.kept folder.now) L.holds (D.opens folder.now) service.now
         start.old.edge start.old.words
@@ -114,7 +114,8 @@ where
         (O.contents output.old) (O.contents output.new)) }
     ensures silent { OnErr result (faults.new ≡ faults.old) }
 {
-    match load_old(rt.alloc(), folder, start.edge.region_mut(), &service.load) {
+    let old = &service.files.load;
+    match load_old(rt.alloc(), folder, start.edge.region_mut(), old) {
         Ok(dropped) => prune_and_serve(rt, folder, service, dropped, start, output, faults),
         Err(fault) => Err(fault),
     }
@@ -133,7 +134,7 @@ fn prune_and_serve<R, I: Read + Drop, L: Sink + Drop, D: Folder<I, L>, O: Write,
 ) -> Result<(), Fault>
 where
     R: AllocGlobal + Files + Clock + Net,
-    requires { IfSome service.now.prune IsMoment }
+    requires { IfSome service.now.files.prune IsMoment }
     ensures done { OnOk result
         (HasOpened L.holds (D.opens folder.now) service.now dropped start.old.edge
         start.old.words
@@ -148,7 +149,7 @@ where
         (O.contents output.new)) }
     ensures silent { OnErr result (faults.new ≡ faults.old) }
 {
-    match prune_old(rt.alloc(), start.edge.region_mut(), service.prune) {
+    match prune_old(rt.alloc(), start.edge.region_mut(), service.files.prune) {
         Ok(pruned) => {
             let opening = Opening { dropped, pruned };
             log_and_serve(rt, folder, service, opening, start, output, faults)
@@ -172,9 +173,10 @@ where
     ensures done { OnOk result
         (Announces opening service.now.at (O.contents output.old) (O.contents output.new)) }
     ensures served { OnOk result
-        (ServesLogged L.holds (D.opens folder.now) service.now.log start.old.words
-        service.now.requests (keeps_in service.now.keep) (unwrap_or service.now.repeat 0)
-        (is_some service.now.at.inner) service.now.log_taken
+        (ServesLogged L.holds (D.opens folder.now) service.now.files.log start.old.words
+        service.now.limits.requests (keeps_in service.now.limits.keep)
+        (unwrap_or service.now.limits.repeat 0) (is_some service.now.at.inner)
+        service.now.files.log_taken
         (record {
           start = start.old.edge;
           end = start.new.edge;
@@ -189,7 +191,7 @@ where
         (O.contents output.new)) }
     ensures silent { OnErr result (faults.new ≡ faults.old) }
 {
-    let Some(path) = &service.log else {
+    let Some(path) = &service.files.log else {
         let mut none = Records::new(Discard);
         return announce_and_serve(rt, service, opening, start, &mut none, output, faults);
     };
@@ -219,8 +221,9 @@ where
     ensures done { OnOk result
         (Announces opening service.now.at (O.contents output.old) (O.contents output.new)) }
     ensures served { OnOk result
-        (ServesWith start.old.words service.now.requests (keeps_in service.now.keep)
-        (unwrap_or service.now.repeat 0) (is_some service.now.at.inner) service.now.log_taken
+        (ServesWith start.old.words service.now.limits.requests (keeps_in service.now.limits.keep)
+        (unwrap_or service.now.limits.repeat 0) (is_some service.now.at.inner)
+        service.now.files.log_taken
         (record {
           start = start.old.edge;
           end = start.new.edge;
@@ -238,13 +241,13 @@ where
 {
     match listen(rt, service, opening, output) {
         Ok(mut connections) => {
-            let keep = service.keep.unwrap_or(0);
+            let keep = service.limits.keep.unwrap_or(0);
             connections.keep(keep);
             start.keeps = keep > 0;
-            start.repeats = Repeats::new(rt.alloc(), service.repeat.unwrap_or(0));
+            start.repeats = Repeats::new(rt.alloc(), service.limits.repeat.unwrap_or(0));
             start.has_inner = service.at.inner.is_some();
-            start.log_taken = service.log_taken;
-            start.left = service.requests.unwrap_or(u64::MAX);
+            start.log_taken = service.files.log_taken;
+            start.left = service.limits.requests.unwrap_or(u64::MAX);
             start.fault = None;
             serve_on(rt, &mut connections, start, log, faults);
             Ok(())

@@ -27,7 +27,7 @@ pub(crate) struct Server {
     pub now: Moment,
     /// How many connections are still to be served.
     pub left: u64,
-    /// The fault of a connection that isn't told yet. Until it is told, nothing is decided.
+    /// The fault of a connection that isn't reported yet. Until it is reported, nothing is decided.
     pub fault: Option<EdgeFault>,
     /// The refreshes that were granted a short time ago.
     pub repeats: Repeats,
@@ -42,7 +42,7 @@ ghost use Rattle.tokend.specs.Decisions.{IsUnread, Seals};
 ghost use Rattle.tokend.specs.Repeating.{IsCome};
 ghost use Rattle.tokend.specs.Serving.{connection_fault};
 ghost use Rattle.tokend.specs.Telling.{Writer, Writes, writer_of};
-ghost use Rattle.tokend.specs.Turns.{Goes, ToldOf};
+ghost use Rattle.tokend.specs.Turns.{Goes, ReportsOf};
 ghost use Rattle.tokend.specs.declared.server.Server.{Server as AnyServer};
 
 use crate::draw::draw;
@@ -345,10 +345,11 @@ impl Server {
         self.left -= 1;
     }
 
-    /// Tells the fault of the last connection that was decided, if it had one.
+    /// Writes the line of the fault of the last connection that was decided. Returns whether it had
+    /// one.
     pub(crate) fn tell<F: Sink>(&mut self, faults: &mut F) -> bool
         ensures fault { self.new ≡ record self.old { fault = None } }
-        ensures told { ToldOf self.old.fault (writer_of F.holds F.failed faults.old)
+        ensures told { ReportsOf self.old.fault (writer_of F.holds F.failed faults.old)
             (writer_of F.holds F.failed faults.new) }
     {
         match self.fault {

@@ -6,7 +6,7 @@ ghost use Rattle.tk_handle.specs.Ranges.{IsMoment, IsRegion};
 ghost use Rattle.tk_region.specs.SettingsFields.{IsSettings};
 ghost use Rattle.tokend.specs.CommandLine.{settings_of};
 ghost use Rattle.tokend.specs.Serving.{IsSeedFault};
-ghost use Rattle.tokend.specs.Starting.{IsStart, IsToldAs, LoadsFile, LoadsOld, PrunesOld};
+ghost use Rattle.tokend.specs.Starting.{IsStart, IsReportedAs, LoadsFile, LoadsOld, PrunesOld};
 ghost use Rattle.tokend.specs.declared.fault.Fault.TheVariants as fault;
 
 use crate::draw::generator;
@@ -31,9 +31,9 @@ pub(crate) fn begin<I: Read + Drop, L: Sink, D: Folder<I, L>>(
     requires settings { IsSettings (settings_of service.now.numbers) }
     requires region { IsRegion service.now.region }
     ensures start { IfOk result (λ server. IsStart service.now server.edge server.words) }
-    ensures fault { IfErr result (IsSeedFault (string_bytes service.now.seed)) }
+    ensures fault { IfErr result (IsSeedFault (string_bytes service.now.files.seed)) }
 {
-    match read_seed(alloc, folder, &service.seed) {
+    match read_seed(alloc, folder, &service.files.seed) {
         Ok(seed) => {
             let number = RegionNumber::new(service.region).unwrap();
             let settings = service.numbers.settings().with_choices(service.choices);
@@ -111,7 +111,7 @@ fn load_file<I: Read + Drop, L: Sink, D: Folder<I, L>>(
 
 // Returns the program's result of loading the log of this name.
 fn told(alloc: Global, path: &str, loaded: Result<u64, LoadFault>) -> Result<u64, Fault>
-    ensures { IsToldAs path.now loaded result }
+    ensures { IsReportedAs path.now loaded result }
 {
     match loaded {
         Ok(dropped) => Ok(dropped),

@@ -156,7 +156,7 @@ fn turn<R: AllocGlobal + Clock, L: Sink, F: Sink>(
     tell_losses(connections, server, log, faults);
 }
 
-// Tells what was lost of connections.
+// Writes the lines of lost connections, and counts them.
 fn tell_losses<L: Sink, F: Sink>(
     connections: &mut Connections,
     server: &mut Server,

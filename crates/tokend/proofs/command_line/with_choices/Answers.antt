@@ -1,6 +1,6 @@
 use Rattle.std.proofs.Common.{rules}
 use Rattle.clap.specs.Words.{app_of}
-use Rattle.tokend.specs.CommandLine.{choice_rule}
+use Rattle.tokend.specs.Rules.{choice_rule}
 use Rattle.tokend.proofs.Commands.{choice_more}
 use Rattle.tokend.proofs.command_line.with_choices.Goals as goal
 

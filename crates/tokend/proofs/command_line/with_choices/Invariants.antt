@@ -1,7 +1,7 @@
 use Rattle.std.proofs.Common.{◌≡◌, false, take, map}
 use Rattle.clap.specs.Words.{app_of}
 use Rattle.clap.specs.declared.builder.command.Command.TheViews.{out-Command}
-use Rattle.tokend.specs.CommandLine.{choice_rule, with_rules}
+use Rattle.tokend.specs.Rules.{choice_rule, with_rules}
 use Rattle.tokend.proofs.command_line.with_choices.Given as goal
 
 abbrev pub invariant-loop-choice : goal.invariant-loop-choice

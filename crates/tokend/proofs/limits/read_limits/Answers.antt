@@ -1,0 +1,12 @@
+use Rattle.std.proofs.Common.{rules}
+use Rattle.tokend.proofs.limits.read_limits.Goals as goal
+
+pub returns : goal.returns
+returns c = record {
+  requests = search rules;
+  endless = search rules;
+  keep = search rules;
+  unkept = search rules;
+  repeat = search rules;
+  unrepeated = search rules;
+}
