@@ -1,5 +1,5 @@
 -- The judgement of an administration request: the cases of each endpoint, in their order (own;
--- RFC 6749, 2 and 3.3).
+-- RFC 6749, 2 for clients, 3.3 for scopes).
 --   registered_of     POST /admin/client
 --   shown_of          GET /admin/client
 --   retired_of        POST /admin/retire
@@ -95,22 +95,22 @@ abbrev pub public_kind : Option (List ℕ) → Result ClientKind AdminRefusal
 public_kind None = Ok Public
 public_kind (Some secret) = Err UnwantedSecret
 
--- the digest of a required secret: facts keep the digest alone
+-- the digest of a required secret: facts keep the digest alone (own)
 abbrev pub digest_asked : Option (List ℕ) → Result (List ℕ) AdminRefusal
 digest_asked None = Err MissingSecret
 digest_asked (Some secret) = if is_secret secret then Ok (sha256 secret) else Err MalformedSecret
 
--- the kind of a confidential client, with the digest of its secret
+-- the kind of a confidential client, with the digest of its secret (RFC 6749, 2.1)
 abbrev pub confidential_kind : Result (List ℕ) AdminRefusal → Result ClientKind AdminRefusal
 confidential_kind (Err why) = Err why
 confidential_kind (Ok digest) = Ok (Confidential digest)
 
--- the kind of a resource server, with the digest of its secret
+-- the kind of a resource server, with the digest of its secret (own)
 abbrev pub resource_kind : Result (List ℕ) AdminRefusal → Result ClientKind AdminRefusal
 resource_kind (Err why) = Err why
 resource_kind (Ok digest) = Ok (Resource digest)
 
--- a client's kind by its name, with the digest of the secret if the kind has one
+-- a client's kind by its name, with the digest of the secret if the kind has one (own)
 abbrev pub client_kind_asked : List ℕ → Option (List ℕ) → Result ClientKind AdminRefusal
 client_kind_asked kind secret =
     if bytes_eq kind (codes "public") then public_kind secret
@@ -118,33 +118,36 @@ client_kind_asked kind secret =
     else if bytes_eq kind (codes "resource") then resource_kind (digest_asked secret)
     else Err UnknownKind
 
--- the byte between two redirection URIs
+-- the byte between two redirection URIs (own)
 abbrev pub is_space : ℕ → Bool
 is_space b = b == 32
 
--- the redirection URIs, if the list may be registered: `Chosen` refuses more of them
+-- the redirection URIs, if the list may be registered: `Chosen` refuses more of them (RFC 6749,
+-- 3.1.2.2)
 abbrev pub registered : List (List ℕ) → Option (List (List ℕ))
 registered uris = if is_none (client_refusal uris) then Some uris else None
 
--- the judgement of a new client by its redirection URIs, which must be a list to be registered
+-- the judgement of a new client by its redirection URIs, which must be a list to be registered (RFC
+-- 6749, 3.1.2.2)
 abbrev pub registered_to : ClientKind → List ℕ → Option (List (List ℕ)) → Administered
 registered_to client_kind scope None = Refused BadRedirects
 registered_to client_kind scope (Some uris) =
     Registers (record { client_kind = client_kind; scope = scope; redirects = uris })
 
--- the judgement of a new client by its scope, which must be readable
+-- the judgement of a new client by its scope, which must be readable (RFC 6749, 3.3)
 abbrev pub registered_with : ClientKind → Option (List ℕ) → List ℕ → Administered
 registered_with client_kind None redirects = Refused MalformedScope
 registered_with client_kind (Some scope) redirects =
     registered_to client_kind scope (registered (slice_split is_space redirects))
 
--- the judgement of a new client by its kind and secret
+-- the judgement of a new client by its kind and secret (own; RFC 6749, 2)
 abbrev pub registered_as : Result ClientKind AdminRefusal → List ℕ → List ℕ → Administered
 registered_as (Err why) scope redirects = Refused why
 registered_as (Ok client_kind) scope redirects =
     registered_with client_kind (scope_of scope) redirects
 
 -- the judgement of a new client by its parameters: kind, scope and redirection URIs are required
+-- (own; RFC 6749, 2)
 abbrev pub registered_by : Option (List ℕ) → Option (List ℕ) → Option (List ℕ) → Option (List ℕ)
     → Administered
 registered_by None scope redirects secret = Refused MissingParameter
@@ -153,11 +156,12 @@ registered_by (Some kind) (Some scope) None secret = Refused MissingParameter
 registered_by (Some kind) (Some scope) (Some redirects) secret =
     registered_as (client_kind_asked kind secret) scope redirects
 
--- the names of the parameters that POST /admin/client knows
+-- the names of the parameters that POST /admin/client knows (own)
 abbrev pub registration_names : List (List ℕ)
 registration_names = codes "kind" ∷ codes "secret" ∷ codes "scope" ∷ codes "redirects" ∷ []
 
--- the judgement of POST /admin/client: no parameter that the endpoint knows may occur twice
+-- the judgement of POST /admin/client: no parameter that the endpoint knows may occur twice (own;
+-- RFC 6749, 2)
 abbrev pub registered_of : Pairs → Administered
 registered_of params =
     if has_twice registration_names params then Refused DuplicateParameter
@@ -166,27 +170,27 @@ registered_of params =
 
 -- ---- the client that an id names: show it, retire it
 
--- the dot of a client id, or a refusal if the text is no client id
+-- the dot of a client id, or a refusal if the text is no client id (own)
 abbrev pub client_by : Option Dot → Result Dot AdminRefusal
 client_by None = Err UnknownClient
 client_by (Some d) = Ok d
 
--- the dot of a required client id
+-- the dot of a required client id (own)
 abbrev pub client_asked : Option (List ℕ) → Result Dot AdminRefusal
 client_asked None = Err MissingParameter
 client_asked (Some id) = client_by (client_in id)
 
--- the names of the parameters that GET /admin/client and POST /admin/retire know
+-- the names of the parameters that GET /admin/client and POST /admin/retire know (own)
 abbrev pub client_names : List (List ℕ)
 client_names = codes "client_id" ∷ []
 
--- the dot of the client id in the parameters, which must not occur twice
+-- the dot of the client id in the parameters, which must not occur twice (own)
 abbrev pub client_named : Pairs → Result Dot AdminRefusal
 client_named params =
     if has_twice client_names params then Err DuplicateParameter
     else client_asked (value_of (codes "client_id") params)
 
--- the judgement that shows the client at the dot, if one was added there
+-- the judgement that shows the client at the dot, if one was added there (own)
 abbrev pub shown_at : Dot → Option ClientFields → Administered
 shown_at d None = Refused UnknownClient
 shown_at d (Some client) =
@@ -197,26 +201,26 @@ shown_at d (Some client) =
       scope = client.scope;
     })
 
--- the judgement that shows the client of an id
+-- the judgement that shows the client of an id (own)
 abbrev pub shown_by : FactSet → Result Dot AdminRefusal → Administered
 shown_by F (Err why) = Refused why
 shown_by F (Ok d) = shown_at d (client_view F d)
 
--- the judgement of GET /admin/client
+-- the judgement of GET /admin/client (own)
 abbrev pub shown_of : FactSet → Pairs → Administered
 shown_of F params = shown_by F (client_named params)
 
--- the judgement that retires the client at the dot, if one was added there
+-- the judgement that retires the client at the dot, if one was added there (own)
 abbrev pub retired_at : Dot → Option ClientFields → Administered
 retired_at d None = Refused UnknownClient
 retired_at d (Some client) = Retires d client.live
 
--- the judgement that retires the client of an id
+-- the judgement that retires the client of an id (own)
 abbrev pub retired_by : FactSet → Result Dot AdminRefusal → Administered
 retired_by F (Err why) = Refused why
 retired_by F (Ok d) = retired_at d (client_view F d)
 
--- the judgement of POST /admin/retire
+-- the judgement of POST /admin/retire (own)
 abbrev pub retired_of : FactSet → Pairs → Administered
 retired_of F params = retired_by F (client_named params)
 
@@ -228,25 +232,25 @@ consented_for client subject None = Refused WrongScope
 consented_for client subject (Some scope) =
     Consents (record { client = client; subject = subject; scope = scope })
 
--- the judgement of a new consent by its subject, which must be the name of one
+-- the judgement of a new consent by its subject, which must be the name of one (own)
 abbrev pub consented_as : Dot → List ℕ → List ℕ → List ℕ → Administered
 consented_as client whole subject scope =
     if is_subject subject then consented_for client subject (scope_asked whole (Some scope))
     else Refused MalformedSubject
 
--- the judgement of a new consent by its client, which must be live
+-- the judgement of a new consent by its client, which must be live (own)
 abbrev pub consented_at : Dot → List ℕ → List ℕ → Option ClientFields → Administered
 consented_at client subject scope None = Refused UnknownClient
 consented_at client subject scope (Some view) =
     if view.live then consented_as client view.scope subject scope else Refused UnknownClient
 
--- the judgement of a new consent by the client's id, which must be one
+-- the judgement of a new consent by the client's id, which must be one (own)
 abbrev pub consented_to : FactSet → List ℕ → List ℕ → Option Dot → Administered
 consented_to F subject scope None = Refused UnknownClient
 consented_to F subject scope (Some client) =
     consented_at client subject scope (client_view F client)
 
--- the judgement of a new consent by its parameters: client, subject and scope are required
+-- the judgement of a new consent by its parameters: client, subject and scope are required (own)
 abbrev pub consented_by : FactSet → Option (List ℕ) → Option (List ℕ) → Option (List ℕ)
     → Administered
 consented_by F None subject scope = Refused MissingParameter
@@ -254,11 +258,11 @@ consented_by F (Some id) None scope = Refused MissingParameter
 consented_by F (Some id) (Some subject) None = Refused MissingParameter
 consented_by F (Some id) (Some subject) (Some scope) = consented_to F subject scope (client_in id)
 
--- the names of the parameters that POST /admin/consent knows
+-- the names of the parameters that POST /admin/consent knows (own)
 abbrev pub consent_names : List (List ℕ)
 consent_names = codes "client_id" ∷ codes "subject" ∷ codes "scope" ∷ []
 
--- the judgement of POST /admin/consent: no parameter that the endpoint knows may occur twice
+-- the judgement of POST /admin/consent: no parameter that the endpoint knows may occur twice (own)
 abbrev pub consented_of : FactSet → Pairs → Administered
 consented_of F params =
     if has_twice consent_names params then Refused DuplicateParameter
@@ -267,26 +271,26 @@ consented_of F params =
 
 -- ---- withdraw a consent
 
--- the judgement that withdraws the consent at the dot, if one was given there
+-- the judgement that withdraws the consent at the dot, if one was given there (own)
 abbrev pub withdrawn_at : Dot → Option ConsentFields → Administered
 withdrawn_at d None = Refused UnknownConsent
 withdrawn_at d (Some consent) = Withdraws d consent.live
 
--- the judgement of a withdrawal by the consent's id, which must be one
+-- the judgement of a withdrawal by the consent's id, which must be one (own)
 abbrev pub withdrawn_to : FactSet → Option Dot → Administered
 withdrawn_to F None = Refused UnknownConsent
 withdrawn_to F (Some d) = withdrawn_at d (consent_view F d)
 
--- the judgement of a withdrawal by the consent's id, which is required
+-- the judgement of a withdrawal by the consent's id, which is required (own)
 abbrev pub withdrawn_by : FactSet → Option (List ℕ) → Administered
 withdrawn_by F None = Refused MissingParameter
 withdrawn_by F (Some id) = withdrawn_to F (consent_in id)
 
--- the names of the parameters that POST /admin/withdraw knows
+-- the names of the parameters that POST /admin/withdraw knows (own)
 abbrev pub withdrawal_names : List (List ℕ)
 withdrawal_names = codes "consent_id" ∷ []
 
--- the judgement of POST /admin/withdraw: the id must not occur twice
+-- the judgement of POST /admin/withdraw: the id must not occur twice (own)
 abbrev pub withdrawn_of : FactSet → Pairs → Administered
 withdrawn_of F params =
     if has_twice withdrawal_names params then Refused DuplicateParameter
@@ -294,27 +298,27 @@ withdrawn_of F params =
 
 -- ---- sign a subject out everywhere
 
--- the judgement that signs the subject out, unless a sign-out at the moment or later is held
+-- the judgement that signs the subject out, unless a sign-out at the moment or later is held (own)
 abbrev pub signed_out_at : FactSet → ℕ → List ℕ → Administered
 signed_out_at F now subject =
     if is_signed_out F subject now then AlreadyOut subject
     else SignsOut (record { subject = subject; moment = now })
 
--- the judgement of a sign-out by its subject, which must be the name of one
+-- the judgement of a sign-out by its subject, which must be the name of one (own)
 abbrev pub signed_out_as : FactSet → ℕ → List ℕ → Administered
 signed_out_as F now subject =
     if is_subject subject then signed_out_at F now subject else Refused MalformedSubject
 
--- the judgement of a sign-out by the subject's parameter, which is required
+-- the judgement of a sign-out by the subject's parameter, which is required (own)
 abbrev pub signed_out_by : FactSet → ℕ → Option (List ℕ) → Administered
 signed_out_by F now None = Refused MissingParameter
 signed_out_by F now (Some subject) = signed_out_as F now subject
 
--- the names of the parameters that POST /admin/signout knows
+-- the names of the parameters that POST /admin/signout knows (own)
 abbrev pub sign_out_names : List (List ℕ)
 sign_out_names = codes "subject" ∷ []
 
--- the judgement of POST /admin/signout: the subject must not occur twice
+-- the judgement of POST /admin/signout: the subject must not occur twice (own)
 abbrev pub signed_out_of : FactSet → ℕ → Pairs → Administered
 signed_out_of F now params =
     if has_twice sign_out_names params then Refused DuplicateParameter
@@ -322,7 +326,7 @@ signed_out_of F now params =
 
 -- ---- by the endpoint
 
--- the judgement by the endpoint and the parameters
+-- the judgement by the endpoint and the parameters (own)
 abbrev pub administered_at : Endpoint → FactSet → ℕ → Pairs → Administered
 administered_at endpoint.Authorize F now params = Refused UnknownEndpoint
 administered_at endpoint.Token F now params = Refused UnknownEndpoint
@@ -335,6 +339,6 @@ administered_at endpoint.Consent F now params = consented_of F params
 administered_at endpoint.Withdraw F now params = withdrawn_of F params
 administered_at endpoint.SignOut F now params = signed_out_of F now params
 
--- the judgement of an administration request
+-- the judgement of an administration request (own)
 abbrev pub administered_of : FactSet → ℕ → RequestFields → Administered
 administered_of F now request = administered_at request.endpoint F now request.params

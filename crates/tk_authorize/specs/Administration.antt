@@ -49,7 +49,7 @@ use Rattle.tk_authorize.specs.declared.administered.Administered.TheVariants.{
 use Rattle.tk_authorize.specs.Administered.{administered_of}
 use Rattle.tk_authorize.specs.Chosen.{chosen}
 
--- the error code of a refusal
+-- the error code of a refusal (own)
 abbrev pub code_of : AdminRefusal → ErrorCode
 code_of refusal.DuplicateParameter = InvalidRequest
 code_of refusal.MissingParameter = InvalidRequest
@@ -65,26 +65,26 @@ code_of refusal.WrongScope = InvalidScope
 code_of refusal.UnknownConsent = NotFound
 code_of refusal.UnknownEndpoint = NotFound
 
--- a client is added, and gets the id of the next dot
+-- a client is added, and gets the id of the next dot (own; RFC 6749, 2)
 abbrev pub decided_registered : Place → added.ClientAdded → Decision
 decided_registered place client = record {
   reply = json_reply status.Created (client_body (next_in place));
   made = Some (ClientAdded client);
 }
 
--- a client is shown
+-- a client is shown (own)
 abbrev pub decided_shown : ShownClient → Decision
 decided_shown client = answered
     (json_reply status.Ok (shown_body client.client client.client_kind client.live client.scope))
 
--- a client is retired. A client that is not live makes no fact
+-- a client is retired. A client that is not live makes no fact (own)
 abbrev pub decided_retired : Dot → Bool → Decision
 decided_retired client live = record {
   reply = json_reply status.Ok (client_body client);
   made = if live then Some (ClientRetired (record { client = client })) else None;
 }
 
--- a consent is given, and gets the id of the next dot
+-- a consent is given, and gets the id of the next dot (own)
 abbrev pub decided_consented : Place → given.ConsentGiven → Decision
 decided_consented place consent =
     record {
@@ -92,25 +92,25 @@ decided_consented place consent =
       made = Some (ConsentGiven consent);
     }
 
--- a consent that is held and good serves: no fact is made
+-- a consent that is held and good serves: no fact is made (own)
 abbrev pub decided_held : Dot → Decision
 decided_held consent = answered (json_reply status.Ok (consent_body consent))
 
--- a consent is withdrawn. A consent that is not live makes no fact
+-- a consent is withdrawn. A consent that is not live makes no fact (own)
 abbrev pub decided_withdrawn : Dot → Bool → Decision
 decided_withdrawn consent live = record {
   reply = json_reply status.Ok (consent_body consent);
   made = if live then Some (ConsentWithdrawn (record { consent = consent })) else None;
 }
 
--- a subject is signed out
+-- a subject is signed out (own)
 abbrev pub decided_out : out.SubjectOut → Decision
 decided_out sign_out = record {
   reply = json_reply status.Ok (subject_body sign_out.subject);
   made = Some (SubjectOut sign_out);
 }
 
--- the decision by a judgement. A subject that is signed out already makes no fact
+-- the decision by a judgement. A subject that is signed out already makes no fact (own)
 abbrev pub administered_by : Place → Administered → Decision
 administered_by place (Refused why) = refused (code_of why)
 administered_by place (Registers client) = decided_registered place client
@@ -122,7 +122,7 @@ administered_by place (Withdraws consent live) = decided_withdrawn consent live
 administered_by place (AlreadyOut subject) = answered (json_reply status.Ok (subject_body subject))
 administered_by place (SignsOut sign_out) = decided_out sign_out
 
--- the decision of an administration request
+-- the decision of an administration request (own)
 abbrev pub administration_of : FactSet → Place → ℕ → RequestFields → Decision
 administration_of F place now request =
     administered_by place (chosen F place.choices (administered_of F now request))

@@ -1,5 +1,5 @@
 -- Approvals: what a code is issued for, or why the request is denied (RFC 6749, 4.1.1 and 4.1.2.1).
---   approval_of   the scope and challenge asked for, with the subject and consent; or a denial
+--   approval_of   the scope and challenge requested, with the subject and consent; or a denial
 use Rattle.std.specs.Prelude.{ℕ, if◌then◌else◌, List, Option, Some, None, Result, Ok, Err}
 use Rattle.tk_handle.specs.declared.dot.Dot.{Dot}
 use Rattle.tk_fact.specs.Subject.{is_subject}
@@ -31,7 +31,7 @@ approval_by_subject F client asked (Some subject) =
     (consent_for F client subject asked.scope)
     else Err denial.MalformedSubject
 
--- the approval of what the parameters ask for. A denial for the parameters comes before others
+-- the approval of what the parameters request. A denial for the parameters comes before others
 abbrev pub approval_of : FactSet → Dot → Option (List ℕ) → Result Asked Denial
     → Result Approval Denial
 approval_of F client subject (Err why) = Err why

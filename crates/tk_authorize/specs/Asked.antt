@@ -1,4 +1,4 @@
--- What the parameters of an authorisation request ask for (RFC 6749, 4.1.1 and 4.1.2.1).
+-- What is requested by the parameters of an authorisation request (RFC 6749, 4.1.1 and 4.1.2.1).
 --   asked_of       the scope and the challenge, or the first denial that holds
 --   is_state       a state, if there is one, may be sent back
 --   is_printable   a byte may be in a state
@@ -38,7 +38,7 @@ abbrev pub asked_with : List ℕ → Result (Option ChallengeFields) Denial → 
 asked_with scope (Err why) = Err why
 asked_with scope (Ok challenge) = Ok (record { scope = scope; challenge = challenge })
 
--- what the parameters ask for, by the scope, which must be within the client's (RFC 6749, 3.3)
+-- what the parameters request, by the scope, which must be within the client's (RFC 6749, 3.3)
 abbrev pub asked_by_scope : ChallengeRules → ClientKind → Pairs → Option (List ℕ)
     → Result Asked Denial
 asked_by_scope rules client_kind params None = Err denial.WrongScope
@@ -47,8 +47,8 @@ asked_by_scope rules client_kind params (Some scope) =
     (challenge_sent rules client_kind (value_of (codes "code_challenge_method") params)
     (value_of (codes "code_challenge") params))
 
--- what the parameters ask for, by the response type, which must be `code` (RFC 6749, 3.1.1). A
--- request without a scope asks for the client's whole scope (RFC 6749, 3.3)
+-- what the parameters request, by the response type, which must be `code` (RFC 6749, 3.1.1). A
+-- request without a scope is one for the client's whole scope (RFC 6749, 3.3)
 abbrev pub asked_by_type : ChallengeRules → ClientKind → List ℕ → Pairs → Option (List ℕ)
     → Result Asked Denial
 asked_by_type rules client_kind whole params None = Err denial.MissingResponseType
@@ -74,7 +74,7 @@ other_names =
     codes "response_type" ∷ codes "scope" ∷ codes "state" ∷ codes "code_challenge"
     ∷ codes "code_challenge_method" ∷ []
 
--- what the parameters ask for. None of them may occur twice (RFC 6749, 3.1), and the state must be
+-- what the parameters request. No parameter may occur twice (RFC 6749, 3.1), and the state must be
 -- one that may be sent back
 abbrev pub asked_of : ChallengeRules → ClientKind → List ℕ → Pairs → Result Asked Denial
 asked_of rules client_kind whole params =

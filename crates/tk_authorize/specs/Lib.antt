@@ -2,7 +2,7 @@
 --   Refusal         refusal_code, the code of an error in place
 --   Denial          denial_code, the code of an error at the client's URI
 --   Challenge       challenge_sent, the challenge that a request sends
---   Asked           asked_of, the scope and challenge that a request asks for
+--   Asked           asked_of, the scope and challenge that are requested
 --   Approval        approval_of, what a code is issued for
 --   Judged          judged_of, the cases of a request in their order
 --   Authorization   authorization_of, the decision of a request

@@ -23,7 +23,7 @@ pub(crate) struct Approval {
     pub(crate) challenge: Option<Challenge>,
 }
 
-// Returns the approval of what a client asks for, if the subject that has signed in consented to
+// Returns the approval of what a client requests, if the subject that has signed in consented to
 // it.
 pub(crate) fn approve(
     alloc: Global,
@@ -41,7 +41,7 @@ pub(crate) fn approve(
     }
 }
 
-// Approves what a client asks for, if there is a subject that consented to it.
+// Approves what a client requests, if there is a subject that consented to it.
 fn approve_by_subject(
     alloc: Global,
     ledger: &Ledger,
@@ -71,7 +71,7 @@ fn approve_by_subject(
     }
 }
 
-// Approves what a client asks for, if there is a consent.
+// Approves what a client requests, if there is a consent.
 fn approval_by_consent(
     subject: Subject,
     asked: Asked,

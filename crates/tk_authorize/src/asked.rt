@@ -1,4 +1,4 @@
-//! The scope and challenge that the parameters of an authorisation request ask for.
+//! The scope and challenge that are requested by the parameters of an authorisation request.
 
 ghost use Rattle.std.specs.Prelude.{◌≡◌, IfOk};
 ghost use Rattle.std.specs.List.{list_all};
@@ -14,14 +14,14 @@ use tk_match::Challenge;
 use tk_message::{ChallengeRules, Params, scope_asked};
 use tk_scope::Scope;
 
-// The scope and challenge that a code is asked for.
+// The scope and challenge with which a code is requested.
 #[derive(Drop)]
 pub(crate) struct Asked {
     pub(crate) scope: Scope,
     pub(crate) challenge: Option<Challenge>,
 }
 
-// Returns what the parameters ask for, or the first denial that holds. `whole` is the client's
+// Returns what the parameters request, or the first denial that holds. `whole` is the client's
 // scope, `rules` are those of challenges.
 pub(crate) fn find_asked(
     alloc: Global,
@@ -80,7 +80,7 @@ fn is_all_printable(bytes: &[u8]) -> bool
     bytes.iter().all(|b| (0x20..=0x7e).contains(b))
 }
 
-// Returns what the parameters ask for, by the response type.
+// Returns what the parameters request, by the response type.
 fn ask_by_type(
     alloc: Global,
     rules: ChallengeRules,
@@ -102,7 +102,7 @@ fn ask_by_type(
     Ok(Err(Denial::UnsupportedResponseType))
 }
 
-// Returns what the parameters ask for, by their scope.
+// Returns what the parameters request, by their scope.
 fn ask_by_scope(
     alloc: Global,
     rules: ChallengeRules,

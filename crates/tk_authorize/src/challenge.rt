@@ -10,7 +10,7 @@ use tk_fact::ClientKind;
 use tk_match::{Challenge, ChallengeError};
 use tk_message::ChallengeRules;
 
-// Returns the challenge, None if the client may do without, or the first denial that holds.
+// Returns the challenge, `None` if the client may do without, or the first denial that holds.
 pub(crate) fn find_challenge(
     alloc: Global,
     rules: ChallengeRules,

@@ -185,7 +185,7 @@ fn register_with(
     }
 }
 
-// Reads redirection URIs between single spaces, None if the list may not be registered.
+// Reads redirection URIs between single spaces, `None` if the list may not be registered.
 fn split_redirects(alloc: Global, text: &str) -> Result<Option<Redirects>, AllocError>
     ensures { IfOk result (λ redirects.
         redirects ≡ spec.registered (slice_split spec.is_space text.now)) }
@@ -202,7 +202,7 @@ fn split_spaces(alloc: Global, text: &[u8]) -> Result<Vec<&[u8]>, AllocError>
     text.split(|b| *b == b' ').collect(alloc)
 }
 
-// Reads a list of redirection URIs, None if the list may not be registered.
+// Reads a list of redirection URIs, `None` if the list may not be registered.
 #[tactic(auto, using(crate::proofs::RegistrationLaws::registered_list, crate::proofs::RegistrationLaws::unregistered_list))]
 fn read_redirects(alloc: Global, uris: &[&[u8]]) -> Result<Option<Redirects>, AllocError>
     ensures { IfOk result (λ redirects. redirects ≡ spec.registered (map (λ x. x.now) uris.now)) }

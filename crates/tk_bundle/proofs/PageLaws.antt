@@ -155,7 +155,7 @@ ascends_sorted (e ∷ es) sorted = let s = both _ _ sorted in ascends_above e.0 
 
 -- ---- a page in bytes
 
--- the newest kind tells whether a mark is among the items
+-- the newest kind shows whether a mark is among the items
 horizon_is : (horizon : ℕ) (items : Items) → horizon_by (newest_kind 0 items) horizon ≡ horizon_with horizon items
 horizon_is horizon items = ap (λ t. cond t (Some horizon) None) (mark_told items)
 

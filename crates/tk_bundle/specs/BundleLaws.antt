@@ -1,4 +1,4 @@
--- A bundle's bytes are read as that bundle alone. Key results:
+-- A bundle's bytes are read as that bundle alone (own). Key results:
 --   bundle_exact     a bundle has one spelling
 --   one_front        no bundle's bytes begin those of another bundle
 --   versions_tell    a bundle's first four bytes show whether marks and sign-outs are inside

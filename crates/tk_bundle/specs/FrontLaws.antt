@@ -1,4 +1,4 @@
--- The walk over the lengths of a bundle at the front of bytes. Key results:
+-- The walk over the lengths of a bundle at the front of bytes (own). Key results:
 --   walk_more, walk_fail, walk_done   one step of the walk over items
 --   walk_ends      the walk leaves the end of the bytes
 --   walk_bundle    a bundle at the front is walked over
@@ -72,6 +72,7 @@ bind_ok : {A B : Type 0} (r : Result A FrontError) (f : A → Result B FrontErro
 bind_ok (Ok x) f y e = (x, refl, e)
 bind_ok (Err d) f y e = absurd cc
 
+-- a step of the walk that succeeds with x
 abbrev walked : {A : Type 0} → A → Result A FrontError
 walked x = Ok x
 
@@ -123,10 +124,11 @@ many_end (suc n) bytes rest fits e =
     let first = skipped_ends bytes a.0 fits a.1 in
     Ends-then bytes first.0 a.0 rest first.1 (many_end n a.0 rest first.1.rest_fits a.2)
 
--- the walk behind the header, and behind the opening
+-- the walk behind the header
 abbrev counted_rest : (List ℕ × ℕ) × List ℕ → Result (List ℕ) FrontError
 counted_rest h = malformed_if (ltb max_items h.0.1) (skipped_many h.0.1 h.1)
 
+-- the walk behind the opening
 abbrev opened : (List ℕ × ℕ) × List ℕ → Result (List ℕ) FrontError
 opened f = malformed_if (not (bytes_eq f.0.0 magic)) (malformed_if (not (is_version f.0.1))
     (or_cut ((header f.0.1).read f.1) >>= counted_rest))

@@ -1,4 +1,4 @@
--- The version of items is in the table, and shows which kinds are among them. Key results:
+-- The version of items is in the table, and shows which kinds are among them (own). Key results:
 --   version_known   the version of items is in the table: every kind has a version
 --   version_tells   the digit is 3 if one of the items is a mark, otherwise 2 if one is a sign-out,
 --                   otherwise 1

@@ -54,7 +54,7 @@ impl Bundle {
     }
 
     /// Returns the horizon: of a bundle with a mark, the moment up to which its sender skipped
-    /// facts of families that are over; None of a bundle of facts alone.
+    /// facts of families that are over; `None` of a bundle of facts alone.
     pub fn horizon(&self) -> Option<Moment>
         ensures { result ≡ self.now.horizon }
     {

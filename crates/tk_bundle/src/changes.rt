@@ -20,8 +20,9 @@ use tk_handle::Moment;
 use tk_store::{FactStore, SlotRef};
 
 /// Returns the record of a bundle in the log of a store that is about to take the bundle in: the
-/// bundle without the facts at skipped dots, which the store drops. Returns None if the bundle
+/// bundle without the facts at skipped dots, which the store drops. Returns `None` if the bundle
 /// changes nothing: it raises no horizon, has no unknown dot, and no mark of a fact that is held.
+/// Returns an error, and no part of a record, if memory runs out.
 pub fn news(alloc: Global, store: &FactStore, sent: &Bundle) -> Result<Option<Vec<u8>>, AllocError>
     requires { bundle.Fits sent.now }
     ensures news { IfOk result (λ news. option_map (λ bytes. bytes.items) news

@@ -25,6 +25,8 @@ const HORIZON_BYTES: usize = 8;
 /// takes.
 ///
 /// The lengths are walked over before any item is read. Bytes behind the bundle are not looked at.
+/// Returns `Cut` if the bytes end before the walk does, `Malformed` if they are not the beginning
+/// of a bundle, and `Memory` if memory runs out while the items are read.
 pub fn read_front(alloc: Global, bytes: &[u8]) -> Result<(Bundle, usize), FrontError>
     // An error of the walk over the lengths is the result. No other bytes are `Cut`.
     ensures walked { (e : AnyError) → walk bytes.now ≡ Err e → result ≡ Err e }

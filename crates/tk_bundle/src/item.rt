@@ -63,7 +63,7 @@ impl Item {
         }
     }
 
-    /// Returns the item's fact, or None if the item is a mark.
+    /// Returns the item's fact, or `None` if the item is a mark.
     pub fn into_fact(self) -> Option<Fact>
         ensures { result ≡ fact_of self }
     {

@@ -9,7 +9,7 @@
 //! - `single` writes a record of a log, the bundle of one fact, and `news` that of a bundle that is
 //!   taken in: what a store doesn't drop of it, if the bundle changes the store.
 //! - `Bundle::read` reads bytes that may be hostile. `read_front` reads the first bundle of many,
-//!   and tells apart bytes that end too early and bytes that are no bundle.
+//!   and has one error for bytes that end too early and another for bytes that are no bundle.
 //!
 //! A bundle has the first version that has all of its items: `OTB3` if one of them is a mark,
 //! otherwise `OTB2` if one is a sign-out, otherwise `OTB1` (`versions_told`).

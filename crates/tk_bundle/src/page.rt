@@ -41,7 +41,8 @@ use tk_vector::VersionVector;
 /// that the vector does not cover. A page with a mark has the store's horizon.
 ///
 /// If more follow, the next page is the one with the last dot as its cursor. Dots that the vector
-/// covers are passed over without a walk.
+/// covers are passed over without a walk. Returns an error, and no part of a page, if memory runs
+/// out.
 pub fn make(
     alloc: Global,
     store: &FactStore,
@@ -215,7 +216,8 @@ pub(crate) fn write_mark(dot: Dot, writer: &mut Writer) -> Result<(), AllocError
     dot.write(writer)
 }
 
-/// Writes the bundle of one fact that passes its check: a record of a log.
+/// Writes the bundle of one fact that passes its check: a record of a log. Returns an error, and no
+/// part of a record, if memory runs out.
 pub fn single(alloc: Global, fact: &Fact) -> Result<Vec<u8>, AllocError>
     requires { refusal_of fact.now.1 ≡ None }
     ensures spelled { IfOk result (λ bytes. bytes.items ≡ bundle_bytes (of_facts

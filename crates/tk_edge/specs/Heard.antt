@@ -29,7 +29,7 @@ use Rattle.tk_edge.specs.declared.reach.Reach.{Reach}
 use Rattle.tk_edge.specs.declared.reach.PathSet.TheVariants.{Admin, All}
 use Rattle.tk_edge.specs.declared.refusal.Refusal.TheVariants.{NoHead, ShortBody}
 
--- the request for an endpoint, with its form and the fields that a decision reads
+-- the request for an endpoint, with its form and the fields that a decision reads (own)
 abbrev pub request_at : Endpoint → List ℕ → Pairs → RequestFields
 request_at endpoint form pairs = record {
   endpoint = endpoint;
@@ -38,13 +38,13 @@ request_at endpoint form pairs = record {
   subject = only (subject_in pairs);
 }
 
--- the meaning of a whole body, by its use
+-- the meaning of a whole body, by its use (own)
 abbrev pub posted_to : Posted → List ℕ → Pairs → Arrival
 posted_to (Form endpoint) body pairs = Request (request_at endpoint body pairs)
 posted_to Pull body pairs = Exchange (exchange.Pull body)
 posted_to Push body pairs = Exchange (exchange.Push body)
 
--- the meaning of a head that was judged: the query of a GET, or the body of a POST
+-- the meaning of a head that was judged: the query of a GET, or the body of a POST (own)
 abbrev pub arrival_by : List ℕ → Pairs → List ℕ → Judged → Arrival
 arrival_by target pairs rest (judged.Refused why) = Refused why
 arrival_by target pairs rest (judged.Query endpoint) =
@@ -54,19 +54,19 @@ arrival_by target pairs rest (judged.Notice notice) = Notice notice
 arrival_by target pairs rest (judged.Body posted n) =
     if nat_le n (length rest) then posted_to posted (take n rest) pairs else Refused ShortBody
 
--- the meaning of a head and the bytes behind it
+-- the meaning of a head and the bytes behind it (RFC 9112, 6)
 abbrev pub arrival_of : Reach → RequestHead → List ℕ → Arrival
 arrival_of reach h rest =
     arrival_by h.target (map name_and_value h.fields) rest
     (judged_of reach h.method h.target (map name_and_value h.fields))
 
--- the meaning of a stream without a head: silence if it is empty, `NoHead` otherwise
+-- the meaning of a stream without a head: silence if it is empty, `NoHead` otherwise (own)
 abbrev pub headless : List ℕ → Arrival
 headless [] = Silence
 headless (b ∷ bytes) = Refused NoHead
 
 -- The meaning of a stream, by which paths are served. At most one beginning of a stream is a head,
--- so that the meaning is unique.
+-- so that the meaning is unique (RFC 9112, 3, 5 and 6; own).
 abbrev pub IsArrival : Reach → List ℕ → Arrival → Type 0
 IsArrival reach bytes came =
     (((h : RequestHead) → HasHead bytes head_limit field_limit h → ⊥) × (came ≡ headless bytes))
@@ -74,12 +74,12 @@ IsArrival reach bytes came =
     × HasHead bytes head_limit field_limit h
     × (came ≡ arrival_of reach h rest))
 
--- the meaning of a stream if the paths of clients and of operators are served, and no others
+-- the meaning of a stream if the paths of clients and of operators are served, and no others (own)
 abbrev pub IsHeard : List ℕ → Arrival → Type 0
 IsHeard bytes came = IsArrival (plain Admin) bytes came
 
 -- whatever the bytes are, an exchange arrives only if all paths are served, and a notice is
--- requested only if that is
+-- requested only if that is (own)
 abbrev pub MayArrive : Reach → Arrival → Type 0
 MayArrive reach Silence = ⊤
 MayArrive reach (Refused why) = ⊤
@@ -87,7 +87,7 @@ MayArrive reach (Request request) = ⊤
 MayArrive reach (Exchange asked) = reach.paths ≡ All
 MayArrive reach (Notice notice) = MayTell reach notice
 
--- what may arrive over a connection: the meaning of its bytes, if these are known
+-- what may arrive over a connection: the meaning of its bytes, if these are known (own)
 abbrev pub Arrives : Reach → Option (List ℕ) → Arrival → Type 0
 Arrives reach known came =
     MayArrive reach came × ((bytes : List ℕ) → known ≡ Some bytes → IsArrival reach bytes came)

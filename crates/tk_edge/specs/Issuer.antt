@@ -37,28 +37,29 @@ is_authority secure text =
     let n = position_or_len (λ b. b == 58) text in
     is_host secure (take n text) && is_port_part (drop n text)
 
--- the last byte is a slash
+-- the last byte is a slash (own)
 abbrev pub ends_in_slash : List ℕ → Bool
 ends_in_slash text = bytes_eq (drop (length text - 1) text) (codes "/")
 
--- no path, or a path that doesn't end in a slash
+-- no path, or a path that doesn't end in a slash (RFC 3986, 3.3; own)
 abbrev pub is_path : List ℕ → Bool
 is_path text = list_all is_path_byte text && not (ends_in_slash text)
 
--- what follows a scheme is an authority and then a path, or no path; 47 is the slash
+-- what follows a scheme is an authority and then a path, or no path; 47 is the slash (RFC 3986, 3)
 abbrev pub is_place : Bool → Option (List ℕ) → Bool
 is_place secure None = false
 is_place secure (Some rest) =
     let n = position_or_len (λ b. b == 47) rest in
     is_authority secure (take n rest) && is_path (drop n rest)
 
--- a URL of the scheme `https`, or `http` on this machine, without a query and a fragment
+-- a URL of the scheme `https`, or `http` on this machine, without a query and a fragment (RFC 8414,
+-- 2; own)
 abbrev pub is_issuer : List ℕ → Bool
 is_issuer text = nat_le (length text) max_issuer
     && (is_place true (behind (codes "https://") text)
     || is_place false (behind (codes "http://") text))
 
--- the issuer that a text is
+-- the issuer that a text is (RFC 8414, 2; own)
 abbrev pub issuer_in : List ℕ → Option (List ℕ)
 issuer_in text = if is_issuer text then Some text else None
 
@@ -66,7 +67,7 @@ issuer_in text = if is_issuer text then Some text else None
 abbrev pub iss_behind : List ℕ → List ℕ → List ℕ
 iss_behind issuer location = append_pair location (codes "iss") issuer
 
--- a reply that names the issuer, if there is one and the reply is a redirect
+-- a reply that names the issuer, if there is one and the reply is a redirect (RFC 9207, 2)
 abbrev pub with_iss : Option (List ℕ) → ReplyFields → ReplyFields
 with_iss None reply = reply
 with_iss (Some issuer) reply = record {

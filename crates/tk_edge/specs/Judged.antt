@@ -37,7 +37,7 @@ use Rattle.tk_edge.specs.declared.judge.Judged.{Judged}
 use Rattle.tk_edge.specs.declared.judge.Judged.TheVariants.{Refused, Query, Vector, Body}
 use Rattle.tk_edge.specs.declared.judge.Judged.TheVariants as judged
 
--- the name of a refusal's error
+-- the name of a refusal's error (own)
 abbrev pub code_of : Refusal → ErrorCode
 code_of Sealed = code.TemporarilyUnavailable
 code_of UnknownPath = code.NotFound
@@ -46,7 +46,7 @@ code_of LengthRequired = code.LengthRequired
 code_of TooLarge = code.TooLarge
 code_of why = code.BadRequest
 
--- the methods that a refusal names, if it names any
+-- the methods that a refusal names, if it names any (RFC 9110, 10.2.1)
 abbrev pub allowed_by : Refusal → Option (List ℕ)
 allowed_by (WrongMethod path) = Some (allowed_at path)
 allowed_by why = None
@@ -58,27 +58,28 @@ limit_of (Form endpoint) = 16384
 limit_of Pull = 1049600
 limit_of Push = 1049600
 
--- the type fits: a form's type may be absent, and an exchange may have any type
+-- the type fits: a form's type may be absent, and an exchange may have any type (RFC 6749, 4.1.3;
+-- own)
 abbrev pub fits_type : Posted → List (List ℕ) → Bool
 fits_type (Form endpoint) [] = true
 fits_type (Form endpoint) (value ∷ more) = is_form value
 fits_type Pull kinds = true
 fits_type Push kinds = true
 
--- the judgement of a body by its length, then its type
+-- the judgement of a body by its length, then its type (RFC 9110, 8.6 and 15.5.14)
 abbrev pub sized : Posted → Numeral → List (List ℕ) → Judged
 sized posted Malformed kinds = Refused MalformedLength
 sized posted Above kinds = Refused TooLarge
 sized posted (Within n) kinds = if fits_type posted kinds then Body posted n else Refused WrongType
 
 -- the judgement of a request with a body, by its values of Transfer-Encoding, Content-Length and
--- Content-Type
+-- Content-Type (RFC 9110, 15.5.12)
 abbrev pub with_body : Posted → List (List ℕ) → List (List ℕ) → List (List ℕ) → Judged
 with_body posted (coding ∷ codings) lengths kinds = Refused LengthRequired
 with_body posted [] [] kinds = Refused LengthRequired
 with_body posted [] (text ∷ more) kinds = sized posted (numeral_up_to (limit_of posted) text) kinds
 
--- the judgement of a request for a service; the body of a GET isn't read
+-- the judgement of a request for a service; the body of a GET isn't read (own)
 abbrev pub asked : Service → Pairs → Judged
 asked (service.Query endpoint) pairs = Query endpoint
 asked service.Vector pairs = Vector
@@ -86,34 +87,34 @@ asked (service.Notice notice) pairs = judged.Notice notice
 asked (service.Body posted) pairs =
     with_body posted (coding_in pairs) (length_in pairs) (type_in pairs)
 
--- the judgement from the method on: `WrongMethod`, then `DuplicateField`
+-- the judgement from the method on: `WrongMethod`, then `DuplicateField` (RFC 9110, 15.5.6 and 5.3)
 abbrev pub at_service : Path → Option Service → Pairs → Judged
 at_service path None pairs = Refused (WrongMethod path)
 at_service path (Some s) pairs = if has_repeats pairs then Refused DuplicateField else asked s pairs
 
--- the judgement from the path on, which begins with `UnknownPath`
+-- the judgement from the path on, which begins with `UnknownPath` (RFC 9110, 15.5.5)
 abbrev pub at_path : Option Path → Option Method → Pairs → Judged
 at_path None method pairs = Refused UnknownPath
 at_path (Some path) method pairs = at_service path (service_at path method) pairs
 
--- the judgement of a head, by which paths are served
+-- the judgement of a head, by which paths are served (RFC 9110, 15.5)
 abbrev pub judged_of : Reach → List ℕ → List ℕ → Pairs → Judged
 judged_of reach method target pairs =
     at_path (path_named reach (path_of target)) (method_named method) pairs
 
--- an exchange is a use of a body only if all paths are served
+-- an exchange is a use of a body only if all paths are served (own)
 abbrev pub MayPost : Reach → Posted → Type 0
 MayPost reach (Form endpoint) = ⊤
 MayPost reach Pull = reach.paths ≡ All
 MayPost reach Push = reach.paths ≡ All
 
--- a notice is given only over a connection where it is served
+-- a notice is given only over a connection where it is served (own)
 abbrev pub MayTell : Reach → Notice → Type 0
 MayTell reach Discovery = reach.discovery ≡ true
 MayTell reach Health = reach.health ≡ true
 
 -- a judgement requests an exchange only if all paths are served, a notice only if that is, and a
--- body within its limit
+-- body within its limit (own)
 abbrev pub MayAsk : Reach → Judged → Type 0
 MayAsk reach (Refused why) = ⊤
 MayAsk reach (Query endpoint) = ⊤

@@ -30,20 +30,20 @@ use Rattle.tk_edge.specs.Heard.{IsArrival, MayArrive}
 use Rattle.tk_edge.specs.declared.hear.Arrival.{Arrival}
 use Rattle.tk_edge.specs.declared.reach.Reach.{Reach}
 
--- a stream has at most one meaning
+-- a stream has at most one meaning (RFC 9112, 3 and 6)
 abbrev pub HasOneMeaning : Type 0
 HasOneMeaning =
     (reach : Reach) (bytes : List ℕ) (a b : Arrival) → IsArrival reach bytes a
     → IsArrival reach bytes b → a ≡ b
 
--- no exchange arrives unless all paths are served, and no notice unless that is
+-- no exchange arrives unless all paths are served, and no notice unless that is (own)
 abbrev pub HearsAll : Type 0
 HearsAll =
     (reach : Reach) (bytes : List ℕ) (came : Arrival) → IsArrival reach bytes came
     → MayArrive reach came
 
 -- a pushed bundle that the terms refuse is a lost one: the result is why, unless memory ran out,
--- and the region is unchanged
+-- and the region is unchanged (own)
 abbrev pub RefusedIsLost : Type 0
 RefusedIsLost =
     (terms : TermsFields) (now : ℕ) (old new : RegionFields) (bytes : List ℕ)
@@ -52,7 +52,7 @@ RefusedIsLost =
     → Pushes terms now old bytes taken new
     → ((taken ≡ Err why) ⊎ (taken ≡ Err (Take Memory))) × (new ≡ old)
 
--- an edge takes a bundle that the terms don't refuse in, or refuses it, as its region does
+-- an edge takes a bundle that the terms don't refuse in, or refuses it, as its region does (own)
 abbrev pub TakesAsRegion : Type 0
 TakesAsRegion =
     (terms : TermsFields) (now : ℕ) (old new : RegionFields) (bytes : List ℕ)
@@ -61,7 +61,7 @@ TakesAsRegion =
     → Pushes terms now old bytes taken new
     → (result : Result ℕ TakeError) × (taken ≡ lifted result) × TakesBundle old bytes result new
 
--- the terms that accept all refuse no bundle
+-- the terms that accept all refuse no bundle (own)
 abbrev pub AcceptsAll : Type 0
 AcceptsAll = (now : ℕ) (sent : Option BundleFields) → refused accept_all now sent ≡ None
 

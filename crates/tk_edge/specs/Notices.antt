@@ -19,7 +19,7 @@ use Rattle.tk_edge.specs.Terms.{TermsFields}
 use Rattle.tk_edge.specs.declared.notice.Notice.{Notice}
 use Rattle.tk_edge.specs.declared.notice.Notice.TheVariants.{Discovery, Health}
 
--- a reply with a JSON text
+-- a reply with a JSON text (own)
 abbrev pub text_reply : StatusCode → List ℕ → ReplyFields
 text_reply status text = record {
   status = status;
@@ -53,22 +53,22 @@ metadata issuer methods = concat (
     ∷ codes "/token\",\"token_endpoint_auth_methods_supported\":"
     ∷ codes "[\"client_secret_basic\",\"client_secret_post\",\"none\"]}" ∷ [])
 
--- the reply with the metadata, by what is required of challenges
+-- the reply with the metadata, by what is required of challenges (RFC 8414, 3.2)
 abbrev pub metadata_reply : List ℕ → ChallengeRules → ReplyFields
 metadata_reply issuer rules = text_reply Ok (metadata issuer (methods_of rules))
 
--- the health at the moment, by the horizon: before it requests of clients get 503
+-- the health at the moment, by the horizon: before it requests of clients get 503 (own)
 abbrev pub health_reply : ℕ → ℕ → ReplyFields
 health_reply horizon now =
     if nat_lt now horizon
     then text_reply ServiceUnavailable (codes "{\"status\":\"before_horizon\"}")
     else text_reply Ok (codes "{\"status\":\"ok\"}")
 
--- the reply with the health, if the terms give it
+-- the reply with the health, if the terms give it (own)
 abbrev pub health_of : Bool → ℕ → ℕ → Option ReplyFields
 health_of given horizon now = if given then Some (health_reply horizon now) else None
 
--- the notice that the terms give at the moment, if they give it
+-- the notice that the terms give at the moment, if they give it (RFC 8414, 3; own)
 abbrev pub notice_of : TermsFields → RegionFields → ℕ → Notice → Option ReplyFields
 notice_of terms r now Discovery =
     option_map (λ i. metadata_reply i r.settings.choices.challenge) terms.issuer

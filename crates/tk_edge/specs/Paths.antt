@@ -34,15 +34,15 @@ use Rattle.tk_edge.specs.declared.reach.Reach.{Reach}
 use Rattle.tk_edge.specs.declared.reach.PathSet.{PathSet}
 use Rattle.tk_edge.specs.declared.reach.PathSet.TheVariants.{Clients, Admin, All}
 
--- the part of a target before its first `?`, which has the code 63
+-- the part of a target before its first `?`, which has the code 63 (RFC 9112, 3.2.1)
 abbrev pub path_of : List ℕ → List ℕ
 path_of target = take (position_or_len (λ b. b == 63) target) target
 
--- the part of a target behind its first `?`
+-- the part of a target behind its first `?` (RFC 9112, 3.2.1)
 abbrev pub query_of : List ℕ → List ℕ
 query_of target = drop (position_or_len (λ b. b == 63) target + 1) target
 
--- the path of a name among those of clients
+-- the path of a name among those of clients (RFC 6749, 3.1 and 3.2; RFC 7662, 2; RFC 7009, 2)
 abbrev pub client_named : List ℕ → Option Path
 client_named path =
     if bytes_eq path (codes "/authorize") then Some Authorize
@@ -51,7 +51,7 @@ client_named path =
     else if bytes_eq path (codes "/revoke") then Some Revoke
     else None
 
--- the path of a name among those of operators
+-- the path of a name among those of operators (own)
 abbrev pub admin_named : List ℕ → Option Path
 admin_named path =
     if bytes_eq path (codes "/admin/client") then Some Client
@@ -61,7 +61,7 @@ admin_named path =
     else if bytes_eq path (codes "/admin/signout") then Some SignOut
     else None
 
--- the path of a name among those by which regions exchange facts
+-- the path of a name among those by which regions exchange facts (own)
 abbrev pub sync_named : List ℕ → Option Path
 sync_named path =
     if bytes_eq path (codes "/sync/vector") then Some Vector
@@ -69,11 +69,11 @@ sync_named path =
     else if bytes_eq path (codes "/sync/push") then Some Push
     else None
 
--- the reach of these paths, without notices
+-- the reach of these paths, without notices (own)
 abbrev pub plain : PathSet → Reach
 plain set = record { paths = set; discovery = false; health = false }
 
--- the path of a name among those of notices, if it is reached
+-- the path of a name among those of notices, if it is reached (RFC 8414, 3; own)
 abbrev pub notice_named : Reach → List ℕ → Option Path
 notice_named reach path =
     if reach.discovery && bytes_eq path (codes "/.well-known/oauth-authorization-server")
@@ -81,28 +81,29 @@ notice_named reach path =
     else if reach.health && bytes_eq path (codes "/health") then Some (paths.Notice Health)
     else None
 
--- the path of a name among those of operators and of regions, if it is reached
+-- the path of a name among those of operators and of regions, if it is reached (own)
 abbrev pub inner_named : PathSet → List ℕ → Option Path
 inner_named Clients path = None
 inner_named Admin path = admin_named path
 inner_named All path = option_or (admin_named path) (sync_named path)
 
--- the path of a name among those that aren't of clients, if it is reached
+-- the path of a name among those that aren't of clients, if it is reached (RFC 8414, 3; own)
 abbrev pub beside_clients : Reach → List ℕ → Option Path
 beside_clients reach path = option_or (notice_named reach path) (inner_named reach.paths path)
 
--- the path of a name, if it is reached
+-- the path of a name, if it is reached (RFC 6749, 3.1 and 3.2; RFC 7662, 2; RFC 7009, 2; RFC 8414,
+-- 3; own)
 abbrev pub path_named : Reach → List ℕ → Option Path
 path_named reach path = option_or (client_named path) (beside_clients reach path)
 
--- the method of a name, GET or POST alone
+-- the method of a name, GET or POST alone (RFC 9110, 9.1)
 abbrev pub method_named : List ℕ → Option Method
 method_named name =
     if bytes_eq name (codes "GET") then Some Get
     else if bytes_eq name (codes "POST") then Some Post
     else None
 
--- what a path serves under GET
+-- what a path serves under GET (RFC 6749, 3.1; RFC 8414, 3.1; own)
 abbrev pub get_service : Path → Option Service
 get_service Authorize = Some (service.Query endpoint.Authorize)
 get_service Client = Some (service.Query endpoint.ShowClient)
@@ -110,11 +111,11 @@ get_service Vector = Some service.Vector
 get_service (paths.Notice notice) = Some (service.Notice notice)
 get_service path = None
 
--- the service whose body is a form for this endpoint
+-- the service whose body is a form for this endpoint (own)
 abbrev pub form_for : Endpoint → Option Service
 form_for e = Some (service.Body (posted.Form e))
 
--- what a path serves under POST
+-- what a path serves under POST (RFC 6749, 3.2; RFC 7662, 2.1; RFC 7009, 2.1; own)
 abbrev pub post_service : Path → Option Service
 post_service Authorize = None
 post_service Token = form_for endpoint.Token
@@ -130,13 +131,13 @@ post_service Pull = Some (service.Body posted.Pull)
 post_service Push = Some (service.Body posted.Push)
 post_service (paths.Notice notice) = None
 
--- what a path serves under a method; methods other than GET and POST are `None`
+-- what a path serves under a method; methods other than GET and POST are `None` (RFC 9110, 9.1)
 abbrev pub service_at : Path → Option Method → Option Service
 service_at path None = None
 service_at path (Some Get) = get_service path
 service_at path (Some Post) = post_service path
 
--- the methods of a path, as `Allow` names them
+-- the methods of a path, as `Allow` names them (RFC 9110, 10.2.1)
 abbrev pub allowed_at : Path → List ℕ
 allowed_at Authorize = codes "GET"
 allowed_at Client = codes "GET, POST"

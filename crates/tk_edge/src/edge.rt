@@ -9,7 +9,7 @@ use tk_region::Region;
 /// A region behind its connections.
 ///
 /// Which paths are served is an argument of each request, since it depends on the connection. If
-/// all are, other regions ask for the region's vector, pull pages of what they lack and push
+/// all are, other regions request the region's vector, pull pages of what they lack and push
 /// bundles.
 ///
 /// An edge is sealed once its log has failed, because facts that it made later might be lost.

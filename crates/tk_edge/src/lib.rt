@@ -5,7 +5,7 @@
 //! meaning of a request depends on its bytes alone, not on the pieces in which they come. An edge
 //! reads no socket, no clock and no random words: all come as arguments.
 //!
-//! In reading order:
+//! In reading order (`specs/Lib.antt` lists the definitions):
 //!
 //! - [`Sink`], [`Counted`], [`Discard`]: devices that take bytes, and count their failures.
 //! - [`Reach`], [`Path`], `field`, `judge`: what a head requests, or its [`Refusal`].
@@ -17,10 +17,6 @@
 //! - `again`: the reply to a refresh that is repeated.
 //! - `tell`, `push`: log the record, and only then write the reply, or return a [`Fault`].
 //! - `serving`, [`Edge`], [`keep_open`].
-//!
-//! The definitions are in `specs/`: `Judged`, `Heard` and `Fronts` say what bytes mean, `Answers`,
-//! `Exchanges` and `Pushes` what is replied and logged, `Served` and `FrontServed` what serving
-//! does.
 #![tactic(auto)]
 
 mod again;

@@ -3,7 +3,7 @@
 /// What a server says of itself.
 #[derive(Clone, Copy)]
 pub enum Notice {
-    /// Its metadata, by which clients find its endpoints (RFC 8414, 3).
+    /// The server's metadata, by which clients find its endpoints (RFC 8414, 3).
     Discovery,
     /// Whether the request of a client would be answered at this moment (own).
     Health,

@@ -41,7 +41,7 @@ fn is_read_whole(fields: &Fields<'_>, judged: &Judged) -> bool
     }
 }
 
-// Returns whether no body comes with a head.
+// Returns whether a head announces no body.
 fn has_no_body(fields: &Fields<'_>) -> bool
     ensures { (pairs : Pairs) → AreFields fields.now pairs → result ≡ spec.has_no_body pairs }
 {

@@ -26,9 +26,9 @@ pub struct Terms {
     pub accepted: Vec<RegionRange>,
     /// Numbers that are not accepted, even if a range of `accepted` has them.
     pub barred: Option<RegionRange>,
-    /// The issuer that metadata and redirects name. None: neither metadata nor a name is given.
+    /// The issuer that metadata and redirects name. `None`: neither metadata nor a name is given.
     pub issuer: Option<Issuer>,
-    /// Whether the edge tells its health.
+    /// Whether GET /health is answered.
     pub health: bool,
 }
 

@@ -15,7 +15,7 @@
 //! 5. `specs/Check.antt`, `src/check.rt`: the rules that such a fact must keep.
 //! 6. `specs/Tokens.antt`, `src/tokens.rt`: whether the kind mints tokens or uses one;
 //!    `specs/Keeping.antt`, `src/keeping.rt`: for which token such a fact is kept. The compiler
-//!    does not ask for these rows.
+//!    does not require these rows.
 //! 7. `check/rows/bytes_facts.rows` at the top of the repository: its bytes at its limits, and one
 //!    past each among the bytes of no fact, where the kind 11 becomes 12.
 //!    `check/rows/bytes_made.rows`: a region that makes such a fact. `must-fail/`: an edit for what
@@ -31,7 +31,7 @@
 //!     `reuse_of` or `IsStopped` of `specs/Tokens.antt`, `signs_out_in` of `specs/SignOuts.antt`,
 //!     `generation_of` of `specs/Status.antt`. If the kind makes or ends a client or a consent:
 //!     `specs/Clients.antt`. These definitions end in a row for all other kinds, so the compiler
-//!     does not ask for a new row. The tests of tk_edge restate them in
+//!     does not require a new row. The tests of tk_edge restate them in
 //!     `src/tests/ledger/plain.rt`.
 //! 11. The request that makes such facts: an `Endpoint` of tk_message with its reply; the decision
 //!     in tk_authorize, tk_grant or tk_query with its row in `decision_by` of tk_region; its path

@@ -87,7 +87,8 @@ impl Fact {
         self.body.known();
     }
 
-    /// Returns the fact that all of the bytes together spell.
+    /// Returns the fact that all of the bytes together spell. Returns `Malformed` if they spell no
+    /// fact that passes its check, and `Memory` if memory runs out.
     pub fn read(alloc: Global, bytes: &[u8]) -> Result<Fact, ReadError>
         ensures found { IfOk result (λ f. fact.Fits f × (bytes.now ≡ fact_bytes f)) }
         ensures malformed { IsErrOf result ReadError.Malformed → (f : AnyDot × AnyBody)
@@ -99,7 +100,7 @@ impl Fact {
         read_all(alloc, bytes)
     }
 
-    /// Returns the only spelling of the fact, at most 8,192 bytes.
+    /// Returns the only spelling of the fact, at most 8,192 bytes. Fails if memory runs out.
     pub fn write(&self, alloc: Global) -> Result<Vec<u8>, AllocError>
         requires { refusal_of self.now.1 ≡ None }
         ensures spelled { IfOk result (λ bytes. bytes.items ≡ fact_bytes self.now) }
@@ -113,7 +114,7 @@ impl Fact {
     }
 
     /// Writes the length of the fact's spelling in two bytes, high byte first, and then the
-    /// spelling. If memory runs out, the method writes nothing.
+    /// spelling. Fails if memory runs out, and writes nothing then.
     pub fn write_framed(&self, alloc: Global, writer: &mut Writer) -> Result<(), AllocError>
         requires { refusal_of self.now.1 ≡ None }
         ensures ok { OnOk result (writer.new ≡ writer.old ++ framed.spell self.now) }

@@ -5,8 +5,7 @@
 //! - `Fact::check` returns which rule a fact breaks, if any.
 //! - `Fact::write` and `Fact::read` convert a fact to and from bytes: the dot, a byte for the kind,
 //!   and the fields in the order of the kind's struct. A fact has exactly one spelling.
-//! - `Fact::minted` and `Fact::uses` return the tokens that a fact mints, and the token that it
-//!   uses up.
+//! - `Fact::minted` returns the tokens that a fact mints, `Fact::uses` the token that it uses up.
 //! - `Fact::kept_for` returns the token for which a fact is kept. When that token's family is over,
 //!   the fact may be skipped.
 //!
@@ -18,9 +17,7 @@
 //! Contracts see a value as the plain value that it stands for.
 //!
 //! In reading order: `Subject`, `ClientKind`, `MintedToken`, the ten kinds from `ClientAdded` to
-//! `SubjectOut`, `Body`, `Fact`, `Minted`. The definitions are in `specs/`: `Subject` for the name
-//! of a subject, `Check` for the rules, `Fields`, `Kinds` and `FactBytes` for the bytes, `Tokens`
-//! for the tokens, `Keeping` for the token for which a fact is kept.
+//! `SubjectOut`, `Body`, `Fact`, `Minted`. `specs/Lib.antt` lists the definitions.
 #![tactic(auto)]
 
 mod body;

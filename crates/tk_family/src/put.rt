@@ -40,7 +40,7 @@ fn make_room(rows: &mut DotMap<PackedRow>, dot: Dot, link: &Link) -> Result<(), 
     Ok(())
 }
 
-/// Returns the code under which a link at a dot comes.
+/// Returns the code that the dot of a link is under once the link is put.
 fn code_for(rows: &DotMap<PackedRow>, dot: Dot, link: &Link) -> Option<Dot>
     ensures { result ≡ chain_code (table rows.now) dot link.now }
 {

@@ -84,8 +84,8 @@ fn count_uses(
 }
 
 /// Takes `dot` from the children of the dot `above`. The link at `dot` uses the token of the kind
-/// at `above`. Returns the first child after that: if `dot` was the first, another child comes out
-/// of the set in its place.
+/// at `above`. Returns the first child after that: if `dot` was the first, another child is taken
+/// out of the set in its place.
 fn unlist(
     rows: &DotMap<PackedRow>,
     others: &mut BTreeSet<Child>,

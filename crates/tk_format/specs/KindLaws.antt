@@ -1,5 +1,5 @@
--- The law of values of several kinds. The format of a list of kinds has a law built from a list of
--- laws: `kind_exact .. and_then .. and_then no_kind_exact`.
+-- The law of values of several kinds (own). The format of a list of kinds has a law built from a
+-- list of laws: `kind_exact .. and_then .. and_then no_kind_exact`.
 use Rattle.std.proofs.Common.{◌≡◌, ℕ, true, false, cond, eqb, List, [], ◌∷◌, ◌++◌, Option, Some}
 use Rattle.std.proofs.Common.{None, refl, sym, ap, subst, ◌∙◌}
 use Rattle.std.proofs.lemmas.Bool.{eqb-true, eq-eqb}

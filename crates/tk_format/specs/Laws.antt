@@ -1,5 +1,5 @@
--- The law of each way to make a format: a value that is read is spelled by the bytes taken, and a
--- spelling is read as its value. The laws that formats cite end in `_exact`.
+-- The law of each way to make a format (own): a value that is read is spelled by the bytes taken,
+-- and a spelling is read as its value. The laws that formats cite end in `_exact`.
 use Rattle.std.proofs.Common.{
   ◌≡◌,
   ℕ,

@@ -8,11 +8,12 @@ use Rattle.std.specs.Str.Parse.{digits_value}
 use Rattle.tk_format.specs.declared.numeral.Numeral.{Numeral}
 use Rattle.tk_format.specs.declared.numeral.Numeral.TheVariants.{Malformed, Above, Within}
 
--- the text is one or more ASCII digits
+-- the text is one or more ASCII digits (RFC 9110, 8.6)
 abbrev pub is_numeral : List ℕ → Bool
 is_numeral text = nat_lt 0 (length text) && all_ascii_digits text
 
--- the text is malformed, or its number is above the limit, or at most the limit
+-- the text is malformed, or its number is above the limit, or at most the limit (RFC 9110, 8.6;
+-- own)
 abbrev pub numeral_up_to : ℕ → List ℕ → Numeral
 numeral_up_to limit text =
     let n = digits_value 10 text in

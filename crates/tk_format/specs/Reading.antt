@@ -1,4 +1,4 @@
--- What a reader may return of the bytes that were left, and what is left then.
+-- What a reader may return of the bytes that were left, and what is left then (own).
 --   Reads, ReadsMagic           of a reader that allocates no memory
 --   Gets, GetsBy, GetsManyBy    of a reader that may run out of memory
 --   GetsAll                     of a reader of all of the bytes

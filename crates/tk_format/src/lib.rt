@@ -16,11 +16,7 @@
 //! - [`read_decimal`], a number that is written in decimal digits;
 //! - [`read_numeral`], a number of any length, up to a limit.
 //!
-//! The definitions and laws are in `specs/`:
-//!
-//! - `Format.antt` defines formats;
-//! - `Reading.antt` defines what a reader may return;
-//! - `Exact.antt`, `Laws.antt` and `KindLaws.antt` have the laws.
+//! `specs/Lib.antt` lists the definitions and laws.
 #![tactic(auto)]
 
 mod decimal;

@@ -13,14 +13,16 @@ pub trait Spelled: Drop {
     /// The format of the values.
     ghost format: { Format Self };
 
-    /// Reads a value from the front. After an error the reader's position is unspecified.
+    /// Reads a value from the front. Returns `Malformed` if no value is spelled there, and `Memory`
+    /// if memory runs out. After an error the reader's position is unspecified.
     fn read_from(alloc: Global, reader: &mut Reader<'_>) -> Result<Self, ReadError>
         ensures { Gets (λ x. x) format result reader.old reader.new };
 
     ghost exact: { IsExact format };
 }
 
-/// Returns the value that all of the bytes together spell.
+/// Returns the value that all of the bytes together spell. Returns `Malformed` if they spell no
+/// value, and `Memory` if memory runs out.
 pub fn read_all<T: Spelled>(alloc: Global, bytes: &[u8]) -> Result<T, ReadError>
     ensures found { IfOk result (λ x. T.format.Fits x × (bytes.now ≡ T.format.spell x)) }
     ensures malformed { IsErrOf result ReadError.Malformed →

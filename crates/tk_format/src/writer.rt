@@ -4,8 +4,7 @@ use std::marker::Model;
 
 /// Bytes that are written one after the other.
 ///
-/// Each `put_` method writes a value at the end. If memory runs out, the method writes nothing.
-/// Numbers have the high byte first.
+/// Each `put_` method writes a value at the end. Numbers have the high byte first.
 #[derive(Drop)]
 pub struct Writer {
     /// The bytes written so far.
@@ -44,7 +43,7 @@ impl Writer {
         bytes
     }
 
-    /// Writes one byte.
+    /// Writes one byte. Fails if memory runs out, and writes nothing then.
     pub fn put_u8(&mut self, value: u8) -> Result<(), AllocError>
         ensures ok { OnOk result (self.new ≡ self.old ++ byte.spell value) }
         ensures err { OnErr result (self.new ≡ self.old) }
@@ -53,7 +52,7 @@ impl Writer {
         Ok(())
     }
 
-    /// Writes a number in two bytes.
+    /// Writes a number in two bytes. Fails if memory runs out, and writes nothing then.
     #[tactic(auto, unfolding(crate::specs::Format::number_spelling))]
     pub fn put_u16(&mut self, value: u16) -> Result<(), AllocError>
         ensures ok { OnOk result (self.new ≡ self.old ++ (number w16).spell value) }
@@ -62,7 +61,7 @@ impl Writer {
         self.bytes.extend_from_slice(&u16::to_be_bytes(value))
     }
 
-    /// Writes a number in eight bytes.
+    /// Writes a number in eight bytes. Fails if memory runs out, and writes nothing then.
     #[tactic(auto, unfolding(crate::specs::Format::number_spelling))]
     pub fn put_u64(&mut self, value: u64) -> Result<(), AllocError>
         ensures ok { OnOk result (self.new ≡ self.old ++ (number w64).spell value) }
@@ -71,7 +70,7 @@ impl Writer {
         self.bytes.extend_from_slice(&u64::to_be_bytes(value))
     }
 
-    /// Writes the bytes as they are.
+    /// Writes the bytes as they are. Fails if memory runs out, and writes nothing then.
     pub fn put_bytes(&mut self, bytes: &[u8]) -> Result<(), AllocError>
         ensures ok { OnOk result (self.new ≡ self.old ++ bytes.now) }
         ensures err { OnErr result (self.new ≡ self.old) }
@@ -79,7 +78,8 @@ impl Writer {
         self.bytes.extend_from_slice(bytes)
     }
 
-    /// Writes the length of `content` as a number in two bytes, and then `content`.
+    /// Writes the length of `content` as a number in two bytes, and then `content`. Fails if memory
+    /// runs out, and writes nothing then.
     #[tactic(auto, unfolding(crate::specs::Format::text_spelling, crate::specs::Format::number_spelling))]
     pub fn put_text(&mut self, content: &[u8]) -> Result<(), AllocError>
         requires { length content.now < 2 ^ 16 }

@@ -23,7 +23,7 @@ use Rattle.tk_grant.specs.declared.judged.Grant.{Grant}
 use Rattle.tk_grant.specs.declared.judged.Judged.TheVariants.{Rotates}
 
 -- two stores that answer each handle alike, and take the sender for the same client, decide a token
--- request alike
+-- request alike (RFC 6749, 5.2)
 abbrev pub GrantsAlike : Type 0
 GrantsAlike = (P Q : StoreFields) (place : Place) (now : ℕ) (words : List ℕ)
     (request : RequestFields)
@@ -32,14 +32,15 @@ GrantsAlike = (P Q : StoreFields) (place : Place) (now : ℕ) (words : List ℕ)
     → grant_of P place now words request ≡ grant_of Q place now words request
 
 -- the fact made for a token request, if one is made, uses a code or refresh token that was minted,
--- and its tokens end with their family at the latest
+-- and its tokens end with their family at the latest (own)
 abbrev pub GrantsWithin : Type 0
 GrantsWithin = (P : StoreFields) (place : Place) (now : ℕ) (words : List ℕ)
     (request : RequestFields)
     → IfSome (grant_of P place now words request).made (IsWithin (held_facts P))
 
 -- A refresh that was granted at a moment, whose fact is held, gets the same reply when it is
--- repeated later, if it gets one: the reply of the grant, of which `expires_in` alone differs.
+-- repeated later, if it gets one: the reply of the grant, of which `expires_in` alone differs
+-- (own).
 abbrev pub RepeatsReply : Type 0
 RepeatsReply = (P Q : StoreFields) (place : Place) (now later : ℕ) (words : List ℕ)
     (request : RequestFields) (generation : ℕ) (grant : Grant) (body : Body) (reply : ReplyFields)

@@ -25,7 +25,7 @@ rotated_by from standing (Some scope) =
     })
 
 -- the judgement of the refresh token at the gate. The last generation is not rotated (own). A
--- request without a scope asks for the token's scope (RFC 6749, 6)
+-- request without a scope is one for the token's scope (RFC 6749, 6)
 abbrev pub rotated_of : Pairs → Gate → Judged
 rotated_of params (Shut why) = Refused why
 rotated_of params (Reuse id) = Reused id

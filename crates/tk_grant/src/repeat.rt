@@ -14,7 +14,7 @@ use tk_handle::{Dot, Handle, Moment};
 use tk_ledger::{Ledger, Standing, Status};
 use tk_message::{Endpoint, Params, Reply, Request, Told};
 
-/// Returns whether a request asks for new tokens by a refresh token (RFC 6749, 6).
+/// Returns whether a request is for new tokens by a refresh token (RFC 6749, 6).
 pub fn is_refresh_request(request: &Request) -> bool
     ensures { result ≡ spec.is_refresh_request request.now }
 {
@@ -41,7 +41,7 @@ fn has_refresh_type(grant_type: Option<&str>) -> bool
 /// Returns whether a request to the token endpoint is an earlier one again: the parameters that the
 /// endpoint knows and the `Authorization` are the same, byte for byte (own).
 ///
-/// It is not if one of these parameters occurs twice.
+/// A request with one of these parameters twice is no repeat.
 pub fn is_again(earlier: &Request, request: &Request) -> bool
     ensures { result ≡ spec.is_again earlier.now request.now }
 {
@@ -110,8 +110,8 @@ fn is_same(earlier: Option<&[u8]>, value: Option<&[u8]>) -> bool
 /// Returns the reply with the two tokens that the fact at this dot minted, of these random words,
 /// if both are live at the moment (own).
 ///
-/// It is the reply that was given when they were minted, but for `expires_in`, which is the life
-/// that the access token has left. No fact is made. Returns an error if memory runs out.
+/// The reply equals the one given when the tokens were minted, but for `expires_in`, which is the
+/// life that the access token has left. No fact is made. Returns an error if memory runs out.
 pub fn repeat_of(
     alloc: Global,
     ledger: &Ledger,

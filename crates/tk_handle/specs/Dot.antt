@@ -1,4 +1,4 @@
--- The order of dots, their code, and their range.
+-- The order of dots, their code, and their range (own).
 --   IsDot       a dot that a program can hold
 --   dot_cmp     the order of dots: by region, then by serial
 --   coded_dot   a dot as a pair of numbers

@@ -1,4 +1,4 @@
--- What contracts see of a dot.
+-- What contracts see of a dot (own).
 use Rattle.std.specs.Prelude.{ℕ}
 
 -- a dot as contracts see it: the region that made a fact, and the fact's serial

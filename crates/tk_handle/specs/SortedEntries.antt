@@ -1,4 +1,4 @@
--- The place of a key in a list of entries whose keys rise, or the place where it would go.
+-- The place of a key in a list of entries whose keys rise, or the place where it would go (own).
 --   IsAt    the entry at a place has the key
 --   IsGap   no entry has the key, and it would go at a place
 use Rattle.std.specs.Prelude.{◌≡◌, ℕ, ◌<◌, ◌≤◌, List, length, slice_index_or, slice_set, Some, None}

@@ -8,7 +8,8 @@ use crate::id_text;
 use std::alloc::{AllocError, Global};
 
 /// Returns the id of the client that was added at the dot: `c<region>-<serial>`, in decimals
-/// without leading zeros. RFC 6749, 2.2 leaves the form of client identifiers to the server.
+/// without leading zeros. RFC 6749, 2.2 leaves the form of client identifiers to the server. Fails
+/// if memory runs out.
 pub fn client_text(alloc: Global, dot: Dot) -> Result<String, AllocError>
     ensures { IfOk result (λ text. string_bytes text ≡ client_text dot) }
 {

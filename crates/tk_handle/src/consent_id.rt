@@ -8,7 +8,7 @@ use crate::id_text;
 use std::alloc::{AllocError, Global};
 
 /// Returns the id of the consent that was given at the dot: `g<region>-<serial>`, in decimals
-/// without leading zeros. The form is our own.
+/// without leading zeros. The form is our own. Fails if memory runs out.
 pub fn consent_text(alloc: Global, dot: Dot) -> Result<String, AllocError>
     ensures { IfOk result (λ text. string_bytes text ≡ consent_text dot) }
 {

@@ -58,7 +58,7 @@ abbrev pub reaches : Option ℕ → ℕ → Bool
 reaches None moment = false
 reaches (Some last) moment = nat_le moment last
 
--- the greatest moment at which the subject signed out, or None if no sign-out of the subject is
+-- the greatest moment at which the subject signed out, or `None` if no sign-out of the subject is
 -- held
 abbrev pub IsLastSignOut : Bodies → List ℕ → Option ℕ → Type 0
 IsLastSignOut body_at subject None = (moment : ℕ) → ¬ IsSignedOut body_at subject moment

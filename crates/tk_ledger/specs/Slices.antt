@@ -110,7 +110,7 @@ is_between after (Some e) d = is_past after d && not (is_past (Some e) d)
 abbrev pub cursors : FactSet → Option Dot → List (Option Dot)
 cursors F after = after ∷ map_list (λ f. Some f.0) (above F after)
 
--- the cursor behind the given number of facts, or None if fewer are above
+-- the cursor behind the given number of facts, or `None` if fewer are above
 abbrev pub next_cursor : FactSet → Option Dot → ℕ → Option Dot
 next_cursor F after count = option_and_then (λ c. c) (slice_get (cursors F after) count)
 

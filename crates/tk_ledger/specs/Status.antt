@@ -79,7 +79,7 @@ state_in F now k minted root =
     else if is_access k.kind && is_ended F k then state.Ended
     else state.Live
 
--- the state is that of a live token
+-- the state is that of a live token (own)
 abbrev pub is_live : State → Bool
 is_live state.Dead = false
 is_live state.Withdrawn = false
@@ -89,13 +89,13 @@ is_live state.Past = false
 is_live state.Ended = false
 is_live state.Live = true
 
--- the generation of the fact's tokens: the number of rotations from the code to them
+-- the generation of the fact's tokens: the number of rotations from the code to them (own)
 abbrev pub generation_of : Body → ℕ
 generation_of (RefreshRotated f) = f.generation
 generation_of body = 0
 
 -- the standing of a token. Client, subject and the family's end are those of the fact that issued
--- the code; scope, start, expiry and generation are those of the fact that minted the token
+-- the code; scope, start, expiry and generation are those of the fact that minted the token (own)
 abbrev pub standing_in : FactSet → ℕ → TokenId → Body → MintedFields → Root → StandingFields
 standing_in F now k body minted root = record {
   client = root.issued.client;
@@ -110,20 +110,22 @@ standing_in F now k body minted root = record {
   state = state_in F now k minted root;
 }
 
--- the digest that facts keep of a handle
+-- the digest that facts keep of a handle (FIPS 180-4)
 abbrev pub digest_of : Handle → List ℕ
 digest_of h = sha256 (handle_bytes h)
 
--- the minted token, if there is one and it has the digest
+-- the minted token, if there is one and it has the digest (own)
 abbrev pub with_digest : List ℕ → Option MintedFields → Option MintedFields
 with_digest digest None = None
 with_digest digest (Some minted) = if bytes_eq minted.digest digest then Some minted else None
 
 -- what the fact at the handle's dot mints of the handle's kind, if that has the handle's digest
+-- (own)
 abbrev pub minted_as : Bodies → Handle → Option MintedFields
 minted_as body_at h = with_digest (digest_of h) (minted_in body_at h.id)
 
 -- the status by the fact at the token's dot, what that fact minted, and the root of its family
+-- (own)
 abbrev pub status_by : FactSet → ℕ → TokenId → Option Body → Option MintedFields → Option Root
     → Status
 -- no fact is at the token's dot
@@ -136,14 +138,14 @@ status_by F now k (Some body) (Some minted) None = Broken minted.expiry
 status_by F now k (Some body) (Some minted) (Some root) =
     Known (standing_in F now k body minted root)
 
--- the status of a handle
+-- the status of a handle (own)
 abbrev pub status_in : FactSet → ℕ → Handle → Status
 status_in F now h =
     status_by F now h.id (map.get F h.id.dot) (minted_as (map.get F) h)
     (root_in (map.get F) h.id.dot)
 
 -- the status of a handle by what a store knows: wrong where the token's dot is skipped, and
--- otherwise the status by the facts that are held
+-- otherwise the status by the facts that are held (own)
 abbrev pub status_here : StoreFields → ℕ → Handle → Status
 status_here P now h =
     if is_skipped P.slots h.id.dot then Wrong else status_in (held_facts P) now h
@@ -173,7 +175,7 @@ Says body_at h (Broken expiry) = ((t : IsMintedToken body_at h) × (expiry ≡ t
 -- the token was minted, and is under a code
 Says body_at h (Known standing) = IsKnownToken body_at h
 
--- what each status means for a handle, by what a store knows
+-- what each status means for a handle, by what a store knows (own)
 abbrev pub SaysHere : StoreFields → Handle → Status → Type 0
 -- the token's dot is unknown
 SaysHere P h Unseen = map.get P.slots h.id.dot ≡ None
@@ -184,7 +186,7 @@ SaysHere P h Wrong =
 SaysHere P h (Broken expiry) = Says (map.get (held_facts P)) h (Broken expiry)
 SaysHere P h (Known standing) = Says (map.get (held_facts P)) h (Known standing)
 
--- the status is known
+-- the status is known (own)
 abbrev pub IsKnown : Status → Type 0
 IsKnown Unseen = ⊥
 IsKnown Wrong = ⊥
@@ -213,7 +215,7 @@ pub record IsActive (body_at : Bodies) (now : ℕ) (h : Handle) : Type 0 where
   pub access : h.id.kind ≡ kind.Access → ¬ IsEnded body_at h.id
   pub refresh : h.id.kind ≡ kind.Refresh → ¬ IsUsed (links_in body_at) h.id
 
--- the status is known, and its state is Live
+-- the status is known, and its state is Live (own)
 abbrev pub IsLive : Status → Type 0
 IsLive Unseen = ⊥
 IsLive Wrong = ⊥

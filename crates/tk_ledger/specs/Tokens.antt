@@ -68,7 +68,7 @@ link_of (CodeRedeemed f) = Some (Redeems f.code)
 link_of (RefreshRotated f) = Some (Rotates f.parent f.generation)
 link_of body = None
 
--- the link at each dot
+-- the link at each dot (own)
 abbrev pub links_in : Bodies → Links
 links_in body_at d = option_and_then link_of (body_at d)
 
@@ -76,12 +76,12 @@ links_in body_at d = option_and_then link_of (body_at d)
 abbrev pub code_in : Bodies → Dot → Option Dot
 code_in body_at d = code_of (links_in body_at) d
 
--- the code that the body issues, if it issues one
+-- the code that the body issues, if it issues one (RFC 6749, 4.1.2)
 abbrev pub issued_in : Body → Option issued.CodeIssued
 issued_in (CodeIssued f) = Some f
 issued_in body = None
 
--- the fact that issued the code
+-- the fact that issued the code (RFC 6749, 4.1.2)
 abbrev pub issued_at : Bodies → Dot → Option issued.CodeIssued
 issued_at body_at c = option_and_then issued_in (body_at c)
 
@@ -91,12 +91,12 @@ pub record IsOut (body_at : Bodies) (d : Dot) : Type 0 where
   pub issues : issued_at body_at d ≡ Some issued
   pub signed_out : IsSignedOut body_at issued.subject issued.start
 
--- the subject of the code, if there is one, signed out at its start or later
+-- the subject of the code, if there is one, signed out at its start or later (own)
 abbrev pub is_out_by : FactSet → Option issued.CodeIssued → Bool
 is_out_by F None = false
 is_out_by F (Some code) = is_signed_out F code.subject code.start
 
--- a code was issued at the dot, and its subject signed out at its start or later: the test
+-- a code was issued at the dot, and its subject signed out at its start or later: the test (own)
 abbrev pub is_out : FactSet → Dot → Bool
 is_out F d = is_out_by F (issued_at (map.get F) d)
 
@@ -105,7 +105,7 @@ pub record Root : Type 0 where
   pub code : Dot
   pub issued : issued.CodeIssued
 
--- the root with the code
+-- the root with the code (own)
 abbrev pub root_of : Bodies → Dot → Option Root
 root_of body_at c = option_map (λ f. record { code = c; issued = f }) (issued_at body_at c)
 
@@ -125,15 +125,15 @@ minted_in body_at k = option_and_then (λ b. minted_of b k.kind) (body_at k.dot)
 abbrev pub uses : TokenId → Dot × Body → Bool
 uses k f = names_token (use_of (link_of f.1)) k
 
--- a fact of the set uses the token, whatever its generation
+-- a fact of the set uses the token, whatever its generation (RFC 6749, 4.1.2 and 6)
 abbrev pub is_used : FactSet → TokenId → Bool
 is_used F k = any_fact (uses k) F
 
--- the fact uses the token, and is not at the dot
+-- the fact uses the token, and is not at the dot (RFC 6749, 4.1.2 and 6)
 abbrev pub uses_elsewhere : TokenId → Dot → Dot × Body → Bool
 uses_elsewhere k d f = not (is_same_dot d f.0) && uses k f
 
--- the fact uses the token, and so does another
+-- the fact uses the token, and so does another (RFC 6749, 4.1.2 and 10.4)
 abbrev pub uses_first : FactSet → TokenId → Dot × Body → Bool
 uses_first F k f = uses k f && any_fact (uses_elsewhere k f.0) F
 
@@ -153,17 +153,17 @@ pub record IsRevoked (body_at : Bodies) (k : TokenId) (digest : List ℕ) (clien
     pub digest_is : revocation.digest ≡ digest
     pub client_is : revocation.client ≡ client
 
--- the body is that the client revoked the token with the digest
+-- the body is that the client revoked the token with the digest (RFC 7009, 2.1)
 abbrev pub revoked_by : TokenId → List ℕ → Dot → Body → Bool
 revoked_by k digest client (TokenRevoked f) =
     is_same_token f.token k && (bytes_eq f.digest digest && is_same_dot f.client client)
 revoked_by k digest client body = false
 
--- the fact is that the client revoked the token with the digest
+-- the fact is that the client revoked the token with the digest (RFC 7009, 2.1)
 abbrev pub revokes : TokenId → List ℕ → Dot → Dot × Body → Bool
 revokes k digest client f = revoked_by k digest client f.1
 
--- a fact of the set is that the client revoked the token with the digest
+-- a fact of the set is that the client revoked the token with the digest (RFC 7009, 2.1)
 abbrev pub is_revoked : FactSet → TokenId → List ℕ → Dot → Bool
 is_revoked F k digest client = any_fact (revokes k digest client) F
 
@@ -178,13 +178,13 @@ pub record IsEnded (body_at : Bodies) (k : TokenId) : Type 0 where
   pub issues : issued_at body_at code ≡ Some issued
   pub by_client : IsRevoked body_at k minted.digest issued.client
 
--- the client of the root revoked the token by its minted digest, if both are there
+-- the client of the root revoked the token by its minted digest, if both are there (RFC 7009, 2.1)
 abbrev pub is_ended_by : FactSet → TokenId → Option MintedFields → Option Root → Bool
 is_ended_by F k None root = false
 is_ended_by F k (Some minted) None = false
 is_ended_by F k (Some minted) (Some root) = is_revoked F k minted.digest root.issued.client
 
--- the client of the code that the token is under revoked the token: the test
+-- the client of the code that the token is under revoked the token: the test (RFC 7009, 2.1)
 abbrev pub is_ended : FactSet → TokenId → Bool
 is_ended F k = is_ended_by F k (minted_in (map.get F) k) (root_in (map.get F) k.dot)
 
@@ -197,16 +197,16 @@ pub record IsReused (body_at : Bodies) (k : TokenId) : Type 0 where
   pub held : body_at place ≡ Some (ReuseSeen reuse)
   pub token : reuse.token ≡ k
 
--- the body is that the token's reuse was seen
+-- the body is that the token's reuse was seen (RFC 6749, 4.1.2, 10.4 and 10.5)
 abbrev pub reuse_of : TokenId → Body → Bool
 reuse_of k (ReuseSeen f) = is_same_token f.token k
 reuse_of k body = false
 
--- the fact is that the token's reuse was seen
+-- the fact is that the token's reuse was seen (RFC 6749, 4.1.2, 10.4 and 10.5)
 abbrev pub sees_reuse : TokenId → Dot × Body → Bool
 sees_reuse k f = reuse_of k f.1
 
--- a fact of the set is that the token's reuse was seen
+-- a fact of the set is that the token's reuse was seen (RFC 6749, 4.1.2, 10.4 and 10.5)
 abbrev pub is_reused : FactSet → TokenId → Bool
 is_reused F k = any_fact (sees_reuse k) F
 
@@ -217,7 +217,7 @@ IsStopped body_at k =
     ((k.kind ≡ kind.Refresh) × IsEnded body_at k) ⊎ ((k.kind ≡ kind.Code) × IsOut body_at k.dot)
 
 -- the token is a refresh token that its client revoked, or a code whose subject signed out: the
--- test
+-- test (RFC 7009, 2.1; own)
 abbrev pub is_stopped : FactSet → TokenId → Bool
 is_stopped F k = (is_refresh k.kind && is_ended F k) || (is_code k.kind && is_out F k.dot)
 
@@ -225,11 +225,12 @@ is_stopped F k = (is_refresh k.kind && is_ended F k) || (is_code k.kind && is_ou
 abbrev pub IsMarked : Bodies → TokenId → Type 0
 IsMarked body_at k = IsReused body_at k ⊎ IsStopped body_at k
 
--- the token's reuse was seen, or the token is stopped: the test
+-- the token's reuse was seen, or the token is stopped: the test (RFC 6749, 4.1.2, 10.4 and 10.5;
+-- own)
 abbrev pub is_marked : FactSet → TokenId → Bool
 is_marked F k = is_reused F k || is_stopped F k
 
--- the grant of the link, if there is one, is marked or used twice
+-- the grant of the link, if there is one, is marked or used twice (RFC 6749, 4.1.2, 10.4 and 10.5)
 abbrev pub is_bad_grant : FactSet → Dot → Option Link → Bool
 is_bad_grant F d None = false
 is_bad_grant F d (Some link) = is_marked F (grant_at d link) || is_twice F (grant_at d link)
@@ -239,7 +240,7 @@ is_bad_grant F d (Some link) = is_marked F (grant_at d link) || is_twice F (gran
 abbrev pub is_bad : FactSet → Dot × Body → Bool
 is_bad F f = is_bad_grant F f.0 (link_of f.1)
 
--- the fact mints a bad grant under the code
+-- the fact mints a bad grant under the code (RFC 6749, 4.1.2, 10.4 and 10.5)
 abbrev pub kills : FactSet → Dot → Dot × Body → Bool
 kills F c f = names_dot (code_in (map.get F) f.0) c && is_bad F f
 

@@ -10,7 +10,7 @@ use tk_scope::Scope;
 pub struct ClientView<'a> {
     /// The client's kind, with the digest of its secret if it has one.
     pub client_kind: &'a ClientKind,
-    /// The scope that the client may ask for at most.
+    /// The greatest scope that the client may request.
     pub scope: &'a Scope,
     /// The URIs that the client's users may be sent back to (RFC 6749, 3.1.2).
     pub redirects: &'a Redirects,

@@ -157,7 +157,7 @@ impl Ledger {
         revocations::is_revoked(&self.index.revocations, token, digest, client)
     }
 
-    /// Returns the greatest moment at which the subject signed out everywhere, or None if no
+    /// Returns the greatest moment at which the subject signed out everywhere, or `None` if no
     /// sign-out of the subject is held (own).
     pub fn signed_out(&self, subject: &Subject) -> Option<Moment>
         ensures value { (moment : ℕ) → is_signed_out (held_facts self.now) subject.now moment

@@ -14,10 +14,9 @@
 //!   revocations and sign-outs. `status` returns the status of a handle, by one to eight look-ups.
 //!
 //! In reading order: `Ledger`, `ClientView`, `ConsentView`, `Status`, `Standing`, `State`; `index`
-//! for the tables and the change that a fact makes in them, `wake` for the marks of a dot. The
-//! definitions are in `specs/`: `Clients`, `SignOuts`, `Tokens`, `Status`, `Standings`, `Ends`; for
-//! the index `Changes`, `Index`, `Losses`, `ByTop`; for pruning `Retention`, `Slices`. The
-//! functions of `laws` have empty bodies: they state the laws in `specs/Laws.antt`.
+//! for the tables and the change that a fact makes in them, `wake` for the marks of a dot.
+//! `specs/Lib.antt` lists the definitions. The functions of `laws` have empty bodies: they state
+//! the laws in `specs/Laws.antt`.
 #![tactic(auto)]
 
 mod change;

@@ -41,7 +41,7 @@ redirects_refusal uris =
     else if list_all is_uri uris then None
     else Some Malformed
 
--- the list itself, if it breaks no rule
+-- the list itself, if it breaks no rule (RFC 6749, 3.1.2; own)
 abbrev pub redirects_of : List (List ℕ) → Option (List (List ℕ))
 redirects_of uris = if is_none (redirects_refusal uris) then Some uris else None
 
@@ -58,7 +58,8 @@ Refuses text = (e : ParseError) × (parse_url None text ≡ Err e) × (IsOutOfRo
 abbrev pub is_absolute : List ℕ → Bool
 is_absolute uri = is_ok (parse_url None uri)
 
--- the first rule that a list of URIs breaks if each must be read as a URL too
+-- the first rule that a list of URIs breaks if each must be read as a URL too (RFC 6749, 3.1.2;
+-- own)
 abbrev pub registration_refusal : List (List ℕ) → Option RedirectError
 registration_refusal uris =
     if is_some (redirects_refusal uris) then redirects_refusal uris
@@ -70,6 +71,7 @@ abbrev pub is_registrable : List ℕ → Bool
 is_registrable uri = is_any_port uri || is_absolute uri
 
 -- the first rule that a list of URIs breaks if each must be a URL, or of this machine at any port
+-- (RFC 6749, 3.1.2; RFC 8252, 7.3; own)
 abbrev pub client_refusal : List (List ℕ) → Option RedirectError
 client_refusal uris =
     if is_some (redirects_refusal uris) then redirects_refusal uris

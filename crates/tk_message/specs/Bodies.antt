@@ -34,30 +34,30 @@ use Rattle.tk_fact.specs.declared.client_kind.ClientKind.TheVariants.{
 }
 use Rattle.tk_ledger.specs.StandingFields.{StandingFields}
 
--- the body of an error
+-- the body of an error (RFC 6749, 5.2)
 abbrev pub error_body : List ℕ → Data
 error_body name = object (member (codes "error") (string name) no_members)
 
--- the body with a client's id
+-- the body with a client's id (own)
 abbrev pub client_body : Dot → Data
 client_body client = object (member (codes "client_id") (string (client_text client)) no_members)
 
--- the body with a consent's id
+-- the body with a consent's id (own)
 abbrev pub consent_body : Dot → Data
 consent_body consent =
     object (member (codes "consent_id") (string (consent_text consent)) no_members)
 
--- the body with the name of a subject
+-- the body with the name of a subject (own)
 abbrev pub subject_body : List ℕ → Data
 subject_body subject = object (member (codes "subject") (string subject) no_members)
 
--- the name of a client's kind
+-- the name of a client's kind (own)
 abbrev pub kind_name : ClientKind → List ℕ
 kind_name Public = codes "public"
 kind_name (Confidential digest) = codes "confidential"
 kind_name (Resource digest) = codes "resource"
 
--- the body that shows a client
+-- the body that shows a client (own)
 abbrev pub shown_body : Dot → ClientKind → Bool → List ℕ → Data
 shown_body client client_kind live scope = object
     (member (codes "client_id") (string (client_text client))
@@ -97,14 +97,14 @@ refresh_body client expiry start scope subject = object
     (member (codes "scope") (string scope)
     (member (codes "sub") (string subject) no_members))))))
 
--- the body of an active token, by its standing
+-- the body of an active token, by its standing (RFC 7662, 2.2)
 abbrev pub standing_body : (Dot → ℕ → ℕ → List ℕ → List ℕ → Data) → StandingFields → Data
 standing_body body s = body s.client s.expiry s.start s.scope s.subject
 
--- a token that is not active
+-- a token that is not active (RFC 7662, 2.2)
 abbrev pub inactive_body : Data
 inactive_body = object (member (codes "active") (boolean false) no_members)
 
--- the number of a bundle's facts that were new
+-- the number of a bundle's facts that were new (own)
 abbrev pub taken_body : ℕ → Data
 taken_body count = object (member (codes "took") (number (unsigned count)) no_members)

@@ -11,11 +11,11 @@ use Rattle.tk_message.specs.declared.error_code.ErrorCode.{ErrorCode}
 use Rattle.tk_message.specs.ReplyFields.{ReplyFields}
 use Rattle.tk_message.specs.Reply.{error_reply, later_reply}
 
--- a reply without a fact
+-- a reply without a fact (own)
 abbrev pub answered : ReplyFields → Decision
 answered reply = record { reply = reply; made = None }
 
--- an error reply without a fact
+-- an error reply without a fact (RFC 6749, 5.2)
 abbrev pub refused : ErrorCode → Decision
 refused code = answered (error_reply code)
 
@@ -23,6 +23,6 @@ refused code = answered (error_reply code)
 abbrev pub postponed : Decision
 postponed = answered later_reply
 
--- the body made, if any, passes the check of facts
+-- the body made, if any, passes the check of facts (own)
 abbrev pub Passes : Option Body → Type 0
 Passes made = IfSome made (λ body. refusal_of body ≡ None)

@@ -28,8 +28,8 @@ use Rattle.tk_message.specs.declared.error_code.ErrorCode.TheVariants.{
   Conflict,
 }
 
--- the status and the name of an error. For an error that RFC 6749 names, the status is 400, but for
--- invalid_client, 401 (RFC 6749, 5.2), and temporarily_unavailable, 503
+-- a table with a row for each error: its status and its name. For an error that RFC 6749 names, the
+-- status is 400, but for invalid_client, 401 (RFC 6749, 5.2), and temporarily_unavailable, 503
 abbrev pub error_row : ErrorCode → StatusCode × List ℕ
 error_row InvalidRequest = (status.BadRequest, codes "invalid_request")
 error_row InvalidClient = (status.Unauthorized, codes "invalid_client")
@@ -50,10 +50,10 @@ error_row OutOfRange = (status.Conflict, codes "out_of_range")
 error_row OwnNumber = (status.Conflict, codes "own_number")
 error_row Conflict = (status.Conflict, codes "conflict")
 
--- the status of an error
+-- the status of an error (RFC 6749, 4.1.2.1 and 5.2; own)
 abbrev pub error_status : ErrorCode → StatusCode
 error_status code = (error_row code).0
 
--- the name of an error
+-- the name of an error (RFC 6749, 4.1.2.1 and 5.2; own)
 abbrev pub error_name : ErrorCode → List ℕ
 error_name code = (error_row code).1

@@ -2,7 +2,7 @@
 --   RequestFields    RequestFields, what contracts see of a request
 --   Authentication   authenticated, the client that credentials prove
 --   Caller           caller_of, the client that sends a request
---   ScopeAsked       scope_asked, the scope that a request asks for
+--   ScopeAsked       scope_asked, the scope that is requested
 --   StatusCode       status_number, the number of a status
 --   ErrorCode        error_row, the status and the name of an error
 --   Bodies           the JSON bodies of replies, as values

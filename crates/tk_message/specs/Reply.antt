@@ -27,7 +27,7 @@ abbrev pub asks_by : StatusCode → Asks
 asks_by Unauthorized = asks.Credentials
 asks_by status = asks.Nothing
 
--- a status and the body's text, without spaces and without a redirect
+-- a status and the body's text, without spaces and without a redirect (RFC 6749, 5.1 and 5.2; own)
 abbrev pub json_reply : StatusCode → Data → ReplyFields
 json_reply status body = record {
   status = status;
@@ -36,7 +36,7 @@ json_reply status body = record {
   content = JsonText (compact_text body);
 }
 
--- the reply for an error: its status and its name
+-- the reply for an error: its status and its name (RFC 6749, 5.2)
 abbrev pub error_reply : ErrorCode → ReplyFields
 error_reply code = json_reply (error_status code) (error_body (error_name code))
 
@@ -44,7 +44,7 @@ error_reply code = json_reply (error_status code) (error_body (error_name code))
 abbrev pub later_reply : ReplyFields
 later_reply = record (error_reply TemporarilyUnavailable) { asks = asks.Retry }
 
--- a pair, and the state behind it, if there is one
+-- a pair, and the state behind it, if there is one (RFC 6749, 4.1.2 and 4.1.2.1)
 abbrev pub with_state : List ℕ → List ℕ → Option (List ℕ) → List (List ℕ × List ℕ)
 with_state name value None = (name, value) ∷ []
 with_state name value (Some state) = (name, value) ∷ (codes "state", state) ∷ []
@@ -58,7 +58,7 @@ redirect_reply uri name value state = record {
   content = Nothing;
 }
 
--- the reply for a token that is not active
+-- the reply for a token that is not active (RFC 7662, 2.2)
 abbrev pub inactive_reply : ReplyFields
 inactive_reply = json_reply Ok inactive_body
 
@@ -71,7 +71,7 @@ empty_reply status = record {
   content = Nothing;
 }
 
--- the reply with bytes that are no text, such as a bundle
+-- the reply with bytes that are no text, such as a bundle (own)
 abbrev pub bytes_reply : List ℕ → ReplyFields
 bytes_reply bytes = record {
   status = Ok;

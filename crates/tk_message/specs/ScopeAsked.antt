@@ -1,6 +1,6 @@
--- The scope that a request asks for (RFC 6749, 3.3).
+-- The scope that is requested (RFC 6749, 3.3).
 --   within_whole   a scope, if it is within the whole
---   scope_asked    the scope that a request asks for
+--   scope_asked    the scope that is requested
 use Rattle.std.specs.Prelude.{ℕ, List, Option, Some, None, if◌then◌else◌}
 use Rattle.tk_scope.specs.Scope.{scope_of, is_within}
 

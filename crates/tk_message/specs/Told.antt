@@ -36,14 +36,14 @@ use Rattle.tk_message.specs.ErrorCode.{error_status, error_name}
 use Rattle.tk_message.specs.Reply.{json_reply}
 use Rattle.tk_message.specs.ReplyFields.{ReplyFields}
 
--- the status of the reply
+-- the status of the reply (RFC 6749, 5.1 and 5.2; RFC 7662, 2.2; own)
 abbrev pub status_of : Told → StatusCode
 status_of (Error code) = error_status code
 status_of (Client status client) = status
 status_of (Consent status consent) = status
 status_of told = Ok
 
--- the body of the reply
+-- the body of the reply (RFC 6749, 5.1 and 5.2; RFC 7662, 2.2; own)
 abbrev pub body_of : Told → Data
 body_of (Error code) = error_body (error_name code)
 body_of (Client status client) = client_body client
@@ -57,6 +57,6 @@ body_of (Refresh s) = standing_body refresh_body s
 body_of Inactive = inactive_body
 body_of (Taken count) = taken_body count
 
--- the reply that says this
+-- the reply that says this (RFC 6749, 5.1 and 5.2; RFC 7662, 2.2; own)
 abbrev pub told : Told → ReplyFields
 told t = json_reply (status_of t) (body_of t)

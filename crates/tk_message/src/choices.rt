@@ -7,7 +7,7 @@ pub struct Choices {
     pub unseen: UnseenRevocation,
     /// What a region does if a consent is given again.
     pub consent: ConsentReuse,
-    /// The kinds of redirection URIs that a client may have; None for every absolute URL.
+    /// The kinds of redirection URIs that a client may have; `None` for every absolute URL.
     pub redirects: Option<RedirectKinds>,
     /// Which senders of introspection requests see refresh tokens.
     pub refresh_seen: RefreshSeen,

@@ -14,7 +14,8 @@ use tk_fact::Body;
 pub struct Decision {
     /// The reply. The server sends it once the fact is stored.
     pub reply: Reply,
-    /// The body of the fact, which gets the dot of the `Place`; None if the request makes no fact.
+    /// The body of the fact, which gets the dot of the `Place`; `None` if the request makes no
+    /// fact.
     pub made: Option<Body>,
 }
 

@@ -2,7 +2,7 @@
 //!
 //! - A `Request` goes to an `Endpoint`, with the parameters and credentials of tk_params.
 //!   `find_caller` returns the client that sends it, by `authenticate`, and `scope_asked` the scope
-//!   that it asks for.
+//!   that is requested.
 //! - A `Reply` has a `StatusCode`, perhaps a place to redirect to, and a `Payload`. An `ErrorCode`
 //!   has a name and a status. `Told` is what a JSON reply says: `Told::reply` writes every one.
 //! - A `Decision` is a reply, and the fact that the request makes, if any. A `Place` is the dot of

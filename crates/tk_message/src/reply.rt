@@ -86,7 +86,7 @@ pub fn empty_reply(status: StatusCode) -> Reply
 }
 
 /// Returns a redirect to the URI, with a pair and the state, if any, in its query (RFC 6749, 4.1.2
-/// and 4.1.2.1).
+/// and 4.1.2.1). Returns an error if memory runs out.
 pub fn redirect_reply(
     alloc: Global,
     uri: &str,
@@ -109,7 +109,8 @@ pub fn redirect_reply(
     })
 }
 
-/// Returns the text of a handle, 48 letters, as a client gets it.
+/// Returns the text of a handle, 48 letters, as a client gets it. Returns an error if memory runs
+/// out.
 pub fn handle_string(alloc: Global, handle: &Handle) -> Result<String, AllocError>
     ensures { IfOk result (λ text. string_bytes text ≡ handle_text handle.now) }
 {

@@ -1,4 +1,4 @@
-//! The scope that a request asks for (RFC 6749, 3.3).
+//! The scope that is requested (RFC 6749, 3.3).
 
 ghost use Rattle.std.specs.Prelude.{◌≡◌, IfOk, Some};
 ghost use Rattle.std.specs.Option.{option_copied};
@@ -7,10 +7,10 @@ ghost use Rattle.tk_message.specs.ScopeAsked as spec;
 use std::alloc::{AllocError, Global};
 use tk_scope::{Scope, ScopeError};
 
-/// Returns the scope that a request asks for: the scope that it sends, or the whole if it sends no
-/// scope (RFC 6749, 3.3).
+/// Returns the scope that is requested: the scope that was sent, or the whole if no scope was sent
+/// (RFC 6749, 3.3).
 ///
-/// Returns None if the text is not a scope or goes beyond the whole, and an error if memory runs
+/// Returns `None` if the text is not a scope or goes beyond the whole, and an error if memory runs
 /// out.
 pub fn scope_asked(
     alloc: Global,

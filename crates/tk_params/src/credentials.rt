@@ -9,7 +9,7 @@ use std::marker::Model;
 /// Texts from the parameters are borrowed from them. Contracts see the bytes.
 #[derive(Drop)]
 pub struct Credentials<'a> {
-    // Those of a header. Without a header the body's count.
+    // The id and secret of the header, if there is one. They count in place of the body's.
     header: Option<Basic>,
     id: Option<&'a str>,
     secret: Option<&'a str>,

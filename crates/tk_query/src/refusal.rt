@@ -15,7 +15,7 @@ pub(crate) enum Refusal {
     MixedCredentials,
     /// No client is authenticated (RFC 7662, 2.3; RFC 7009, 2.1).
     InvalidClient,
-    /// A public client, which has no secret, asks for introspection (RFC 7662, 2.1).
+    /// A public client, which has no secret, requests introspection (RFC 7662, 2.1).
     PublicClient,
     /// There is no `token` (RFC 7662, 2.1; RFC 7009, 2.1).
     MissingToken,

@@ -13,10 +13,9 @@
 //!   `temporarily_unavailable`.
 //! - `page` makes a bundle for another region, by the `vector` of that region.
 //!
-//! In reading order: `Settings`, `Region`, `Prepared`, `Handled`, `TakeError`. The definitions are
-//! in `specs/`: `Decision` for the decision of a request, `Repeating` for that of a repeat, `Step`
-//! for the outcomes of `commit`, `Taking` for those of `take_in`. The crate reads no clock and
-//! draws no random words: both come with each request.
+//! In reading order: `Settings`, `Region`, `Prepared`, `Handled`, `TakeError`. `specs/Lib.antt`
+//! lists the definitions. The crate reads no clock and draws no random words: both come with each
+//! request.
 #![tactic(auto)]
 
 mod decision;

@@ -102,7 +102,8 @@ impl Region {
     /// Returns the region's vector: to each region, the serial up to which each dot is known here,
     /// by a fact that is held or by a mark.
     ///
-    /// Another region that gets this vector makes pages of what is missing.
+    /// Another region that gets this vector makes pages of what is missing. The method fails if
+    /// memory runs out.
     pub fn vector(&self, alloc: Global) -> Result<VersionVector, AllocError>
         ensures { IfOk result (IsFront self.now.facts.slots) }
     {
@@ -110,7 +111,8 @@ impl Region {
     }
 
     /// Makes a page for another region: the first 128 facts and marks above the cursor `after` that
-    /// the vector does not cover, as a bundle. A bundle with a mark has the horizon too.
+    /// the vector does not cover, as a bundle. A bundle with a mark has the horizon too. Returns an
+    /// error, and no part of a page, if memory runs out.
     pub fn page(
         &self,
         alloc: Global,
@@ -268,7 +270,10 @@ impl Region {
 
     /// Takes in a bundle that was read, as [`Region::take_in`] takes in its bytes.
     ///
-    /// Returns the number of its dots that were unknown. The facts move into the region.
+    /// Returns the number of its dots that were unknown. The facts move into the region. Returns
+    /// `OwnNumber` or `Conflict` if the bundle is refused; the region is unchanged then. Returns
+    /// `Memory` if memory runs out; the horizon may then have been raised, and the first of the
+    /// items may have been taken in.
     pub fn take_bundle(&mut self, sent: Bundle) -> Result<u16, TakeError>
         requires { bundle.Fits sent }
         ensures number { self.new.number ≡ self.old.number }
@@ -283,8 +288,9 @@ impl Region {
     /// Returns the record of a bundle in a log of the region, before the region takes the bundle
     /// in: the bundle without the facts at skipped dots, which the region drops.
     ///
-    /// Returns None if the bundle changes nothing: it raises no horizon, has no unknown dot, and no
-    /// mark of a fact that is held.
+    /// Returns `None` if the bundle changes nothing: it raises no horizon, has no unknown dot, and
+    /// no mark of a fact that is held. Returns an error, and no part of a record, if memory runs
+    /// out.
     pub fn news(&self, alloc: Global, sent: &Bundle) -> Result<Option<Vec<u8>>, AllocError>
         requires { bundle.Fits sent.now }
         ensures news { IfOk result (λ news. option_map (λ bytes. bytes.items) news

@@ -71,8 +71,8 @@ impl Settings {
     /// The greatest cap. The serial above it is left for the dot of the next fact.
     pub const GREATEST_CAP: u64 = Serial::GREATEST - 1;
 
-    /// Returns the settings with the profile's choices, or None if one of the numbers is out of its
-    /// range.
+    /// Returns the settings with the profile's choices, or `None` if one of the numbers is out of
+    /// its range.
     ///
     /// Each number is at least 1. A code lives at most 600 seconds, an access token 86,400, a
     /// refresh token 31,536,000, a family 315,360,000. The cap is at most the greatest serial less

@@ -10,7 +10,7 @@ use tk_message::Reply;
 pub struct Prepared {
     /// The reply.
     pub reply: Reply,
-    /// The fact; None if the request makes no fact.
+    /// The fact; `None` if the request makes no fact.
     pub fact: Option<Fact>,
     /// The record of the fact: the bundle of that fact alone.
     pub logged: Option<Vec<u8>>,
@@ -34,7 +34,7 @@ impl Model for Prepared {
 pub struct Handled {
     /// The reply.
     pub reply: Reply,
-    /// The record of the fact, the bundle of that fact alone; None if the request made no fact.
+    /// The record of the fact, the bundle of that fact alone; `None` if the request made no fact.
     pub logged: Option<Vec<u8>>,
 }
 

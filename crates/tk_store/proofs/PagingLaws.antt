@@ -121,7 +121,7 @@ above_known : (b : Slot) (o : Option Slot) → SlotBelow (Some b) o → (c : Slo
 above_known b None h = absurd h
 above_known b (Some c) h = (c, refl)
 
--- what is above a cursor is told by its dot alone
+-- whether a slot is above a cursor depends on the dot alone
 above_any : (after : Option Dot) (d : Dot) (b c : Slot) → is_above after (d, b) ≡ true → is_above after (d, c) ≡ true
 above_any None d b c h = refl
 above_any (Some e) d b c h = h

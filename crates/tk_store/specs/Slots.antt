@@ -74,6 +74,7 @@ abbrev slot_body : Slot → Option Body
 slot_body (Held b) = Some b
 slot_body Skipped = None
 
+-- the slot that holds a body, or the mark without one
 abbrev body_slot : Option Body → Slot
 body_slot (Some b) = Held b
 body_slot None = Skipped

@@ -13,9 +13,8 @@
 //!   walk over all slots, nothing else does.
 //!
 //! Contracts see a store as a finite map from dots to slots, and a horizon. The store keeps a map
-//! by dot (`table`) and the front (`advance`); the crates above see neither. The definitions are in
-//! `specs/`: `FactSet`, `Slots`, `StoreFields`, `Adding`, `Skipping`, then those of walks and
-//! pages.
+//! by dot (`table`) and the front (`advance`); the crates above see neither. `specs/Lib.antt` lists
+//! the definitions.
 #![tactic(auto)]
 
 mod advance;

@@ -128,8 +128,10 @@ impl FactStore {
 
     /// Adds a fact that passes its check.
     ///
-    /// A fact whose dot is skipped is dropped if it may be skipped, and refused if it lasts. If the
-    /// fact is refused, it is dropped, and the store is unchanged.
+    /// A fact whose dot is skipped is dropped if it may be skipped, and refused if it lasts.
+    /// Returns `Conflict` if the fact lasts and its dot is skipped, or if the dot has another fact,
+    /// and `Memory` if memory runs out at an unknown dot. After an error the fact is dropped, and
+    /// the store is unchanged.
     pub fn add(&mut self, fact: Fact) -> Result<Added, AddError>
         requires { refusal_of fact.1 ≡ None }
         ensures { AddsTo self.old fact result self.new }
@@ -152,8 +154,9 @@ impl FactStore {
 
     /// Skips a dot: drops the fact that is held there, and lets no fact be held there again.
     ///
-    /// A fact that lasts is not skipped, and the store is unchanged then. If the dot is known, the
-    /// call can't run out of memory.
+    /// Returns `Conflict` if a fact that lasts is held there, and `Memory` if memory runs out at an
+    /// unknown dot. The store is unchanged after both. If the dot is known, the call can't run out
+    /// of memory.
     pub fn skip(&mut self, dot: Dot) -> Result<Added, AddError>
         ensures skips { Skips self.old dot result self.new }
         ensures known { sets.get self.old.slots dot ≢ None → result ≢ Err error.Memory }
@@ -274,7 +277,8 @@ impl FactStore {
     /// Returns the first known dots that the vector does not cover, above a cursor, ascending, at
     /// most `limit`.
     ///
-    /// Costs one or two look-ups for each of them, and for each region with dots.
+    /// Costs one or two look-ups for each of them, and for each region with dots. Fails if memory
+    /// runs out.
     pub fn since(
         &self,
         alloc: Global,

@@ -36,7 +36,8 @@ impl VersionVector {
         Ok(writer.into_bytes())
     }
 
-    /// Returns the vector that all of the bytes together spell.
+    /// Returns the vector that all of the bytes together spell. Returns `Malformed` if they spell
+    /// no vector, and `Memory` if memory runs out.
     pub fn read(alloc: Global, bytes: &[u8]) -> Result<VersionVector, ReadError>
         ensures found { IfOk result (λ v. vector.Fits v × (bytes.now ≡ vector_bytes v)) }
         ensures malformed { IsErrOf result ReadError.Malformed → (v : Vector) → vector.Fits v

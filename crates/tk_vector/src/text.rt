@@ -13,7 +13,8 @@ impl VersionVector {
     /// Returns the vector of a text.
     ///
     /// The text is `-` for the empty vector, or entries `R:S` joined by commas. Regions rise, and
-    /// numbers are decimals without leading zeros, serials from 1.
+    /// numbers are decimals without leading zeros, serials from 1. Returns `Malformed` if the text
+    /// is no such text, and `Memory` if memory runs out.
     pub fn read_text(alloc: Global, text: &[u8]) -> Result<VersionVector, ReadError>
         ensures found { IfOk result (IsVectorText text.now) }
         ensures malformed { IsErrOf result ReadError.Malformed → IsNoVectorText text.now }
