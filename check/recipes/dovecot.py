@@ -221,6 +221,19 @@ class Mailbox(MailCase):
         self.assertEqual(self.enter("ann", self.tokens["refresh_token"]), ("OK", ""))
 
 
+class WithoutItsLine(Mailbox):
+    """A region that shows refresh tokens to their clients alone, and no line `pass_attrs`."""
+
+    options = "--refresh-seen", "client"
+
+    def asking(self):
+        lines = re.sub("(?m)^pass_attrs = .*\n", "", super().asking())
+        self.assertNotIn("pass_attrs", lines)
+        return lines
+
+    test_without_its_line_a_refresh_token_gets_in = None
+
+
 class ByWho(Mailbox):
     """The lines of the README that ask `who`."""
 

@@ -21,9 +21,10 @@ print(flow.run_local_server(port=0, open_browser=False).token)
 """
 
 
-def has_google():
+def has(module):
+    """Whether Debian's Python has a module."""
     return os.path.exists(PYTHON) and not subprocess.run(
-        [PYTHON, "-c", "import google_auth_oauthlib"], capture_output=True, check=False).returncode
+        [PYTHON, "-c", "import " + module], capture_output=True, check=False).returncode
 
 
 def arrives(place):
@@ -99,7 +100,7 @@ class FreePorts(Case):
         self.assertRegex(place, r"^http://localhost:\d+/\?code=")
         self.assertTrue(self.is_active(access), access)
 
-    @unittest.skipUnless(has_google(), "passed over: no google_auth_oauthlib")
+    @unittest.skipUnless(has("google_auth_oauthlib"), "passed over: no google_auth_oauthlib")
     def test_google_auth_at_port_0(self):
         settings = ('{"installed": {"client_id": "%s", "client_secret": "s3cret", "auth_uri": '
                     '"%s/authorize", "token_uri": "%s/token"}}' % (

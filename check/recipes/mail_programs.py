@@ -11,6 +11,7 @@ import threading
 import unittest
 
 from app import example
+from lib import Broken
 from lib.tls import OPENSSL, make_certificate
 from mail_tokens import SCRIPT, TokenCase
 
@@ -23,6 +24,30 @@ require("nodemailer").createTransport({
 }).sendMail({from: "ann@example.org", to: "bob@example.org", subject: "x", text: "y"});
 """
 OAUTH2 = "/usr/share/doc/mutt/examples/mutt_oauth2.py"
+
+
+def mutt_oauth2(url, back, client):
+    """The text of Debian's script for a public client, without gpg."""
+    with open(OAUTH2, encoding="utf-8") as file:
+        text = file.read()
+    for old, new in (("['gpg', '--encrypt', '--recipient', 'YOUR_GPG_IDENTITY']", "['cat']"),
+                     ("['gpg', '--decrypt']", "['cat']"),
+                     ("https://accounts.google.com/o/oauth2/token", url),
+                     ("'urn:ietf:wg:oauth:2.0:oob'", "'%s'" % back),
+                     ("'scope': 'https://mail.google.com/'", "'scope': 'mail'"),
+                     ("'client_id': ''", "'client_id': '%s'" % client)):
+        if old not in text:
+            raise Broken("mutt_oauth2.py has no %s" % old)
+        text = text.replace(old, new, 1)
+    return text
+
+
+def write_tokens(path, refresh_token):
+    """The script's file of tokens, of which the access token has expired."""
+    with open(os.open(path, os.O_WRONLY | os.O_CREAT, 0o600), "w") as file:
+        json.dump({"registration": "google", "authflow": "authcode", "email": "ann",
+                   "access_token": "", "access_token_expiration": "",
+                   "refresh_token": refresh_token}, file)
 
 
 def serve_smtp(listener, found):
@@ -101,20 +126,10 @@ class MuttOauth2(TokenCase):
 
     def setUp(self):
         super().setUp()
-        with open(OAUTH2, encoding="utf-8") as file:
-            text = file.read()
-        for old, new in (("['gpg', '--encrypt', '--recipient', 'YOUR_GPG_IDENTITY']", "['cat']"),
-                         ("['gpg', '--decrypt']", "['cat']"),
-                         ("https://accounts.google.com/o/oauth2/token", self.front.url + "/token"),
-                         ("'urn:ietf:wg:oauth:2.0:oob'", "'%s'" % self.back),
-                         ("'scope': 'https://mail.google.com/'", "'scope': 'mail'"),
-                         ("'client_id': ''", "'client_id': '%s'" % self.client)):
-            self.assertIn(old, text)
-            text = text.replace(old, new, 1)
         self.tokens = self.folder + "/ann.tokens"
         self.words = ["python3", self.folder + "/mutt_oauth2.py", self.tokens]
         with open(self.words[1], "w", encoding="utf-8") as file:
-            file.write(text)
+            file.write(mutt_oauth2(self.front.url + "/token", self.back, self.client))
 
     def test_a_code_by_hand(self):
         child = subprocess.Popen([*self.words, "--authorize"], text=True, stdin=subprocess.PIPE,
@@ -131,10 +146,7 @@ class MuttOauth2(TokenCase):
 
     def test_calls_at_once_below_flock(self):
         self.assertEqual(self.log_in(), (0, ""))
-        with open(os.open(self.tokens, os.O_WRONLY | os.O_CREAT, 0o600), "w") as file:
-            json.dump({"registration": "google", "authflow": "authcode", "email": "ann",
-                       "access_token": "", "access_token_expiration": "",
-                       "refresh_token": self.kept()["refresh_token"]}, file)
+        write_tokens(self.tokens, self.kept()["refresh_token"])
         children = [subprocess.Popen(["flock", self.tokens, *self.words], text=True,
                                      stdout=subprocess.PIPE) for _ in range(8)]
         said = {child.communicate(timeout=60)[0].strip() for child in children}

@@ -16,6 +16,7 @@ from dovecot import CAN, LACKING, MailCase
 
 ROUNDCUBE, ETC = "/var/lib/roundcube/public_html", "/etc/roundcube"
 IS_HERE = shutil.which("php") and os.path.exists(ROUNDCUBE + "/index.php")
+ABSENT = "passed over: no Roundcube (apt-get install roundcube-core)"
 WORD = "webmail-word"
 BASE = """
 $config['db_dsnw'] = 'sqlite:///%(folder)s/db?mode=0600';
@@ -32,7 +33,7 @@ class NoRedirect(urllib.request.HTTPRedirectHandler):
 
 
 @unittest.skipUnless(CAN, LACKING)
-@unittest.skipUnless(IS_HERE, "passed over: no Roundcube (apt-get install roundcube-core)")
+@unittest.skipUnless(IS_HERE, ABSENT)
 class Webmail(MailCase):
     options = "--access", "12"  # Roundcube refreshes 10 seconds before the end
     sessions = "php"
@@ -128,17 +129,3 @@ class WithSessionsOfPhp(Webmail):
         status, _, said = self.get(place[len(self.url):])
         self.assertEqual(status, 200)
         self.assertIn("our login", said)
-
-
-class WithSessionsOfTheDatabase(Webmail):
-    """Why the lines of the recipe name the sessions."""
-
-    sessions = "db"
-
-    def test_requests_at_once_end_the_login(self):
-        for _ in range(8):
-            self.jar.clear()
-            self.enter()
-            if self.refreshed() == (False, False):
-                return
-        self.fail("eight logins went on")

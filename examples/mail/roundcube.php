@@ -12,6 +12,6 @@ $config['oauth_identity_uri'] = 'https://login.example/who';
 $config['oauth_identity_fields'] = ['sub'];
 $config['oauth_scope'] = 'mail';
 // PHP's own sessions let one request of a login run at a time, so that one of them refreshes. With
-// 'db', the default, two do, and that ends the login
+// 'db', the default, two do, and without `serve --repeat` that ends the login
 $config['session_storage'] = 'php';
 $config['imap_host'] = 'ssl://mail.example:993';
