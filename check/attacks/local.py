@@ -82,7 +82,7 @@ class Local(Case):
         return done.stdout.strip()
 
     def test_at_a_port_any_user_administers(self):
-        """If this fails, a port tells users apart, and SECURITY is to be mended."""
+        """If this fails, a port refuses some users, and SECURITY is to be mended."""
         if os.geteuid():
             self.skipTest("passed over: it takes root to be another user")
         it = self.tokend(1, *clients(3, 1))

@@ -178,7 +178,7 @@ class Client(Worker):
 
 
 def introspect(site, token):
-    """Whether a token is active at a site, which is noted if it tells anything."""
+    """Whether a token is active at a site. A reply that says so either way is noted."""
     is_known = site.answers.knows(token)
     is_active = site.server.is_active(token.text)
     if is_active:

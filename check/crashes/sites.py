@@ -13,7 +13,7 @@ VECTOR = request("GET", "/sync/vector")
 
 
 def cut_bundle(log):
-    """What a kill amid a write leaves behind a log, which seldom happens by itself."""
+    """What a kill amid a write leaves behind a log, which a kill alone seldom leaves."""
     if not log or whole_records(log) < len(log):
         return b""
     return log[:random.randrange(end_of_bundle(log, 0))]

@@ -158,7 +158,7 @@ class Process(Child, Asked):
         return os.path.join(self.cwd, path)
 
     def give_up(self, seconds):
-        """Ends it, unless it ends by itself within some seconds."""
+        """Ends it, unless it ends within some seconds without a signal."""
         with contextlib.suppress(subprocess.TimeoutExpired):
             self.child.wait(seconds)
         self.stop()

@@ -78,7 +78,7 @@ class Unit:
             "stdout": subprocess.PIPE, "stderr": subprocess.STDOUT} | options)
 
     def run(self, name="ExecStart", number=0, **more):
-        """Status and output of a line. A timer's or a oneshot's line ends by itself."""
+        """Status and output of a line. A timer's or a oneshot's line ends without a stop."""
         child = self.start(name, number, **more)
         try:
             said = child.communicate(timeout=60)[0]

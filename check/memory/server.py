@@ -1,4 +1,4 @@
-"""server: a running `tokend serve` whose allocations fail, and what it is asked."""
+"""server: a running `tokend serve` whose allocations fail, and the requests to it."""
 import contextlib
 import os
 import re

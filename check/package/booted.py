@@ -134,7 +134,8 @@ class Booted(unittest.TestCase):
         self.do("systemctl restart tokend@one")
         self.assertEqual(self.asked_as("www-data", "/authorize", FRONT), "400")
         self.do("systemctl start tokend-compact@one")  # of the logs of two runs
-        self.assertRegex(self.do("journalctl -u tokend-compact@one -o cat"), r"2 files of \d+ bytes")
+        said = self.do("journalctl -u tokend-compact@one -o cat")
+        self.assertRegex(said, r"2 files of \d+ bytes")
         self.do("systemctl stop tokend@one")
         self.assertEqual(self.do("find /run/tokend /run/tokend-front -name one"), "")
 

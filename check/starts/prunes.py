@@ -131,7 +131,7 @@ def log_ahead_ends_a_start(room):
 
 
 def start_waits_for_its_clock(room):
-    """With TOKEND_AHEAD_SECONDS a start waits for the horizon, and goes on by itself."""
+    """With TOKEND_AHEAD_SECONDS a start waits for the horizon, and then goes on."""
     horizon = int(time.time()) + 4
     room.write("site/history/mine.otb", bundle([mark(51, 5)], horizon))
     for text in ("x", "-1", "86401"):

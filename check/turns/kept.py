@@ -90,7 +90,7 @@ class Kept(unittest.TestCase):
                     self.assertEqual(rest_of(peer), wanted, at)
 
     def test_splits(self):
-        """Requests in random order and random pieces, of many clients in turn."""
+        """Requests in random order and random pieces, of many clients by turns."""
         random.seed(SEED)
         with Keeping() as server:
             server.enrol()

@@ -1,4 +1,4 @@
-"""splits: requests that arrive in pieces, of many clients in turn, are answered as whole ones."""
+"""splits: requests that arrive in pieces, of many clients by turns, are answered as whole ones."""
 import random
 import socket
 import unittest

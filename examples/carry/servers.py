@@ -1,4 +1,4 @@
-"""servers: requests to a running server, for its vector, its pages, and pushes of bundles.
+"""servers: requests to a running server, for its vector, its pages, and a push of a bundle.
 
 Each request may be repeated, so a request that fails is tried again. Lost is raised if no try
 helps, Refused if the server takes requests, but not this bundle, and Ahead if it does not take its
@@ -19,14 +19,14 @@ import sys
 import threading
 import time
 from concurrent.futures import ThreadPoolExecutor
-from dataclasses import dataclass, field
+from dataclasses import dataclass
 from pathlib import Path
 from typing import Callable, Iterator, Optional, TypeVar
 
 sys.path.insert(1, str(Path(__file__).resolve().parent.parent.parent / "starter"))
 from bases import Base, connection_to, read_base
 from bundles import (FROM_THE_START, MARK, MOST_BYTES, MOST_ITEMS, Bundle, Malformed, Vector,
-                     read_bundle, read_dot, read_vector, write_pull)
+                     read_bundle, read_vector, write_pull)
 
 PAUSES = 1, 2, 4  # seconds between tries
 LONGEST_PAUSE = 30  # of those that a server asks for
@@ -349,60 +349,3 @@ def pages(source: Server, vector: Vector) -> Iterator[Bundle]:
             page = coming.result()
     if page.items:
         yield page
-
-
-@dataclass
-class Pushed:
-    """What came of the items that were pushed."""
-
-    new: int = 0  # dots that the server didn't know
-    refused: int = 0  # items
-    waiting: int = 0  # marks whose horizon is later than the server's clock
-    left_out: int = 0  # items under numbers that the server doesn't take
-    numbers: set[int] = field(default_factory=set)  # those numbers
-
-
-def push_all(target: Server, bundle: Bundle, pushed: Pushed,
-             complain: Callable[[str], None]) -> None:
-    """Pushes a bundle. A refused one is sent again in halves, down to single items.
-
-    So a refused item holds no other back. If the bundle's horizon is later than the server's clock,
-    its facts are pushed alone: its marks wait for a later run. A number that the server doesn't
-    take is named once, and its other items are left out.
-    """
-    taken = bundle.without(pushed.numbers)
-    pushed.left_out += len(bundle.items) - len(taken.items)
-    if not taken.items:
-        return
-    bundle = taken
-    try:
-        pushed.new += target.push(bundle)
-        return
-    except Ahead as refusal:
-        if not pushed.waiting:
-            complain("%s takes no marks yet: %s" % (target.url, refusal))
-        pushed.waiting += bundle.marks
-        if bundle.facts:
-            push_all(target, bundle.facts_alone(), pushed, complain)
-        return
-    except OutOfRange as refusal:
-        why = str(refusal)
-        if len(bundle.items) == 1:
-            number = read_dot(bundle.cursor).region
-            complain("%s takes no facts of number %d: %s" % (target.url, number, why))
-            pushed.numbers.add(number)
-            pushed.left_out += 1
-            return
-    except Refused as refusal:
-        why = str(refusal)
-    if len(bundle.items) == 1:
-        pushed.refused += 1
-        complain("%s refuses %s%s: %s" % (target.url, "the mark " if bundle.marks else "",
-                                          read_dot(bundle.cursor), why))
-        return
-    before = pushed.refused, pushed.left_out
-    for half in bundle.halves():
-        push_all(target, half, pushed, complain)
-    if (pushed.refused, pushed.left_out) == before:
-        complain("%s refuses %d items at once, %s, and takes them in parts"
-                 % (target.url, len(bundle.items), why))

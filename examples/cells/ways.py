@@ -9,7 +9,8 @@ from pathlib import Path
 from typing import Callable, Iterator, NamedTuple, NoReturn, Optional
 
 from bundles import GREATEST_SERIAL, MARK, Bundle, Dot, Vector, read_dot
-from servers import Access, Lost, Pushed, Server, pages, push_all
+from pushes import Pushed, push_all
+from servers import Access, Lost, Server, pages
 from tables import NUMBERS, Site, Table, Wrong, read_table
 
 ACCESS = Access(connect_time=2, reply_time=10, pauses=())

@@ -97,7 +97,7 @@ func refresh(c *oauth2.Config, token string) (*oauth2.Token, error) {
 	return c.TokenSource(context.Background(), &oauth2.Token{RefreshToken: token}).Token()
 }
 
-// the library has no introspection and no revocation: a form, with id and secret encoded likewise
+// the library has no introspection and no revocation: a form, with id and secret form-encoded
 func post(path, id, secret, token string) (int, string) {
 	form := strings.NewReader(url.Values{"token": {token}}.Encode())
 	request, err := http.NewRequest("POST", at+path, form)

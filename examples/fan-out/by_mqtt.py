@@ -11,7 +11,7 @@ PORT = 1883
 
 
 def client_of(given: argparse.Namespace, name: str) -> mqtt.Client:
-    """A client that the broker keeps a session for, and that connects again by itself."""
+    """A client that the broker keeps a session for, and that connects again when it is cut off."""
     client = mqtt.Client(client_id=name, clean_session=False)
     if given.user:
         client.username_pw_set(given.user, given.password.read_text().strip())

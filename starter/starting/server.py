@@ -158,7 +158,7 @@ def cut_bytes(settings, path):
 
 
 def check_load(settings, number, path):
-    """Stops if the program can't load a file by itself. That takes memory for all of its facts."""
+    """Stops if the program can't load the file alone. A load takes memory for all of its facts."""
     refuse(path, tried(settings, number, path))
 
 

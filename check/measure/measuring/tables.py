@@ -17,7 +17,7 @@ def about_machine():
 
 
 def about_program(path):
-    """Its version, and the digest that tells two builds of a version apart."""
+    """Its version, and the digest, which differs between two builds of a version."""
     said = subprocess.run([path, "--version"], capture_output=True, text=True, check=False)
     with open(path, "rb") as file:
         digest = hashlib.sha256(file.read()).hexdigest()[:12]
