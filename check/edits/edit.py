@@ -37,6 +37,14 @@ class Edit:
             found.setdefault(at, []).append((text.index(old), old, new))
         return found
 
+    def clashes(self, other):
+        """Whether both are in one function, or change one text."""
+        theirs = other.places()
+        return self.of == other.of or any(
+            start < at + len(text) and at < start + len(old)
+            for path, places in self.places().items() for start, old, _ in places
+            for at, text, _ in theirs.get(path, ()))
+
     def apply(self, folder):
         """Changes a copy of the crate, pair by pair."""
         for at, old, new in self.pairs:

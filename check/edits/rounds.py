@@ -1,7 +1,7 @@
 """rounds: which edits of a crate are tried together.
 
-No two edits of a round are in one function. One that is in no single function, or that changes
-what another of its own pairs made, is tried alone.
+No two edits of a round are in one function, or change one text. One that is in no single function,
+or that changes what another of its own pairs made, is tried alone.
 """
 
 ROOM = 20  # edits in a round, so that rounds are short beside each other
@@ -12,13 +12,13 @@ def stands_alone(edit):
 
 
 def rounds_of(edits):
-    """Parts edits into rounds: each goes to the first that has room and none of its function."""
+    """Parts edits into rounds: each goes to the first that has room and none that clashes."""
     rounds = []
     for it in edits:
         if stands_alone(it):
             continue
         free = (them for them in rounds
-                if len(them) < ROOM and it.of not in [other.of for other in them])
+                if len(them) < ROOM and not any(map(it.clashes, them)))
         them = next(free, None)
         if them is None:
             rounds.append([it])
