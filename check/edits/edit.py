@@ -104,4 +104,4 @@ def edits_of(crate):
     return [Edit(os.path.join(folder, it)) for it in sorted(names) if it.endswith(".edit")]
 
 
-FOLDER = "must-fail-together"
+FOLDER = "must-fail"
