@@ -1,10 +1,12 @@
 -- Authorisation and administration make no fact that uses a token. Key results:
 --   authorizes_alone    authorisation requests
 --   administers_alone   administration requests
-use Rattle.std.proofs.Common.{◌≡◌, ℕ, true, false, List, codes, Option, None, IfSome, refl}
+--   lists_alone         requests for a page of clients, which make no fact
+use Rattle.std.proofs.Common.{◌≡◌, ℕ, true, false, List, codes, Option, None, IfSome, Result, Ok, Err, refl}
+use Rattle.tk_handle.specs.declared.dot.Dot.{Dot}
 use Rattle.tk_fact.specs.Keeping.{names_of}
 use Rattle.tk_store.specs.FactSet.{FactSet}
-use Rattle.tk_params.specs.Params.{value_of}
+use Rattle.tk_params.specs.Params.{Pairs, value_of}
 use Rattle.tk_message.specs.RequestFields.{RequestFields}
 use Rattle.tk_message.specs.declared.decision.Decision.{Decision}
 use Rattle.tk_message.specs.declared.place.Place.{Place}
@@ -13,6 +15,8 @@ use Rattle.tk_authorize.specs.Administration.{administered_by, administration_of
 use Rattle.tk_authorize.specs.Chosen.{chosen}
 use Rattle.tk_authorize.specs.Authorization.{decided_by, authorization_of, kept_state}
 use Rattle.tk_authorize.specs.Judged.{judged_of}
+use Rattle.tk_authorize.specs.Listing.{after_named, listed_by, listing_of}
+use Rattle.tk_authorize.specs.declared.admin_refusal.AdminRefusal.{AdminRefusal}
 use Rattle.tk_authorize.specs.declared.administered.Administered.{Administered}
 use Rattle.tk_authorize.specs.declared.administered.Administered.TheVariants as administered
 use Rattle.tk_authorize.specs.declared.judged.Judged.{Judged}
@@ -45,3 +49,10 @@ carried_out_alone place (administered.SignsOut sign_out) = refl
 
 pub administers_alone : (F : FactSet) (place : Place) (now : ℕ) (request : RequestFields) → IfSome (administration_of F place now request).made (λ b. names_of b ≡ None)
 administers_alone F place now request = carried_out_alone place (chosen F place.choices (administered_of F now request))
+
+lists_none : (F : FactSet) (r : Result (Option Dot) AdminRefusal) → (listed_by F r).made ≡ None
+lists_none F (Err why) = refl
+lists_none F (Ok after) = refl
+
+pub lists_alone : (F : FactSet) (params : Pairs) → (listing_of F params).made ≡ None
+lists_alone F params = lists_none F (after_named params)

@@ -2,20 +2,29 @@
 -- clients, consents and sign-outs. Key results:
 --   authorizations_same    the decisions of authorisation requests
 --   administrations_same   the decisions of administration requests
+--   listings_same          the pages of clients
 use Rattle.std.proofs.Common.{◌≡◌, ℕ, Bool, cond, List, codes, Option, None, Some, Result, Ok, Err, refl, ap, ◌∙◌}
+use Rattle.std.specs.FinMap as map
 use Rattle.tk_handle.specs.ClientId.{client_in}
 use Rattle.tk_handle.specs.ConsentId.{consent_in}
 use Rattle.tk_handle.specs.declared.dot.Dot.{Dot}
+use Rattle.tk_handle.specs.Dot.{dot_cmp}
 use Rattle.tk_fact.specs.Subject.{is_subject}
 use Rattle.tk_fact.specs.declared.consent_given.ConsentGiven as given
 use Rattle.tk_match.specs.Pick.{Picked, Uri, Missing, Unknown, picked}
 use Rattle.tk_store.specs.FactSet.{FactSet}
+use Rattle.tk_store.specs.Walk.{above}
 use Rattle.tk_ledger.specs.Clients.{consent_for}
 use Rattle.tk_ledger.specs.SignOuts.{is_signed_out}
 use Rattle.tk_ledger.specs.ViewFields.{ClientFields, ConsentFields}
 use Rattle.tk_ledger.specs.Views.{client_view, consent_view}
+use Rattle.tk_ledger.proofs.ClientWalkLaws.{clients_same}
 use Rattle.tk_params.specs.Params.{Pairs, value_of, has_twice}
+use Rattle.tk_message.specs.ClientPage.{page_body}
+use Rattle.tk_message.specs.Reply.{json_reply}
+use Rattle.tk_message.specs.Decision.{answered}
 use Rattle.tk_message.specs.RequestFields.{RequestFields}
+use Rattle.tk_message.specs.declared.status_code.StatusCode.TheVariants as status
 use Rattle.tk_message.specs.declared.choices.Choices.{Choices}
 use Rattle.tk_message.specs.declared.choices.ConsentReuse.{ConsentReuse}
 use Rattle.tk_message.specs.declared.choices.ConsentReuse.TheVariants.{New, Held}
@@ -29,6 +38,7 @@ use Rattle.tk_authorize.specs.Chosen.{chosen, consented_again, held_or_given}
 use Rattle.tk_authorize.specs.Approval.{approval_by_consent, approval_by_subject, approval_of}
 use Rattle.tk_authorize.specs.Asked.{asked_of}
 use Rattle.tk_authorize.specs.Authorization.{decided_by, authorization_of, kept_state}
+use Rattle.tk_authorize.specs.Listing.{after_named, listed_by, listing_of}
 use Rattle.tk_authorize.specs.Judged.{judged_at, target_of, judged_by_redirect, judged_by_view, judged_by_client, judged_by_id, judged_of, target_names}
 use Rattle.tk_authorize.specs.declared.admin_refusal.AdminRefusal.{AdminRefusal}
 use Rattle.tk_authorize.specs.declared.admin_refusal.AdminRefusal.TheVariants.{DuplicateParameter, MalformedSubject}
@@ -118,6 +128,7 @@ module _ (F G : FactSet) (now : ℕ) (views : (d : Dot) → client_view F d ≡ 
   administered_same endpoint.Revoke params = refl
   administered_same endpoint.AddClient params = refl
   administered_same endpoint.ShowClient params = shown_same (client_named params)
+  administered_same endpoint.ListClients params = refl
   administered_same endpoint.Retire params = retired_same (client_named params)
   administered_same endpoint.Consent params =
       ap (λ (x : Administered). cond (has_twice consent_names params) (administered.Refused DuplicateParameter) x)
@@ -151,3 +162,12 @@ pub administrations_same : (F G : FactSet) (place : Place) (now : ℕ) (request 
 administrations_same F G place now request views consents outs grants =
     ap (λ (a : Administered). administered_by place (chosen F place.choices a)) (administered_same F G now views consents outs request.endpoint request.params)
     ∙ ap (administered_by place) (chosen_same F G grants place.choices (administered_of G now request))
+
+-- ---- pages of clients
+
+pub listings_same : (F G : FactSet) (params : Pairs) → ((d : Dot) → client_view F d ≡ client_view G d) → listing_of F params ≡ listing_of G params
+listings_same F G params views = by_cursor (after_named params)
+  where
+    by_cursor : (r : Result (Option Dot) AdminRefusal) → listed_by F r ≡ listed_by G r
+    by_cursor (Err why) = refl
+    by_cursor (Ok after) = ap (λ (m : map.FinMap dot_cmp ClientFields). answered (json_reply status.Ok (page_body after (above m after)))) (clients_same F G views)

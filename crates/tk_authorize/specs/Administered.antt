@@ -334,6 +334,7 @@ administered_at endpoint.Introspect F now params = Refused UnknownEndpoint
 administered_at endpoint.Revoke F now params = Refused UnknownEndpoint
 administered_at endpoint.AddClient F now params = registered_of params
 administered_at endpoint.ShowClient F now params = shown_of F params
+administered_at endpoint.ListClients F now params = Refused UnknownEndpoint
 administered_at endpoint.Retire F now params = retired_of F params
 administered_at endpoint.Consent F now params = consented_of F params
 administered_at endpoint.Withdraw F now params = withdrawn_of F params

@@ -11,6 +11,7 @@
 --   Administered        administered_of, the cases of each endpoint in their order
 --   Chosen              chosen, a judgement by the region's choices
 --   Administration      administration_of, the decision of a request
+--   Listing             listing_of, the decision of a request for a page of clients
 --   SoundAdministered   IsSoundAdministered, the fact that a judgement makes passes its check
 pub mod Administered
 pub mod Administration
@@ -21,6 +22,7 @@ pub mod Challenge
 pub mod Chosen
 pub mod Denial
 pub mod Judged
+pub mod Listing
 pub mod Refusal
 pub mod Registered
 pub mod SoundAdministered

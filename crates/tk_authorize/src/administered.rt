@@ -59,9 +59,11 @@ pub(crate) fn administer(
     ensures sound { IfOk result IsSoundAdministered }
 {
     match request.endpoint {
-        Endpoint::Authorize | Endpoint::Token | Endpoint::Introspect | Endpoint::Revoke => {
-            Ok(Administered::Refused(AdminRefusal::UnknownEndpoint))
-        }
+        Endpoint::Authorize
+        | Endpoint::Token
+        | Endpoint::Introspect
+        | Endpoint::Revoke
+        | Endpoint::ListClients => { Ok(Administered::Refused(AdminRefusal::UnknownEndpoint)) }
         Endpoint::AddClient => register(alloc, &request.params),
         Endpoint::ShowClient => show(alloc, ledger, &request.params),
         Endpoint::Retire => Ok(retire(ledger, &request.params)),

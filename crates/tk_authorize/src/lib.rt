@@ -9,13 +9,15 @@
 //! and retired, consents are given and withdrawn, subjects are signed out everywhere. An
 //! `AdminRefusal` is the first case of the endpoint that held.
 //!
+//! `decide_clients` (own) lists clients, in pages.
+//!
 //! Who has signed in, and what the subject consents to, is reported by the front end. Who may send
 //! requests to `/admin/` is left to the deployment.
 //!
 //! In reading order: `Refusal`, `Denial`, `challenge`, `Asked`, `Approval`, `Judged`,
 //! `decide_authorize`; then `AdminRefusal`, `registration`, `clients`, `consents`, `sign_outs`,
-//! `Administered`, `chosen`, `decide_admin`. The definitions are in `specs/`, by these names; those
-//! of administration are in `Administered`, `Chosen` and `Administration`.
+//! `Administered`, `chosen`, `decide_admin`, `decide_clients`. The definitions are in `specs/`, by these names; those
+//! of administration are in `Administered`, `Chosen`, `Administration` and `Listing`.
 #![tactic(auto)]
 
 mod admin_refusal;
@@ -30,9 +32,11 @@ mod clients;
 mod consents;
 mod denial;
 mod judged;
+mod listing;
 mod refusal;
 mod registration;
 mod sign_outs;
 
 pub use administration::decide_admin;
 pub use authorization::decide_authorize;
+pub use listing::decide_clients;

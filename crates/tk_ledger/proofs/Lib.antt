@@ -1,6 +1,7 @@
 pub mod BeginningLaws
 pub mod ChangeLaws
 pub mod ClientLaws
+pub mod ClientWalkLaws
 pub mod ConsentLaws
 pub mod ConsentTableLaws
 pub mod EndingLaws

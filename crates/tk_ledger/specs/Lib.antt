@@ -1,6 +1,7 @@
 -- The definitions of this crate, by file:
 --   Bodies           Bodies, the body at each dot; equality of dots and tokens
 --   Clients          clients and consents of a fact set; consent_for
+--   ClientWalk       clients_in, the clients by their dots, and a walk over them
 --   Views            client_view, consent_view, the views of clients and consents
 --   ViewFields       ClientFields, ConsentFields, what contracts see of the views
 --   SignOuts         is_signed_out, who signed out everywhere, and when
@@ -21,6 +22,7 @@ pub mod Alike
 pub mod Bodies
 pub mod ByTop
 pub mod Changes
+pub mod ClientWalk
 pub mod Clients
 pub mod Ends
 pub mod Index

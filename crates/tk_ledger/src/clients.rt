@@ -1,12 +1,15 @@
-//! Clients: the client that was added at a dot, and whether it was retired.
+//! Clients: the client that was added at a dot, whether it was retired, and a walk over clients.
 
 ghost use Rattle.std.specs.Prelude.{◌≡◌};
 ghost use Rattle.std.specs.Option.{option_copied};
 ghost use Rattle.tk_store.specs.StoreFields.{held_facts};
+ghost use Rattle.tk_ledger.specs.ClientWalk.{WalksClients};
 ghost use Rattle.tk_ledger.specs.Clients as spec;
 
 use crate::client_rows;
+use crate::client_view::ClientView;
 use crate::ledger::Ledger;
+use std::ops::Bound;
 use tk_fact::{Body, ClientAdded};
 use tk_handle::Dot;
 
@@ -37,5 +40,21 @@ impl Ledger {
         ensures { result ≡ spec.is_live_client (held_facts self.now) client }
     {
         client_rows::is_live(&self.index.clients, client)
+    }
+
+    // Returns the first client above the dot, or above none, and its view.
+    pub(crate) fn first_client(&self, after: Option<Dot>) -> Option<(Dot, ClientView<'_>)>
+        ensures { WalksClients (held_facts self.now) after result }
+    {
+        let start = match after {
+            Some(dot) => Bound::Excluded(dot),
+            None => Bound::Unbounded,
+        };
+        for (client, _) in self.index.clients.range((start, Bound::Unbounded)) {
+            if let Some(view) = self.client(*client) {
+                return Some((*client, view));
+            }
+        }
+        None
     }
 }

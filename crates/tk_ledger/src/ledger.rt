@@ -42,6 +42,7 @@ ghost use Rattle.tk_handle.specs.declared.kind.Kind.TheVariants as kind;
 ghost use Rattle.tk_fact.specs.Check.{refusal_of};
 ghost use Rattle.tk_store.specs.Adding.{AddsTo};
 ghost use Rattle.tk_store.specs.StoreFields.{empty_store, held_facts};
+ghost use Rattle.tk_ledger.specs.ClientWalk.{WalksClients};
 ghost use Rattle.tk_ledger.specs.Clients as clients_of;
 ghost use Rattle.tk_ledger.specs.Ends.{FamilyEnds};
 ghost use Rattle.tk_ledger.specs.Index.{IsIndexed};
@@ -117,6 +118,17 @@ impl Ledger {
             }),
             None => None,
         }
+    }
+
+    /// Returns the client with the lowest dot above `after`, or the lowest of all if `after` is
+    /// `None`, retired or not, with that dot (own). `None` if no client is above.
+    ///
+    /// A walk that goes on from each dot that it got sees each client once, and each step costs one
+    /// look-up more than a client's, beside the retirements in between of clients that are unknown.
+    pub fn next_client(&self, after: Option<Dot>) -> Option<(Dot, ClientView<'_>)>
+        ensures { WalksClients (held_facts self.now) after result }
+    {
+        self.first_client(after)
     }
 
     /// Returns the consent that was given at the dot, withdrawn or not (RFC 6749, 4.1).

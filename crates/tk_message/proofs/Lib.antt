@@ -1,2 +1,3 @@
 pub mod MemberLaws
+pub mod PageLaws
 mod ReplyLaws

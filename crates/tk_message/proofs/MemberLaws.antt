@@ -1,10 +1,13 @@
 -- Writes of members, one behind the other.
---   two_of, four_of, five_of, six_of   what that many writes leave behind each other
+--   two_of, three_of, four_of, five_of, six_of   what that many writes leave behind each other
 use Rattle.std.proofs.Common.{◌≡◌, List, ◌++◌, append_assoc}
 use Rattle.json.specs.Token.{Token}
 
 pub two_of : (t0 t1 t2 a b : List Token) → t1 ≡ t0 ++ a → t2 ≡ t1 ++ b → t2 ≡ t0 ++ (a ++ b)
 two_of t0 t1 t2 a b h1 h2 = rw (h2, h1) (simp append_assoc)
+
+pub three_of : (t0 t1 t2 t3 a b c : List Token) → t1 ≡ t0 ++ a → t2 ≡ t1 ++ b → t3 ≡ t2 ++ c → t3 ≡ t0 ++ (a ++ (b ++ c))
+three_of t0 t1 t2 t3 a b c h1 h2 h3 = rw (h3, h2, h1) (simp append_assoc)
 
 pub four_of : (t0 t1 t2 t3 t4 a b c d : List Token) → t1 ≡ t0 ++ a → t2 ≡ t1 ++ b → t3 ≡ t2 ++ c → t4 ≡ t3 ++ d → t4 ≡ t0 ++ (a ++ (b ++ (c ++ d)))
 four_of t0 t1 t2 t3 t4 a b c d h1 h2 h3 h4 = rw (h4, h3, h2, h1) (simp append_assoc)

@@ -6,6 +6,7 @@
 --   StatusCode       status_number, the number of a status
 --   ErrorCode        error_row, the status and the name of an error
 --   Bodies           the JSON bodies of replies, as values
+--   ClientPage       clients_body, a page of clients
 --   Choices          profile_choices, what the profile does if it leaves a choice
 --   ReplyFields      ReplyFields, what contracts see of a reply
 --   Reply            json_reply, and the replies without JSON
@@ -16,6 +17,7 @@ pub mod Authentication
 pub mod Bodies
 pub mod Caller
 pub mod Choices
+pub mod ClientPage
 pub mod Decision
 pub mod ErrorCode
 pub mod Place

@@ -4,6 +4,7 @@
 --   body_of     the body of the reply
 --   told        the reply that says this
 use Rattle.serde_json.specs.Data.{Data}
+use Rattle.tk_store.specs.StoreFields.{held_facts}
 use Rattle.tk_message.specs.declared.status_code.StatusCode.{StatusCode}
 use Rattle.tk_message.specs.declared.status_code.StatusCode.TheVariants.{Ok}
 use Rattle.tk_message.specs.declared.told.Told.{Told}
@@ -11,6 +12,7 @@ use Rattle.tk_message.specs.declared.told.Told.TheVariants.{
   Error,
   Client,
   Shown,
+  Clients,
   Consent,
   Subject,
   Tokens,
@@ -32,6 +34,7 @@ use Rattle.tk_message.specs.Bodies.{
   inactive_body,
   taken_body,
 }
+use Rattle.tk_message.specs.ClientPage.{clients_body}
 use Rattle.tk_message.specs.ErrorCode.{error_status, error_name}
 use Rattle.tk_message.specs.Reply.{json_reply}
 use Rattle.tk_message.specs.ReplyFields.{ReplyFields}
@@ -48,6 +51,7 @@ abbrev pub body_of : Told → Data
 body_of (Error code) = error_body (error_name code)
 body_of (Client status client) = client_body client
 body_of (Shown client client_kind live scope) = shown_body client client_kind.now live scope.now
+body_of (Clients ledger after) = clients_body (held_facts ledger.now) after
 body_of (Consent status consent) = consent_body consent
 body_of (Subject subject) = subject_body subject.now
 body_of (Tokens access lifetime refresh scope) =

@@ -85,14 +85,32 @@ pub(crate) fn shown_body(
     ensures { IfOk result (λ body. body.items
         ≡ compact_text (spec.shown_body client client_kind.now live scope.now)) }
 {
-    let id = client_text(alloc, client)?;
-    let scope = scope.text();
-    let mut out = begin(alloc, scope.len().saturating_add(ROOM))?;
-    put_text(&mut out, "client_id", id.as_str())?;
-    put_text(&mut out, "kind", kind_name(client_kind))?;
-    put_flag(&mut out, "live", live)?;
-    put_text(&mut out, "scope", scope)?;
+    let mut out = begin(alloc, scope.text().len().saturating_add(ROOM))?;
+    put_shown(alloc, &mut out, client, client_kind, live, scope)?;
     end(out)
+}
+
+// Writes the members that show a client.
+pub(crate) fn put_shown(
+    alloc: Global,
+    out: &mut Writer,
+    client: Dot,
+    client_kind: &ClientKind,
+    live: bool,
+    scope: &Scope,
+) -> Result<(), AllocError>
+    ensures ok { OnOk result (out.new.tokens ≡ out.old.tokens
+        ++ key (codes "client_id") ∷ string (client_name client)
+        ∷ key (codes "kind") ∷ string (spec.kind_name client_kind.now)
+        ∷ key (codes "live") ∷ a_flag live
+        ∷ key (codes "scope") ∷ string scope.now ∷ []) }
+    ensures before { OnOk result (out.new.before ≡ out.old.before) }
+{
+    let id = client_text(alloc, client)?;
+    put_text(out, "client_id", id.as_str())?;
+    put_text(out, "kind", kind_name(client_kind))?;
+    put_flag(out, "live", live)?;
+    put_text(out, "scope", scope.text())
 }
 
 // Returns the name of a client's kind.

@@ -18,6 +18,8 @@ pub enum Endpoint {
     AddClient,
     /// GET `/admin/client`: show a client.
     ShowClient,
+    /// GET `/admin/clients`: list clients.
+    ListClients,
     /// POST `/admin/retire`: retire a client.
     Retire,
     /// POST `/admin/consent`: give a client a subject's consent.

@@ -4,7 +4,7 @@ use crate::error_code::ErrorCode;
 use crate::status_code::StatusCode;
 use tk_fact::{ClientKind, Subject};
 use tk_handle::{Dot, Handle};
-use tk_ledger::Standing;
+use tk_ledger::{Ledger, Standing};
 use tk_scope::Scope;
 
 /// What a JSON reply says.
@@ -16,6 +16,8 @@ pub enum Told<'a> {
     Client(StatusCode, Dot),
     /// The client that was added at the dot: its id, kind, whether it is live, and its scope (own).
     Shown(Dot, &'a ClientKind, bool, &'a Scope),
+    /// A page of the clients of the ledger that are above the dot, or of the first (own).
+    Clients(&'a Ledger, Option<Dot>),
     /// The id of the consent that was given at the dot (own).
     Consent(StatusCode, Dot),
     /// The subject that was signed out (own).
@@ -41,6 +43,7 @@ use crate::bodies::{
     access_body, client_body, consent_body, one_flag, one_number, one_text, refresh_body,
     shown_body, token_body,
 };
+use crate::client_page::clients_body;
 use crate::reply::{Payload, Reply, asks_by};
 use std::alloc::{AllocError, Global};
 
@@ -84,6 +87,7 @@ impl Told<'_> {
                 live,
                 scope,
             ),
+            Told::Clients(ledger, after) => clients_body(alloc, ledger, after),
             Told::Consent(_, consent) => consent_body(alloc, consent),
             Told::Subject(subject) => one_text(alloc, "subject", subject.as_str()),
             Told::Tokens(access, lifetime, refresh, scope) => {

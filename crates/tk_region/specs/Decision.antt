@@ -10,11 +10,12 @@ use Rattle.tk_message.specs.declared.request.Endpoint.{Endpoint}
 use Rattle.tk_message.specs.declared.request.Endpoint.TheVariants.{Authorize, Token, Introspect}
 use Rattle.tk_message.specs.declared.request.Endpoint.TheVariants.{Revoke, AddClient, ShowClient}
 use Rattle.tk_message.specs.declared.request.Endpoint.TheVariants.{Retire, Consent, Withdraw}
-use Rattle.tk_message.specs.declared.request.Endpoint.TheVariants.{SignOut}
+use Rattle.tk_message.specs.declared.request.Endpoint.TheVariants.{ListClients, SignOut}
 use Rattle.tk_message.specs.RequestFields.{RequestFields}
 use Rattle.tk_message.specs.Decision.{answered, refused}
 use Rattle.tk_authorize.specs.Administration.{administration_of}
 use Rattle.tk_authorize.specs.Authorization.{authorization_of}
+use Rattle.tk_authorize.specs.Listing.{listing_of}
 use Rattle.tk_grant.specs.Granted.{grant_of}
 use Rattle.tk_query.specs.Introspection.{introspection_of}
 use Rattle.tk_query.specs.Revocation.{revocation_of}
@@ -30,6 +31,7 @@ decision_by Revoke P place now words request = revocation_of P place now request
 decision_by AddClient P place now words request = administration_of (held_facts P) place now request
 decision_by ShowClient P place now words request =
     administration_of (held_facts P) place now request
+decision_by ListClients P place now words request = listing_of (held_facts P) request.params
 decision_by Retire P place now words request = administration_of (held_facts P) place now request
 decision_by Consent P place now words request = administration_of (held_facts P) place now request
 decision_by Withdraw P place now words request = administration_of (held_facts P) place now request

@@ -5,7 +5,7 @@ ghost use Rattle.tk_message.specs.Decision.{Passes};
 ghost use Rattle.tk_region.specs.Decision as spec;
 
 use std::alloc::{AllocError, Global};
-use tk_authorize::{decide_admin, decide_authorize};
+use tk_authorize::{decide_admin, decide_authorize, decide_clients};
 use tk_grant::decide_token;
 use tk_handle::Moment;
 use tk_ledger::Ledger;
@@ -32,6 +32,7 @@ pub(crate) fn decide_endpoint(
             decide_introspect(alloc, ledger, place.choices.refresh_seen, now, request)
         }
         Endpoint::Revoke => decide_revoke(alloc, ledger, place, now, request),
+        Endpoint::ListClients => decide_clients(alloc, ledger, request),
         Endpoint::AddClient
         | Endpoint::ShowClient
         | Endpoint::Retire

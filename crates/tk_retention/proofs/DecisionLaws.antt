@@ -23,7 +23,8 @@ use Rattle.tk_message.specs.declared.request.Endpoint.{Endpoint}
 use Rattle.tk_message.specs.declared.request.Endpoint.TheVariants as endpoint
 use Rattle.tk_authorize.specs.Administration.{administration_of}
 use Rattle.tk_authorize.specs.Authorization.{authorization_of}
-use Rattle.tk_authorize.proofs.SameLaws.{authorizations_same, administrations_same}
+use Rattle.tk_authorize.specs.Listing.{listing_of}
+use Rattle.tk_authorize.proofs.SameLaws.{authorizations_same, administrations_same, listings_same}
 use Rattle.tk_grant.specs.Judged as grants
 use Rattle.tk_grant.proofs.AlikeLaws.{grants_alike}
 use Rattle.tk_query.specs.Caller as queries
@@ -70,6 +71,9 @@ module _ (P : StoreFields) (U F : FactSet) (S : StandsFor P U F) (sound : AreSou
       (caller_back queries.known_names request)
   by_endpoint endpoint.AddClient request = administered request
   by_endpoint endpoint.ShowClient request = administered request
+  by_endpoint endpoint.ListClients request =
+      listings_same H F request.params (client_view_same P U F S)
+      ∙ ap (λ (G : FactSet). listing_of G request.params) (sym back)
   by_endpoint endpoint.Retire request = administered request
   by_endpoint endpoint.Consent request = administered request
   by_endpoint endpoint.Withdraw request = administered request

@@ -30,7 +30,7 @@ use Rattle.tk_message.specs.declared.error_code.ErrorCode.TheVariants.{Temporari
 use Rattle.tk_message.specs.declared.place.Place.{Place}
 use Rattle.tk_message.specs.declared.request.Endpoint.{Endpoint}
 use Rattle.tk_message.specs.declared.request.Endpoint.TheVariants as endpoint
-use Rattle.tk_authorize.proofs.MadeLaws.{authorizes_alone, administers_alone}
+use Rattle.tk_authorize.proofs.MadeLaws.{authorizes_alone, administers_alone, lists_alone}
 use Rattle.tk_grant.specs.Within.{IsCodeOf, IsWithin}
 use Rattle.tk_grant.proofs.MadeLaws.{grants_within}
 use Rattle.tk_query.proofs.MadeLaws.{revokes_alone}
@@ -70,6 +70,7 @@ module _ (P : StoreFields) (place : Place) (now : ℕ) (words : List ℕ) (reque
   made_within endpoint.Revoke = alone_within (held_facts P) (decision_by endpoint.Revoke P place now words request).made (revokes_alone P place now request)
   made_within endpoint.AddClient = administered
   made_within endpoint.ShowClient = administered
+  made_within endpoint.ListClients = subst (λ (o : Option Body). IfSome o (IsWithin (held_facts P))) (sym (lists_alone (held_facts P) request.params)) tt
   made_within endpoint.Retire = administered
   made_within endpoint.Consent = administered
   made_within endpoint.Withdraw = administered

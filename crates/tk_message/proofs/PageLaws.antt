@@ -1,0 +1,62 @@
+-- A page of clients, one client after the other. Key results:
+--   listed_none, cursor_none   a page of no clients
+--   tokens_more, cursor_more   a page of one client and others
+--   one_left, none_left        how many clients are left of a page
+--   whole_none, whole_some     the whole page, without and with a client behind which others follow
+use Rattle.std.proofs.Common.{◌≡◌, ◌≤◌, ◌<◌, ◌+◌, ◌-◌, ℕ, zero, suc, List, [], ◌∷◌, ◌++◌, codes, Option, Some, None, refl, sym, ap, ◌∙◌, append_assoc, arith}
+use Rattle.json.specs.Token as token
+use Rattle.json.specs.Token.{Token}
+use Rattle.json.specs.Tree.{items_tokens, json_tokens}
+use Rattle.serde_json.specs.Data as json
+use Rattle.serde_json.specs.Data.{Items, no_items, item}
+use Rattle.serde_json.specs.Written.{items_outline, outline}
+use Rattle.tk_handle.specs.declared.dot.Dot.{Dot}
+use Rattle.tk_handle.specs.ClientId.{client_text}
+use Rattle.tk_ledger.specs.ViewFields.{ClientFields}
+use Rattle.tk_message.specs.ClientPage.{page_size, listed_body, listed, cursor_of}
+
+pub listed_none : (n : ℕ) → listed n [] ≡ no_items
+listed_none zero = refl
+listed_none (suc n) = refl
+
+pub cursor_none : (n : ℕ) (at : Option Dot) → cursor_of n at [] ≡ None
+cursor_none zero at = refl
+cursor_none (suc n) at = refl
+
+-- what is left to write behind a client is the rest of the page
+pub tokens_more : (t u all : List Token) (n m : ℕ) (c : Dot × ClientFields) (cs more : List (Dot × ClientFields)) → n ≡ suc m → more ≡ c ∷ cs
+    → u ≡ t ++ json_tokens (outline (listed_body c)) → t ++ items_tokens (items_outline (listed n more)) ≡ all → u ++ items_tokens (items_outline (listed m cs)) ≡ all
+tokens_more t u all n m c cs more left is written whole =
+    ap (λ x. x ++ items_tokens (items_outline (listed m cs))) written
+    ∙ append_assoc t (json_tokens (outline (listed_body c))) (items_tokens (items_outline (listed m cs)))
+    ∙ ap (λ (k : ℕ). t ++ items_tokens (items_outline (listed k (c ∷ cs)))) (sym left)
+    ∙ ap (λ (x : List (Dot × ClientFields)). t ++ items_tokens (items_outline (listed n x))) (sym is)
+    ∙ whole
+
+pub cursor_more : (n m : ℕ) (at last : Option Dot) (c : Dot × ClientFields) (cs more : List (Dot × ClientFields)) → n ≡ suc m → more ≡ c ∷ cs
+    → cursor_of n at more ≡ last → cursor_of m (Some c.0) cs ≡ last
+cursor_more n m at last c cs more left is whole =
+    ap (λ (k : ℕ). cursor_of k at (c ∷ cs)) (sym left) ∙ ap (cursor_of n at) (sym is) ∙ whole
+
+pub one_left : (k : ℕ) → k < page_size → page_size - k ≡ suc (page_size - (k + 1))
+one_left k below = omega (arith, below)
+
+pub none_left : (k : ℕ) → page_size ≤ k → page_size - k ≡ zero
+none_left k full = omega (arith, full)
+
+-- ---- the whole page
+
+abbrev pub opened : List Token
+opened = token.begin_object ∷ token.key (codes "clients") ∷ token.begin_array ∷ []
+
+pub whole_none : (t : List Token) (page : Items) → t ≡ opened ++ items_tokens (items_outline page)
+    → t ++ token.end_object ∷ [] ≡ json_tokens (outline (json.object (json.member (codes "clients") (json.array page) json.no_members)))
+whole_none t page h = ap (λ x. x ++ token.end_object ∷ []) h
+
+pub whole_some : (t u : List Token) (page : Items) (d : Dot) → t ≡ opened ++ items_tokens (items_outline page) → u ≡ t ++ token.key (codes "next") ∷ token.string (client_text d) ∷ []
+    → u ++ token.end_object ∷ []
+    ≡ json_tokens (outline (json.object (json.member (codes "clients") (json.array page) (json.member (codes "next") (json.string (client_text d)) json.no_members))))
+whole_some t u page d h k =
+    ap (λ x. x ++ token.end_object ∷ []) (k ∙ ap (λ x. x ++ token.key (codes "next") ∷ token.string (client_text d) ∷ []) h)
+    ∙ ap (λ x. token.begin_object ∷ token.key (codes "clients") ∷ token.begin_array ∷ x)
+    (append_assoc (items_tokens (items_outline page)) (token.key (codes "next") ∷ token.string (client_text d) ∷ []) (token.end_object ∷ []))
