@@ -22,7 +22,7 @@ use Rattle.tk_edge.specs.declared.field.Fields.{Fields}
 use Rattle.tk_edge.specs.Heard.{posted_to, arrival_by, arrival_of, headless, IsArrival, MayArrive, Arrives}
 use Rattle.tk_edge.specs.Judged.{judged_of, at_path, at_service, asked, with_body, sized, fits_type, limit_of, MayPost, MayTell, MayAsk}
 use Rattle.tk_edge.specs.Laws.{HasOneMeaning, HearsAll}
-use Rattle.tk_edge.specs.Paths.{path_of, path_named, client_named, admin_named, sync_named, notice_named, beside_clients, inner_named, method_named, service_at}
+use Rattle.tk_edge.specs.Paths.{path_of, path_named, client_named, admin_named, sync_named, has_metrics, notice_named, beside_clients, inner_named, method_named, service_at}
 use Rattle.tk_format.specs.Numerals.{is_numeral, numeral_up_to}
 use Rattle.tk_format.specs.declared.numeral.Numeral.{Numeral}
 use Rattle.tk_format.specs.declared.numeral.Numeral.TheVariants as numeral
@@ -41,7 +41,7 @@ use Rattle.tk_edge.specs.declared.path.Posted.TheVariants.{Form, Pull, Push}
 use Rattle.tk_edge.specs.declared.path.Service.{Service}
 use Rattle.tk_edge.specs.declared.path.Service.TheVariants as service
 use Rattle.tk_edge.specs.declared.reach.Reach.{Reach}
-use Rattle.tk_edge.specs.declared.notice.Notice.TheVariants.{Discovery, Health}
+use Rattle.tk_edge.specs.declared.notice.Notice.TheVariants.{Discovery, Health, Metrics}
 use Rattle.tk_edge.specs.declared.reach.PathSet.{PathSet}
 use Rattle.tk_edge.specs.declared.reach.PathSet.TheVariants.{Clients, Admin, All}
 use Rattle.tk_edge.specs.declared.refusal.Refusal.TheVariants.{ShortBody}
@@ -128,10 +128,11 @@ client_may reach text =
 admin_may : (reach : Reach) (text : List ℕ) → MayServeIf reach (admin_named text)
 admin_may reach text =
     pick reach (bytes_eq text (codes "/admin/client")) (Some path.Client) _ tt
+    (pick reach (bytes_eq text (codes "/admin/clients")) (Some path.Clients) _ tt
     (pick reach (bytes_eq text (codes "/admin/retire")) (Some path.Retire) _ tt
     (pick reach (bytes_eq text (codes "/admin/consent")) (Some path.Consent) _ tt
     (pick reach (bytes_eq text (codes "/admin/withdraw")) (Some path.Withdraw) _ tt
-    (pick reach (bytes_eq text (codes "/admin/signout")) (Some path.SignOut) None tt tt))))
+    (pick reach (bytes_eq text (codes "/admin/signout")) (Some path.SignOut) None tt tt)))))
 
 sync_may : (reach : Reach) (text : List ℕ) → reach.paths ≡ All → MayServeIf reach (sync_named text)
 sync_may reach text on =
@@ -153,7 +154,8 @@ flagged reach false named p o h k = k
 notice_may : (reach : Reach) (text : List ℕ) → MayServeIf reach (notice_named reach text)
 notice_may reach text =
     flagged reach reach.discovery (bytes_eq text (codes "/.well-known/oauth-authorization-server")) (path.Notice Discovery) _ (λ on. on)
-    (flagged reach reach.health (bytes_eq text (codes "/health")) (path.Notice Health) None (λ on. on) tt)
+    (flagged reach reach.health (bytes_eq text (codes "/health")) (path.Notice Health) _ (λ on. on)
+    (flagged reach (has_metrics reach) (bytes_eq text (codes "/metrics")) (path.Notice Metrics) None (λ on. on) tt))
 
 beside_may : (reach : Reach) (text : List ℕ) → MayServeIf reach (beside_clients reach text)
 beside_may reach text = either reach (notice_named reach text) (inner_named reach.paths text) (notice_may reach text) (inner_may reach reach.paths text refl)

@@ -2,7 +2,9 @@
 --   told_by      an answer with a status, bytes and a record
 --   rendered     the answer with the bytes of a reply
 --   refused_by   the answer to a request that the region doesn't see
---   answered_by  the answer to a request for a notice
+--   answered_by  the answer with a reply that may not be given
+--   metrics_by   the answer with the text of the metrics
+--   notice_by    the answer to a request for a notice, by the terms
 --   answer_at    the answer to an arrival that is no exchange, by the terms
 --   answer_by    the answer without an issuer and notices
 --   fact_by      the fact that the region makes for an arrival, if any
@@ -22,13 +24,15 @@ use Rattle.tk_region.specs.RegionFields.{RegionFields, Gains}
 use Rattle.tk_region.specs.Step.{prepared_of, IsNextFact}
 use Rattle.tk_edge.specs.Issuer.{with_iss}
 use Rattle.tk_edge.specs.Judged.{code_of, allowed_by}
-use Rattle.tk_edge.specs.Notices.{notice_of}
-use Rattle.tk_edge.specs.Rendering.{reply_bytes}
+use Rattle.tk_edge.specs.Notices.{health_of, metadata_of}
+use Rattle.tk_edge.specs.Rendering.{metrics_bytes, reply_bytes}
 use Rattle.tk_edge.specs.Terms.{TermsFields, accept_all}
 use Rattle.tk_edge.specs.Told.{AnswerFields}
 use Rattle.tk_edge.specs.declared.hear.Arrival.{Arrival}
 use Rattle.tk_edge.specs.declared.hear.Arrival.TheVariants.{Silence, Refused, Request, Exchange}
-use Rattle.tk_edge.specs.declared.hear.Arrival.TheVariants.{Notice}
+use Rattle.tk_edge.specs.declared.hear.Arrival.TheVariants as arrival
+use Rattle.tk_edge.specs.declared.notice.Notice.{Notice}
+use Rattle.tk_edge.specs.declared.notice.Notice.TheVariants.{Discovery, Health, Metrics}
 use Rattle.tk_edge.specs.declared.refusal.Refusal.{Refusal}
 use Rattle.tk_edge.specs.declared.refusal.Refusal.TheVariants.{UnknownPath}
 
@@ -48,10 +52,22 @@ refused_by why = rendered (error_reply (code_of why)) (allowed_by why) None
 abbrev pub silent : AnswerFields
 silent = record { status = status.BadRequest; bytes = []; logged = None }
 
--- the answer to a request for a notice: the reply with it, if it is given
+-- the answer with a notice's reply, if it is given
 abbrev pub answered_by : Option ReplyFields → AnswerFields
 answered_by None = refused_by UnknownPath
 answered_by (Some reply) = rendered reply None None
+
+-- the answer to a request for the metrics: their text, if there is one (own)
+abbrev pub metrics_by : Option (List ℕ) → AnswerFields
+metrics_by None = refused_by UnknownPath
+metrics_by (Some text) = told_by status.Ok (metrics_bytes text) None
+
+-- the answer to a request for a notice at the moment, by the terms (RFC 8414, 3; own)
+abbrev pub notice_by : TermsFields → RegionFields → ℕ → Notice → AnswerFields
+notice_by terms r now Discovery =
+    answered_by (metadata_of terms.issuer r.settings.choices.challenge)
+notice_by terms r now Health = answered_by (health_of terms.health r.facts.horizon now)
+notice_by terms r now Metrics = metrics_by terms.metrics
 
 -- The answer to an arrival by the terms, at the moment and with the random words, if regions don't
 -- exchange facts: the path of an exchange is then unknown. specs/Exchanges has the answers to
@@ -63,7 +79,7 @@ answer_at terms r now words (Request request) =
     rendered (with_iss terms.issuer (prepared_of r now words request).reply) None
     (prepared_of r now words request).logged
 answer_at terms r now words (Exchange asked) = refused_by UnknownPath
-answer_at terms r now words (Notice notice) = answered_by (notice_of terms r now notice)
+answer_at terms r now words (arrival.Notice notice) = notice_by terms r now notice
 
 -- the answer to an arrival without an issuer and notices
 abbrev pub answer_by : RegionFields → ℕ → List ℕ → Arrival → AnswerFields
@@ -75,7 +91,7 @@ fact_by r now words Silence = None
 fact_by r now words (Refused why) = None
 fact_by r now words (Request request) = (prepared_of r now words request).fact
 fact_by r now words (Exchange asked) = None
-fact_by r now words (Notice notice) = None
+fact_by r now words (arrival.Notice notice) = None
 
 -- the record of the fact can be read: it is a bundle
 abbrev pub IsRecorded : Dot × Body → Type 0

@@ -24,5 +24,9 @@ coded_edge =
 
 -- the reach of these paths, with the notices that the terms give
 abbrev pub reach_of : TermsFields → PathSet → Reach
-reach_of terms set =
-    record { paths = set; discovery = is_some terms.issuer; health = terms.health }
+reach_of terms set = record {
+  paths = set;
+  discovery = is_some terms.issuer;
+  health = terms.health;
+  metrics = is_some terms.metrics;
+}

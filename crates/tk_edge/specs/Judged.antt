@@ -19,6 +19,7 @@ use Rattle.tk_message.specs.declared.error_code.ErrorCode.TheVariants as code
 use Rattle.tk_edge.specs.HeadFields.{length_in, type_in, coding_in, has_repeats}
 use Rattle.tk_edge.specs.MediaType.{is_form}
 use Rattle.tk_edge.specs.Paths.{path_of, path_named, method_named, service_at, allowed_at}
+use Rattle.tk_edge.specs.Paths.{has_metrics}
 use Rattle.tk_edge.specs.declared.path.Path.{Path}
 use Rattle.tk_edge.specs.declared.path.Method.{Method}
 use Rattle.tk_edge.specs.declared.path.Posted.{Posted}
@@ -26,7 +27,7 @@ use Rattle.tk_edge.specs.declared.path.Posted.TheVariants.{Form, Pull, Push}
 use Rattle.tk_edge.specs.declared.path.Service.{Service}
 use Rattle.tk_edge.specs.declared.path.Service.TheVariants as service
 use Rattle.tk_edge.specs.declared.notice.Notice.{Notice}
-use Rattle.tk_edge.specs.declared.notice.Notice.TheVariants.{Discovery, Health}
+use Rattle.tk_edge.specs.declared.notice.Notice.TheVariants.{Discovery, Health, Metrics}
 use Rattle.tk_edge.specs.declared.reach.Reach.{Reach}
 use Rattle.tk_edge.specs.declared.reach.PathSet.TheVariants.{All}
 use Rattle.tk_edge.specs.declared.refusal.Refusal.{Refusal}
@@ -112,6 +113,7 @@ MayPost reach Push = reach.paths ≡ All
 abbrev pub MayTell : Reach → Notice → Type 0
 MayTell reach Discovery = reach.discovery ≡ true
 MayTell reach Health = reach.health ≡ true
+MayTell reach Metrics = has_metrics reach ≡ true
 
 -- a judgement requests an exchange only if all paths are served, a notice only if that is, and a
 -- body within its limit (own)

@@ -13,8 +13,9 @@
 --   Told         IsTold, the record is written and then the reply
 --   Terms        is_out_of_range, a bundle has an item under a number that isn't accepted
 --   Issuer       is_issuer, a text is an issuer; with_iss, a reply names it
---   Notices      notice_of, what the server says of itself
---   Answers      answer_at, the reply to a request; fact_by, the fact made for it
+--   Notices      metadata_of and health_of, what the server says of itself
+--   Answers      answer_at, the reply to a request; notice_by, to one for a notice; fact_by, the
+--                fact made for it
 --   Ahead        is_ahead, a bundle's horizon is later than the moment; refused, by the terms
 --   Exchanges    Exchanges, the reply to another region
 --   Arrivals     Answers, the reply to what arrived

@@ -3,8 +3,8 @@
 --   methods_of       the challenge methods that are taken
 --   metadata         the metadata, as a JSON text
 --   metadata_reply   the reply with the metadata
+--   metadata_of      the reply with the metadata, if there is an issuer
 --   health_of        the reply with the health, if the terms give it
---   notice_of        the notice that the terms give
 use Rattle.std.specs.Prelude.{ℕ, Bool, nat_lt, List, [], ◌∷◌, codes, Option, None, Some}
 use Rattle.std.specs.Prelude.{if◌then◌else◌}
 use Rattle.std.specs.List.{concat}
@@ -14,10 +14,6 @@ use Rattle.tk_message.specs.declared.choices.ChallengeRules.{ChallengeRules}
 use Rattle.tk_message.specs.declared.reply.Asks.TheVariants as asks
 use Rattle.tk_message.specs.declared.status_code.StatusCode.{StatusCode}
 use Rattle.tk_message.specs.declared.status_code.StatusCode.TheVariants.{Ok, ServiceUnavailable}
-use Rattle.tk_region.specs.RegionFields.{RegionFields}
-use Rattle.tk_edge.specs.Terms.{TermsFields}
-use Rattle.tk_edge.specs.declared.notice.Notice.{Notice}
-use Rattle.tk_edge.specs.declared.notice.Notice.TheVariants.{Discovery, Health}
 
 -- a reply with a JSON text (own)
 abbrev pub text_reply : StatusCode → List ℕ → ReplyFields
@@ -57,6 +53,11 @@ metadata issuer methods = concat (
 abbrev pub metadata_reply : List ℕ → ChallengeRules → ReplyFields
 metadata_reply issuer rules = text_reply Ok (metadata issuer (methods_of rules))
 
+-- the reply with the metadata of an issuer, if there is one, by what is required of challenges (RFC
+-- 8414, 3.2)
+abbrev pub metadata_of : Option (List ℕ) → ChallengeRules → Option ReplyFields
+metadata_of issuer rules = option_map (λ i. metadata_reply i rules) issuer
+
 -- the health at the moment, by the horizon: before it requests of clients get 503 (own)
 abbrev pub health_reply : ℕ → ℕ → ReplyFields
 health_reply horizon now =
@@ -67,9 +68,3 @@ health_reply horizon now =
 -- the reply with the health, if the terms give it (own)
 abbrev pub health_of : Bool → ℕ → ℕ → Option ReplyFields
 health_of given horizon now = if given then Some (health_reply horizon now) else None
-
--- the notice that the terms give at the moment, if they give it (RFC 8414, 3; own)
-abbrev pub notice_of : TermsFields → RegionFields → ℕ → Notice → Option ReplyFields
-notice_of terms r now Discovery =
-    option_map (λ i. metadata_reply i r.settings.choices.challenge) terms.issuer
-notice_of terms r now Health = health_of terms.health r.facts.horizon now

@@ -1,18 +1,20 @@
 -- The paths that tokend serves, and what each serves under a method (RFC 6749, 3.1 and 3.2; RFC
--- 7662, 2; RFC 7009, 2; RFC 8414, 3; the paths of operators, of exchanges between regions and of
--- health are own).
+-- 7662, 2; RFC 7009, 2; RFC 8414, 3; the paths of operators, of exchanges between regions, of
+-- health and of metrics are own).
 --   path_of        the part of a target before its first `?` (RFC 9112, 3.2.1)
 --   query_of       the part of a target behind its first `?`
 --   client_named   the path of a name among those of clients
 --   admin_named    the path of a name among those of operators
 --   sync_named     the path of a name among those by which regions exchange facts
+--   has_metrics    the metrics are reached
 --   notice_named   the path of a name among those of notices, if it is reached
 --   path_named     the path of a name, byte for byte, if it is reached
 --   plain          the reach of some paths, without notices
 --   method_named   the method of a name, which is case-sensitive (RFC 9110, 9.1)
 --   service_at     what a path serves under a method
 --   allowed_at     the methods of a path, as `Allow` names them (RFC 9110, 10.2.1)
-use Rattle.std.specs.Prelude.{ℕ, ◌+◌, ◌==◌, ◌&&◌, false, List, take, drop, Option, None, Some}
+use Rattle.std.specs.Prelude.{ℕ, ◌+◌, ◌==◌, ◌&&◌, Bool, true, false, List}
+use Rattle.std.specs.Prelude.{take, drop, Option, None, Some}
 use Rattle.std.specs.Prelude.{codes, if◌then◌else◌}
 use Rattle.std.specs.List.{position_or_len}
 use Rattle.std.specs.Option.{option_or}
@@ -29,7 +31,7 @@ use Rattle.tk_edge.specs.declared.path.Method.TheVariants.{Get, Post}
 use Rattle.tk_edge.specs.declared.path.Posted.TheVariants as posted
 use Rattle.tk_edge.specs.declared.path.Service.{Service}
 use Rattle.tk_edge.specs.declared.path.Service.TheVariants as service
-use Rattle.tk_edge.specs.declared.notice.Notice.TheVariants.{Discovery, Health}
+use Rattle.tk_edge.specs.declared.notice.Notice.TheVariants.{Discovery, Health, Metrics}
 use Rattle.tk_edge.specs.declared.reach.Reach.{Reach}
 use Rattle.tk_edge.specs.declared.reach.PathSet.{PathSet}
 use Rattle.tk_edge.specs.declared.reach.PathSet.TheVariants.{Clients, Admin, All}
@@ -55,6 +57,7 @@ client_named path =
 abbrev pub admin_named : List ℕ → Option Path
 admin_named path =
     if bytes_eq path (codes "/admin/client") then Some Client
+    else if bytes_eq path (codes "/admin/clients") then Some paths.Clients
     else if bytes_eq path (codes "/admin/retire") then Some Retire
     else if bytes_eq path (codes "/admin/consent") then Some Consent
     else if bytes_eq path (codes "/admin/withdraw") then Some Withdraw
@@ -71,7 +74,16 @@ sync_named path =
 
 -- the reach of these paths, without notices (own)
 abbrev pub plain : PathSet → Reach
-plain set = record { paths = set; discovery = false; health = false }
+plain set = record { paths = set; discovery = false; health = false; metrics = false }
+
+-- the paths of operators are served (own)
+abbrev pub is_operators : PathSet → Bool
+is_operators Clients = false
+is_operators set = true
+
+-- the metrics are reached: the paths of operators are, and the server has metrics (own)
+abbrev pub has_metrics : Reach → Bool
+has_metrics reach = is_operators reach.paths && reach.metrics
 
 -- the path of a name among those of notices, if it is reached (RFC 8414, 3; own)
 abbrev pub notice_named : Reach → List ℕ → Option Path
@@ -79,6 +91,7 @@ notice_named reach path =
     if reach.discovery && bytes_eq path (codes "/.well-known/oauth-authorization-server")
     then Some (paths.Notice Discovery)
     else if reach.health && bytes_eq path (codes "/health") then Some (paths.Notice Health)
+    else if has_metrics reach && bytes_eq path (codes "/metrics") then Some (paths.Notice Metrics)
     else None
 
 -- the path of a name among those of operators and of regions, if it is reached (own)
@@ -107,6 +120,7 @@ method_named name =
 abbrev pub get_service : Path → Option Service
 get_service Authorize = Some (service.Query endpoint.Authorize)
 get_service Client = Some (service.Query endpoint.ShowClient)
+get_service paths.Clients = Some (service.Query endpoint.ListClients)
 get_service Vector = Some service.Vector
 get_service (paths.Notice notice) = Some (service.Notice notice)
 get_service path = None
@@ -122,6 +136,7 @@ post_service Token = form_for endpoint.Token
 post_service Introspect = form_for endpoint.Introspect
 post_service Revoke = form_for endpoint.Revoke
 post_service Client = form_for endpoint.AddClient
+post_service paths.Clients = None
 post_service Retire = form_for endpoint.Retire
 post_service Consent = form_for endpoint.Consent
 post_service Withdraw = form_for endpoint.Withdraw
@@ -141,6 +156,7 @@ service_at path (Some Post) = post_service path
 abbrev pub allowed_at : Path → List ℕ
 allowed_at Authorize = codes "GET"
 allowed_at Client = codes "GET, POST"
+allowed_at paths.Clients = codes "GET"
 allowed_at Vector = codes "GET"
 allowed_at (paths.Notice notice) = codes "GET"
 allowed_at path = codes "POST"

@@ -1,8 +1,9 @@
 -- The bytes of a reply (RFC 9112, 4; RFC 9110, 15 for the reasons; RFC 6749, 5.1 for what may not
 -- be stored, 5.2 for the challenge; RFC 9110, 10.2.3 for the time of a retry).
---   reason_of     the reason phrase of a status
---   body_of       the bytes of a reply's body
---   reply_bytes   the whole reply, with the methods allowed, if it names them
+--   reason_of       the reason phrase of a status
+--   body_of         the bytes of a reply's body
+--   reply_bytes     the whole reply, with the methods allowed, if it names them
+--   metrics_bytes   the whole reply with metrics
 use Rattle.std.specs.Prelude.{ℕ, List, [], ◌∷◌, length, codes, decimal, Option}
 use Rattle.std.specs.List.{concat}
 use Rattle.tk_put.specs.Put.{field_line}
@@ -79,3 +80,9 @@ reply_bytes reply allowed =
     (type_line reply.content) (decimal (length body))
     (asks_line reply.asks) (field_line (codes "Location: ") reply.location)
     (field_line (codes "Allow: ") allowed) body
+
+-- the whole reply with a text in the text format of Prometheus, version 0.0.4 (own)
+abbrev pub metrics_bytes : List ℕ → List ℕ
+metrics_bytes text =
+    assembly (codes "200") (reason_of Ok) (codes "Content-Type: text/plain; version=0.0.4\r\n")
+    (decimal (length text)) [] [] [] text

@@ -13,13 +13,14 @@ use Rattle.tk_bundle.specs.BundleFields.{BundleFields, Items}
 use Rattle.tk_edge.specs.declared.terms.RegionRange.{RegionRange}
 
 -- whether bundles that are ahead are refused, the ranges of accepted numbers, a range of numbers
--- that aren't, the issuer, and whether health is given
+-- that aren't, the issuer, whether health is given, and the text of the metrics
 pub record TermsFields : Type 0 where
   pub refuses_ahead : Bool
   pub accepted : List RegionRange
   pub barred : Option RegionRange
   pub issuer : Option (List ℕ)
   pub health : Bool
+  pub metrics : Option (List ℕ)
 
 -- the code of a range, as a pair
 abbrev pub coded_range : Coded RegionRange
@@ -30,17 +31,22 @@ coded_range =
 -- the code of the terms, as nested pairs
 abbrev pub coded_terms : Coded TermsFields
 coded_terms =
-    code_by (Bool × (List RegionRange × (Option RegionRange × (Option (List ℕ) × Bool))))
+    code_by
+    (Bool × (List RegionRange
+    × (Option RegionRange × (Option (List ℕ) × (Bool × Option (List ℕ))))))
     (coded× coded_bool
     (coded× (coded_list coded_range)
-    (coded× (coded_option coded_range) (coded× (coded_option (coded_list coded_ℕ)) coded_bool))))
-    (λ t. (t.refuses_ahead, (t.accepted, (t.barred, (t.issuer, t.health)))))
+    (coded× (coded_option coded_range)
+    (coded× (coded_option (coded_list coded_ℕ))
+    (coded× coded_bool (coded_option (coded_list coded_ℕ)))))))
+    (λ t. (t.refuses_ahead, (t.accepted, (t.barred, (t.issuer, (t.health, t.metrics))))))
     (λ p. record {
       refuses_ahead = p.0;
       accepted = p.1.0;
       barred = p.1.1.0;
       issuer = p.1.1.1.0;
-      health = p.1.1.1.1;
+      health = p.1.1.1.1.0;
+      metrics = p.1.1.1.1.1;
     }) (λ _. refl)
 
 -- the range has the number
@@ -76,4 +82,5 @@ accept_all = record {
   barred = None;
   issuer = None;
   health = false;
+  metrics = None;
 }

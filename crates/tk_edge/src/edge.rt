@@ -47,6 +47,7 @@ pub enum Served {
 ghost use Rattle.std.specs.Prelude.{◌≡◌, ◌≢◌, true, false, None, Some, Err};
 ghost use Rattle.std.specs.Prelude.{IfOk, OnOk, OnErr};
 ghost use Rattle.std.specs.Borrow.{Lends, sem};
+ghost use Rattle.std.specs.Option.{option_map};
 ghost use Rattle.tk_region.specs.contracts.region.Region.{the_row as region_row};
 ghost use Rattle.tk_edge.specs.contracts.edge.Edge.{the_row as edge_row};
 ghost use Rattle.tk_edge.specs.Answers.{refused_by};
@@ -118,7 +119,20 @@ impl Edge {
             paths,
             discovery: self.terms.issuer.is_some(),
             health: self.terms.health,
+            metrics: self.terms.metrics.is_some(),
         }
+    }
+
+    /// Replaces the text that GET /metrics shows. With `None` its path is unknown.
+    ///
+    /// The text is shown over connections that reach the paths of operators. A sealed edge replies
+    /// 503 temporarily_unavailable, as to each request.
+    pub fn set_metrics(&mut self, text: Option<Vec<u8>>)
+        ensures { self.new ≡ record self.old {
+          terms = record self.old.terms { metrics = option_map (λ v. v.items) text };
+        } }
+    {
+        self.terms.metrics = text;
     }
 
     /// Returns whether the edge is sealed: its log has failed.

@@ -7,16 +7,19 @@ pub enum Notice {
     Discovery,
     /// Whether the request of a client would be answered at this moment (own).
     Health,
+    /// What the server counted, for operators (own).
+    Metrics,
 }
 
 ghost use Rattle.std.specs.Prelude.{◌≡◌, IfOk};
 ghost use Rattle.std.specs.Option.{option_map};
-ghost use Rattle.tk_edge.specs.Answers.{answered_by};
+ghost use Rattle.tk_edge.specs.Answers as answers;
 ghost use Rattle.tk_edge.specs.Notices as spec;
 
 use crate::answer::{Answer, answer_with, refuse};
 use crate::issuer::Issuer;
 use crate::refusal::Refusal;
+use crate::render::metrics_bytes;
 use crate::terms::Terms;
 use std::alloc::{AllocError, Global};
 use tk_handle::Moment;
@@ -34,28 +37,46 @@ pub(crate) fn answer_notice(
     notice: Notice,
 ) -> Result<Answer, AllocError>
     ensures { IfOk result (λ answer. answer
-        ≡ answered_by (spec.notice_of terms.now region.now now notice)) }
+        ≡ answers.notice_by terms.now region.now now notice) }
 {
-    let reply = notice_of(alloc, region, terms, now, notice)?;
+    match notice {
+        Notice::Discovery => {
+            let reply = metadata_of(alloc, &terms.issuer, region.choices().challenge)?;
+            answered(alloc, reply)
+        }
+        Notice::Health => {
+            let reply = health_of(alloc, terms.health, region, now)?;
+            answered(alloc, reply)
+        }
+        Notice::Metrics => answer_metrics(alloc, &terms.metrics),
+    }
+}
+
+// Returns the answer with the reply, if it is given.
+fn answered(alloc: Global, reply: Option<Reply>) -> Result<Answer, AllocError>
+    ensures { IfOk result (λ answer. answer ≡ answers.answered_by reply) }
+{
     match reply {
         Some(reply) => answer_with(alloc, &reply, None),
         None => refuse(alloc, Refusal::UnknownPath),
     }
 }
 
-// Returns the notice at the moment, if the terms give it.
-fn notice_of(
-    alloc: Global,
-    region: &Region,
-    terms: &Terms,
-    now: Moment,
-    notice: Notice,
-) -> Result<Option<Reply>, AllocError>
-    ensures { IfOk result (λ reply. reply ≡ spec.notice_of terms.now region.now now notice) }
+// Returns the answer with the text of the metrics, if there is one.
+fn answer_metrics(alloc: Global, text: &Option<Vec<u8>>) -> Result<Answer, AllocError>
+    ensures { IfOk result (λ answer. answer
+        ≡ answers.metrics_by (option_map (λ v. v.items) text.now)) }
 {
-    match notice {
-        Notice::Discovery => metadata_of(alloc, &terms.issuer, region.choices().challenge),
-        Notice::Health => health_of(alloc, terms.health, region, now),
+    match text {
+        Some(text) => {
+            let bytes = metrics_bytes(alloc, text)?;
+            Ok(Answer {
+                status: StatusCode::Ok,
+                bytes,
+                logged: None,
+            })
+        }
+        None => refuse(alloc, Refusal::UnknownPath),
     }
 }
 
@@ -65,8 +86,7 @@ fn metadata_of(
     issuer: &Option<Issuer>,
     rules: ChallengeRules,
 ) -> Result<Option<Reply>, AllocError>
-    ensures { IfOk result (λ reply. reply
-        ≡ option_map (λ i. spec.metadata_reply i rules) issuer.now) }
+    ensures { IfOk result (λ reply. reply ≡ spec.metadata_of issuer.now rules) }
 {
     match issuer {
         Some(issuer) => {

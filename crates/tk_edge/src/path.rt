@@ -24,6 +24,8 @@ pub enum Path {
     Revoke,
     /// Adds or shows a client, `/admin/client` (own).
     Client,
+    /// Lists clients, `/admin/clients` (own).
+    Clients,
     /// Retires a client, `/admin/retire` (own).
     Retire,
     /// Adds a consent, `/admin/consent` (own).
@@ -39,7 +41,7 @@ pub enum Path {
     /// Takes a bundle in, `/sync/push` (own).
     Push,
     /// Shows what the server says of itself: `/.well-known/oauth-authorization-server` (RFC 8414,
-    /// 3), or `/health` (own).
+    /// 3), `/health` or `/metrics` (own).
     Notice(Notice),
 }
 
@@ -140,7 +142,20 @@ fn notice_named(reach: Reach, path: &[u8]) -> Option<Path>
     if reach.health && is_named(path, b"/health") {
         return Some(Path::Notice(Notice::Health));
     }
+    if has_metrics(reach) && is_named(path, b"/metrics") {
+        return Some(Path::Notice(Notice::Metrics));
+    }
     None
+}
+
+// Returns whether the metrics are reached: the paths of operators are, and the server has metrics.
+fn has_metrics(reach: Reach) -> bool
+    ensures { result ≡ spec.has_metrics reach }
+{
+    match reach.paths {
+        PathSet::Clients => false,
+        PathSet::Admin | PathSet::All => reach.metrics,
+    }
 }
 
 // Returns the path of this name among those of operators and of regions, if it is reached.
@@ -182,6 +197,9 @@ fn admin_named(path: &[u8]) -> Option<Path>
 {
     if is_named(path, b"/admin/client") {
         return Some(Path::Client);
+    }
+    if is_named(path, b"/admin/clients") {
+        return Some(Path::Clients);
     }
     if is_named(path, b"/admin/retire") {
         return Some(Path::Retire);
@@ -246,6 +264,7 @@ impl Path {
         match self {
             Path::Authorize => Some(Service::Query(Endpoint::Authorize)),
             Path::Client => Some(Service::Query(Endpoint::ShowClient)),
+            Path::Clients => Some(Service::Query(Endpoint::ListClients)),
             Path::Vector => Some(Service::Vector),
             Path::Notice(notice) => Some(Service::Notice(notice)),
             _ => None,
@@ -257,7 +276,7 @@ impl Path {
         ensures { result ≡ spec.post_service self }
     {
         match self {
-            Path::Authorize | Path::Vector | Path::Notice(_) => None,
+            Path::Authorize | Path::Clients | Path::Vector | Path::Notice(_) => None,
             Path::Token => form_for(Endpoint::Token),
             Path::Introspect => form_for(Endpoint::Introspect),
             Path::Revoke => form_for(Endpoint::Revoke),
@@ -276,7 +295,7 @@ impl Path {
         ensures { result.now ≡ spec.allowed_at self }
     {
         match self {
-            Path::Authorize | Path::Vector | Path::Notice(_) => b"GET",
+            Path::Authorize | Path::Clients | Path::Vector | Path::Notice(_) => b"GET",
             Path::Client => b"GET, POST",
             _ => b"POST",
         }

@@ -24,13 +24,15 @@ pub struct Reach {
     pub discovery: bool,
     /// Whether the server's health is, at `/health` (own).
     pub health: bool,
+    /// Whether the server's metrics are, at `/metrics`, if the paths of operators are (own).
+    pub metrics: bool,
 }
 
 ghost use Rattle.std.specs.Prelude.{◌≡◌};
 ghost use Rattle.tk_edge.specs.Paths.{plain};
 
 impl Reach {
-    /// Returns the reach of these paths, without metadata and health.
+    /// Returns the reach of these paths, without metadata, health and metrics.
     pub fn plain(paths: PathSet) -> Reach
         ensures { result ≡ plain paths }
     {
@@ -38,6 +40,7 @@ impl Reach {
             paths,
             discovery: false,
             health: false,
+            metrics: false,
         }
     }
 }

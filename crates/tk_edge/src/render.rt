@@ -1,4 +1,5 @@
-//! Renders a reply as bytes: `reply_bytes`, and `render` for one that may name methods.
+//! Renders a reply as bytes: `reply_bytes`, `render` for one that may name methods, and
+//! `metrics_bytes` for one with metrics.
 
 ghost use Rattle.std.specs.Prelude.{◌≡◌, IfOk, None};
 ghost use Rattle.std.specs.Option.{option_copied};
@@ -9,6 +10,25 @@ use itoa::Buffer;
 use std::alloc::{AllocError, Global};
 use tk_message::{Asks, Payload, Reply, StatusCode};
 use tk_put::{field_line, joined};
+
+// Returns the bytes of the reply with metrics: head and text. `text` is in the text format of
+// Prometheus, version 0.0.4.
+pub(crate) fn metrics_bytes(alloc: Global, text: &[u8]) -> Result<Vec<u8>, AllocError>
+    ensures { IfOk result (λ bytes. bytes.items ≡ spec.metrics_bytes text.now) }
+{
+    let mut len = Buffer::new();
+    assembled(
+        alloc,
+        b"200",
+        b"OK",
+        b"Content-Type: text/plain; version=0.0.4\r\n",
+        len.format(text.len()).as_bytes(),
+        b"",
+        b"",
+        b"",
+        text,
+    )
+}
 
 // Returns the bytes of a whole reply: head and body (RFC 9112, 4). The head has
 // `Connection: close`, and no `Allow`: only a refused method has that.

@@ -17,7 +17,7 @@ pub struct RegionRange {
 /// The terms of an edge: which pushed bundles it refuses, and which notices of itself it gives
 /// (own).
 ///
-/// Contracts see `accepted` as the list of its ranges.
+/// Contracts see `accepted` as the list of its ranges, and `metrics` as its bytes.
 #[derive(Drop)]
 pub struct Terms {
     /// Whether a bundle is refused if its horizon is later than the moment of the request.
@@ -30,9 +30,12 @@ pub struct Terms {
     pub issuer: Option<Issuer>,
     /// Whether GET /health is answered.
     pub health: bool,
+    /// The text that GET /metrics shows. `None`: its path is unknown.
+    pub metrics: Option<Vec<u8>>,
 }
 
 impl Model for Terms {
+    ghost use Rattle.std.specs.Option.{option_map};
     ghost use Rattle.tk_edge.specs.Terms.{TermsFields, coded_terms};
 
     ghost Value = { TermsFields };
@@ -45,6 +48,7 @@ impl Model for Terms {
       barred = t.barred;
       issuer = t.issuer;
       health = t.health;
+      metrics = option_map (λ v. v.items) t.metrics;
     } };
 }
 
@@ -66,6 +70,7 @@ impl Terms {
             barred: None,
             issuer: None,
             health: false,
+            metrics: None,
         }
     }
 

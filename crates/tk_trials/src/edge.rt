@@ -2,9 +2,11 @@
 //! served, which no row of `check/rows/` can show.
 //!
 //! `serving` has the tests of devices, `pieces` those of requests that haven't come whole, `frail`
-//! a device, and `talks` the requests. `reaches` has the tests of paths.
+//! a device, and `talks` the requests. `reaches` has the tests of paths, and `metrics` those of
+//! `/metrics`.
 
 mod frail;
+mod metrics;
 mod pieces;
 mod reaches;
 mod serving;

@@ -22,7 +22,7 @@ use Rattle.tk_region.specs.Step.{PreparedFields, early_in, prepared_by, prepared
 use Rattle.tk_edge.specs.Answers.{answer_by, fact_by, rendered}
 use Rattle.tk_edge.specs.declared.hear.Arrival.{Arrival}
 use Rattle.tk_edge.specs.declared.hear.Arrival.TheVariants.{Silence, Refused, Request, Exchange, Notice}
-use Rattle.tk_edge.specs.declared.notice.Notice.TheVariants.{Discovery, Health}
+use Rattle.tk_edge.specs.declared.notice.Notice.TheVariants.{Discovery, Health, Metrics}
 use Rattle.tk_retention.specs.StandsFor.{SlotStands, StandsFor, AreSound}
 use Rattle.tk_retention.proofs.DecisionLaws.{decision_stands}
 use Rattle.tk_world.specs.State.{Kept, kept_store}
@@ -82,6 +82,7 @@ module _ (n : ℕ) (settings : SettingsFields) (U F : FactSet) (P Q : StoreField
     answers_same (Exchange asked) = refl
     answers_same (Notice Discovery) = refl
     answers_same (Notice Health) = refl
+    answers_same (Notice Metrics) = refl
 
     pub facts_same : (heard : Arrival) → fact_by (region_of P) now words heard ≡ fact_by (region_of Q) now words heard
     facts_same Silence = refl

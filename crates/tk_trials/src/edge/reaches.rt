@@ -145,6 +145,7 @@ const PATHS: &[Row] = &[
         UNKNOWN,
     ),
     (b"PUT /health HTTP/1.1\r\n\r\n", UNKNOWN, UNKNOWN, UNKNOWN),
+    (b"GET /metrics HTTP/1.1\r\n\r\n", UNKNOWN, UNKNOWN, UNKNOWN),
     (
         b"GET /sync/vector HTTP/1.1\r\n\r\n",
         UNKNOWN,

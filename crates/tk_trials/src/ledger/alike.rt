@@ -54,12 +54,24 @@ fn is_region_alike(both: &Both, region: RegionNumber) -> bool {
 
 // ---- clients, consents and tokens
 
+// Returns whether both ledgers have the same client next above a dot, or first of all.
+fn is_next_alike(both: &Both, after: Option<Dot>) -> bool {
+    match both.ledger.next_client(after) {
+        Some((client, view)) => {
+            both.plain.next_client(after) == Some(client)
+                && same_clients(&Some(view), &both.plain.client(client))
+        }
+        None => both.plain.next_client(after).is_none(),
+    }
+}
+
 fn is_place_alike(both: &Both, at: Dot, compared: &Compared<'_>) -> bool {
     let found = both
         .ledger
         .consent_for(at, compared.subject, compared.scope);
     found == both.plain.consent_for(at, compared.subject, compared.scope)
         && same_clients(&both.ledger.client(at), &both.plain.client(at))
+        && is_next_alike(both, Some(at))
         && same_consents(&both.ledger.consent(at), &both.plain.consent(at))
         && is_slot_alike(both, at)
         && is_region_alike(both, at.region())
@@ -147,4 +159,5 @@ pub(super) fn are_all_alike(both: &Both, compared: &Compared<'_>) -> bool {
     both.ledger.store().len() == both.plain.len()
         && both.ledger.horizon().seconds() == both.plain.horizon()
         && are_outs_alike(both, compared.subject)
+        && is_next_alike(both, None)
 }

@@ -42,6 +42,14 @@ fn lower(dot: Dot, other: Option<Dot>) -> Dot {
     }
 }
 
+// Returns whether a dot is above another one, if there is another.
+fn is_above(dot: Dot, after: Option<Dot>) -> bool {
+    match after {
+        Some(after) => after < dot,
+        None => true,
+    }
+}
+
 impl PlainLedger {
     pub(super) fn new(alloc: Global) -> PlainLedger {
         PlainLedger {
@@ -184,6 +192,17 @@ impl PlainLedger {
             redirects: &client.redirects,
             live: is_live_client(self.facts.as_slice(), dot),
         })
+    }
+
+    // Returns the lowest dot above another, or of all, at which a client was added.
+    pub(super) fn next_client(&self, after: Option<Dot>) -> Option<Dot> {
+        let mut least: Option<Dot> = None;
+        for fact in self.facts.as_slice() {
+            if matches!(fact.body, Body::ClientAdded(_)) && is_above(fact.dot, after) {
+                least = Some(lower(fact.dot, least));
+            }
+        }
+        least
     }
 
     pub(super) fn consent(&self, dot: Dot) -> Option<ConsentView<'_>> {
