@@ -42,6 +42,19 @@ def margin_is_refused(room):
     wanted(run.output.startswith(b"pruned 0\n"), "not pruned by the option", run.output)
 
 
+def server_gets_the_margin(room):
+    """The server prunes while it runs, too: with the margin of the setting, or of the option."""
+    for given, passed in (
+            ({}, []), ({"TOKEND_PRUNE_MARGIN": DAY}, [DAY]),
+            ({"TOKEND_OPTIONS": "--prune-margin 90000"}, ["90000"]),
+            ({"TOKEND_PRUNE_MARGIN": DAY, "TOKEND_OPTIONS": "--prune-margin 90000"}, ["90000"])):
+        run = room.start(**given).listening()
+        words = run.arguments()
+        found = [value for word, value in zip(words, words[1:]) if word == "--prune-margin"]
+        wanted(found == passed, "another margin", words)
+        run.stop()
+
+
 def horizon_passes(room):
     """A region whose horizon is ahead replies 503, but to other regions, and then as ever."""
     horizon = int(time.time()) + 3
@@ -179,6 +192,7 @@ def clock_that_agrees_prunes(room):
         site.is_as_ever(run)
 
 
-CASES = [start_prunes, margin_is_refused, horizon_passes, peers_differ_and_agree,
-         peer_ahead_stops_no_start, file_ahead_ends_a_start, log_ahead_ends_a_start,
-         start_waits_for_its_clock, clock_ahead_prunes_nothing, clock_that_agrees_prunes]
+CASES = [start_prunes, margin_is_refused, server_gets_the_margin, horizon_passes,
+         peers_differ_and_agree, peer_ahead_stops_no_start, file_ahead_ends_a_start,
+         log_ahead_ends_a_start, start_waits_for_its_clock, clock_ahead_prunes_nothing,
+         clock_that_agrees_prunes]

@@ -30,6 +30,7 @@ class Client(threading.Thread):
                 self.wrong = repr(why)
 
     def work(self):
+        """Logs in and refreshes, and introspects each token after each refresh."""
         pair = self.server.log_in()
         self.note(pair)
         for _ in range(self.refreshes):

@@ -16,6 +16,7 @@ import server
 from shared import SECONDS, Running, Syncs, refreshing, rest_of
 
 METADATA, HEALTH = "/.well-known/oauth-authorization-server", "/health"
+METRICS = "/metrics"  # no option shows them
 ISSUER = "https://id.example:8443/one"
 UNKNOWN = request("GET", "/nowhere")
 MOST = 200  # allocations of a request
@@ -86,6 +87,7 @@ class Notices(unittest.TestCase):
                 if option not in options:
                     for method in "GET", "POST", "PUT":
                         self.assertEqual(self.said(it.place, request(method, path)), wanted, path)
+            self.assertEqual(self.said(it.place, request("GET", METRICS)), wanted)
 
     def test_paths_of_clients(self):
         """Beside an inner socket both are given at the outer one, and at the inner one."""

@@ -82,6 +82,7 @@ class Repeated(Refusing):
     """Refreshes that are repeated: a reply again, or none, and the login stays."""
 
     def wanted(self, server, replies, refused):
+        """Returns how many replies were lost. All others, and all of a second time, are right."""
         lost = replies.count(b"")
         self.assertLessEqual(lost, refused)
         for sent, first, said in zip(self.requests, self.first, replies):

@@ -44,7 +44,9 @@ def said_of(name, options):
 
 def words(settings, number, places, load, log, secret, prune):
     pruned = [] if prune is None else ["--prune", str(prune)]
-    given = ("challenge", settings.challenge), ("issuer", settings.issuer)
+    margin = "" if prune is None else str(settings.margin)
+    given = (("challenge", settings.challenge), ("issuer", settings.issuer),
+             ("prune-margin", margin))
     choices = CHOICES + tuple(it for it in given if it[1])
     ranges = settings.ranges() if number in settings.numbers else []
     chosen = [word for name, value in choices if not said_of(name, settings.options)

@@ -117,7 +117,7 @@ def main_process(environ):
 
 
 def margin_of(environ):
-    """How many seconds before its start a run is pruned; None for no prune."""
+    """How many seconds before its start, and before now, a run is pruned; None for no prune."""
     text = environ.get("TOKEND_PRUNE_MARGIN")
     return number(text, LEAST_MARGIN, 999_999_999, "TOKEND_PRUNE_MARGIN") if text else None
 

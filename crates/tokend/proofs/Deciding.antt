@@ -456,7 +456,8 @@ has_moved old mid kept new next left fault granted one keep two words =
     let many = ap (λ (s : Server). s.left) two in
     let told = ap (λ (s : Server). s.fault) two in
     let repeats = ap (λ (s : Server). s.repeats) two ∙ ap (λ (s : Server). s.repeats) keep ∙ ap (λ (s : Server). kept_by granted s.repeats) one in
-    λ i. record { alloc = alloc i; edge = new.edge; words = drawn i; log_taken = logs i; keeps = keeps i; has_inner = has_inner i; is_inner = is_inner i; now = now i; left = many i; fault = told i; repeats = repeats i }
+    let pruning = ap (λ (s : Server). s.pruning) two ∙ ap (λ (s : Server). s.pruning) keep ∙ ap (λ (s : Server). s.pruning) one in
+    λ i. record { alloc = alloc i; edge = new.edge; words = drawn i; log_taken = logs i; keeps = keeps i; has_inner = has_inner i; is_inner = is_inner i; now = now i; left = many i; fault = told i; repeats = repeats i; pruning = pruning i }
 
 module _ (old mid kept new : Server) (bytes : List ℕ) (over : Bool) (next : ChaCha) (left : ℕ) (words : List ℕ) (reply logged : List ℕ) (granted : Option Refreshed)
     (untold : old.fault ≡ None) (six_words : words ≡ six old.words) (past_words : next ≡ past_six old.words)

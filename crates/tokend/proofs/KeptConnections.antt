@@ -12,7 +12,6 @@ use Rattle.tk_format.specs.Exact.{whole_again}
 use Rattle.tk_format.specs.Format.{whole}
 use Rattle.tk_handle.specs.declared.dot.Dot.{Dot}
 use Rattle.tk_fact.specs.declared.body.Body.{Body}
-use Rattle.tk_fact.specs.declared.body.Body.TheVariants as bodies
 use Rattle.tk_store.specs.SlotJoining.{AllBelow, AllFit}
 use Rattle.tk_store.specs.SlotOrder.{SlotAgrees, SlotsBelow}
 use Rattle.tk_store.specs.Slots.{Slot, Slots, Held, Skipped, is_skipped_slot, joined_slot, with_slots}
@@ -34,7 +33,7 @@ use Rattle.tk_region.specs.declared.take.TakeError.TheVariants.{Malformed, OwnNu
 use Rattle.tk_region.specs.declared.take.TakeError.TheVariants as Take
 use Rattle.tk_region.proofs.CapLaws.{next_unknown}
 use Rattle.tk_region.proofs.FitsLaws.{fits_differ}
-use Rattle.tk_edge.specs.Answers.{IsRecorded, answer_at, answered_by, fact_by}
+use Rattle.tk_edge.specs.Answers.{IsRecorded, answer_at, answered_by, fact_by, metrics_by, notice_by}
 use Rattle.tk_edge.specs.Arrivals.{Answers}
 use Rattle.tk_edge.specs.EdgeFields.{EdgeFields}
 use Rattle.tk_edge.specs.Ahead.{refused, lifted}
@@ -51,7 +50,9 @@ use Rattle.tk_edge.specs.declared.ahead.PushError.TheVariants as push
 use Rattle.tk_edge.specs.declared.exchange.Exchange.TheVariants.{Vector, Pull, Push}
 use Rattle.tk_edge.specs.declared.hear.Arrival.{Arrival}
 use Rattle.tk_edge.specs.declared.hear.Arrival.TheVariants.{Silence, Refused, Request, Exchange, Notice}
-use Rattle.tk_edge.specs.Notices.{notice_of}
+use Rattle.tk_edge.specs.Notices.{health_of, metadata_of}
+use Rattle.tk_edge.specs.declared.notice.Notice.{Notice as AnyNotice}
+use Rattle.tk_edge.specs.declared.notice.Notice.TheVariants.{Discovery, Health, Metrics}
 use Rattle.tk_edge.specs.declared.tell.Fault.{Fault}
 use Rattle.tk_edge.specs.declared.tell.Fault.TheVariants.{Read, Write, Log, Memory}
 use Rattle.tokend.specs.Decisions.{Asking, Ending, IsDecision, IsDecisionBy, asked_of, gains}
@@ -59,8 +60,7 @@ use Rattle.tokend.specs.Repeats.{Repetition}
 use Rattle.tokend.specs.Draw.{past_six, six}
 use Rattle.tokend.specs.KeptLog.{IsCalm}
 use Rattle.tokend.specs.Turns.{AreDecisions, AreTurns, Endings, IsKept, IsLost, IsTurn, Running, past_each}
-use Rattle.tokend.specs.declared.load.LoadFault.TheVariants as load
-use Rattle.tokend.proofs.Turning.{edge_stays}
+use Rattle.tokend.proofs.Turning.{sealed_stays}
 use Rattle.tokend.proofs.KeptSlots.{IsFrom, below_first, below_some, fit_lower, fits_lower, from_items, first_unchanged, items_below, items_from, items_lower, neither, unchanged}
 use Rattle.tokend.proofs.LogBundles.{IsNotLater, horizon_from, taken_slots}
 
@@ -182,9 +182,18 @@ module _ (end : Result Served Fault) (before after : Option (List ℕ)) (old new
   logged_as : (answer told : AnswerFields) → answer ≡ told → Appends before after (record_in answer.logged) → Appends before after (record_in told.logged)
   logged_as answer told is more = subst (λ (a : AnswerFields). Appends before after (record_in a.logged)) is more
 
-  notice_unlogged : (o : Option ReplyFields) → (answered_by o).logged ≡ None
-  notice_unlogged None = refl
-  notice_unlogged (Some reply) = refl
+  reply_unlogged : (o : Option ReplyFields) → (answered_by o).logged ≡ None
+  reply_unlogged None = refl
+  reply_unlogged (Some reply) = refl
+
+  metrics_unlogged : (o : Option (List ℕ)) → (metrics_by o).logged ≡ None
+  metrics_unlogged None = refl
+  metrics_unlogged (Some text) = refl
+
+  notice_unlogged : (terms : TermsFields) (now : ℕ) (notice : AnyNotice) → (notice_by terms old now notice).logged ≡ None
+  notice_unlogged terms now Discovery = reply_unlogged (metadata_of terms.issuer old.settings.choices.challenge)
+  notice_unlogged terms now Health = reply_unlogged (health_of terms.health old.facts.horizon now)
+  notice_unlogged terms now Metrics = metrics_unlogged terms.metrics
 
   answered : (terms : TermsFields) (now : ℕ) (words : List ℕ) (came : Arrival) (answer : AnswerFields) → bundle_to_log true came ≡ None → Answers terms old now words came (Ok answer) new
       → Appends before after (record_in answer.logged) → IfSome (fact_by old now words came) IsRecorded → Grows end before after F G
@@ -197,7 +206,7 @@ module _ (end : Result Served Fault) (before after : Option (List ℕ)) (old new
       recorded (prepared_of old now words request).fact
       (subst (λ o. Appends before after (record_in o)) (logged_is old now words request) (logged_as answer (answer_at terms old now words (Request request)) h.0 more)) h.1 h.2 fits
   answered terms now words (Notice notice) answer none h more fits =
-      gains_none (subst (λ o. Appends before after (record_in o)) (notice_unlogged (notice_of terms old now notice)) (logged_as answer (answered_by (notice_of terms old now notice)) h.0 more)) h.1
+      gains_none (subst (λ o. Appends before after (record_in o)) (notice_unlogged terms now notice) (logged_as answer (notice_by terms old now notice) h.0 more)) h.1
 
   -- a bundle that was read is taken in, refused, or cut off
   module _ (b : BundleFields) (fits : bundle.Fits b) (readable : bundle.Fits (news_of F.slots b)) where
@@ -388,7 +397,7 @@ turn_stays words old ends new h e = of h.log
 pub turns_stay : (words : ChaCha) (old : Running) (turns : List Endings) (new : Running) → AreTurns words true old turns new → old.edge.sealed ≡ true → new.edge.sealed ≡ true
 turns_stay words old [] new same e = ap (λ (r : Running). r.edge.sealed) same ∙ e
 turns_stay words old (ends ∷ turns) new h e =
-    turns_stay (past_each words ends) h.1 turns new h.4 (ap (λ (x : EdgeFields). x.sealed) (edge_stays h.0 h.1 h.3) ∙ turn_stays words old ends h.0 h.2 e)
+    turns_stay (past_each words ends) h.1 turns new h.4 (sealed_stays h.0 h.1 h.3 ∙ turn_stays words old ends h.0 h.2 e)
 
 decision_adds_by : (again : Option Repetition) (words : List ℕ) (old : EdgeFields) (end : Ending) (logged : List ℕ) (new : EdgeFields) → IsDecisionBy again words true old end logged new
     → old.sealed ≡ false → new.sealed ≡ false → Grows end.end (Some []) (Some logged) old.region.facts new.region.facts

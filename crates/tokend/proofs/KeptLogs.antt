@@ -9,13 +9,10 @@ use Rattle.std.proofs.lemmas.Bool.Decides.{nat_tests}
 use Rattle.tk_format.specs.Exact.{prefix_free}
 use Rattle.tk_handle.specs.declared.dot.Dot.{Dot}
 use Rattle.tk_handle.specs.Dot.{dot_cmp}
-use Rattle.tk_handle.specs.declared.token_id.TokenId.{TokenId}
-use Rattle.tk_fact.specs.Keeping.{is_passing, kept_for}
 use Rattle.tk_fact.specs.declared.body.Body.{Body}
-use Rattle.tk_fact.specs.declared.body.Body.TheVariants as bodies
 use Rattle.tk_store.specs.SlotJoining.{AllBelow, AllFit}
 use Rattle.tk_store.specs.SlotOrder.{SlotBelow, SlotsBelow}
-use Rattle.tk_store.specs.Slots.{Slot, Slots, Held, Skipped, held_slot, with_slots}
+use Rattle.tk_store.specs.Slots.{Slot, Slots, Held, Skipped, with_slots}
 use Rattle.tk_store.specs.StoreFields.{StoreFields, held_facts, empty_store}
 use Rattle.tk_store.proofs.SlotLaws.{get_held}
 use Rattle.tk_store.proofs.SlotOrderLaws.{below_itself, slots_itself, slots_trans}
@@ -27,45 +24,20 @@ use Rattle.tk_ledger.specs.Retention.{MaySkip}
 use Rattle.tk_message.specs.Place.{next_in}
 use Rattle.tk_region.specs.RegionFields.{RegionFields, place_in}
 use Rattle.tk_region.specs.Taking.{has_unmade}
-use Rattle.tk_region.specs.declared.take.TakeError.TheVariants.{Malformed}
-use Rattle.tk_region.specs.declared.take.TakeError.TheVariants as Take
-use Rattle.tk_edge.specs.Ahead.{refused}
-use Rattle.tk_edge.specs.declared.ahead.PushError.TheVariants as push
-use Rattle.tk_edge.specs.declared.hear.Arrival.TheVariants.{Refused}
-use Rattle.tk_edge.specs.declared.tell.Fault.TheVariants.{Read, Memory}
-use Rattle.tokend.specs.KeptLog.{AreLogged, HasLogged, IsFresh, IsNotRefused, IsTorn, LogKeepsAll, LogLoads}
+use Rattle.tokend.specs.KeptLog.{AreLogged, HasLogged, IsFresh, IsNotRefused, IsPrunedBefore, IsTorn, LogKeepsAll, LogLoads}
 use Rattle.tokend.specs.Loading.{AreBundles, BeginsWith, IsNoBundle, IsRefused, Loads, TakesEach, TakesFront, log_bytes}
 use Rattle.tokend.specs.Starting.{PrunesOld, edge_of}
 use Rattle.tokend.specs.Turns.{all_ends}
 use Rattle.tokend.specs.declared.load.LoadFault.{LoadFault}
 use Rattle.tokend.specs.declared.load.LoadFault.TheVariants as load
 use Rattle.tokend.proofs.Turning.{turns_grow}
-use Rattle.tokend.proofs.KeptSlots.{IsFrom}
+use Rattle.tokend.proofs.KeptSlots.{IsFrom, IsLeft}
+use Rattle.tokend.proofs.SliceLaws.{held_at, none_is_some, passing_kept}
 use Rattle.tokend.proofs.LogBundles.{EachBelow, NoneLater, Parted, below_among, each_below, each_from, each_more, later_among, no_end, one_list, parted, taken_slots}
 use Rattle.tokend.proofs.KeptConnections.{sealed_clash}
 use Rattle.tokend.proofs.KeptTurns.{FitsEach, with_each, Through, each_both, fits_both, Grew, through}
 
 -- ---- before the first connection
-
-held_at : (o : Option Slot) (b : Body) → held_slot o ≡ Some b → o ≡ Some (Held b)
-held_at None b e = absurd (cc)
-held_at (Some (Held c)) b e = ap (λ x. Some (Held x)) (is_body e)
-  where
-    is_body : Some c ≡ Some b → c ≡ b
-    is_body e = cc
-held_at (Some Skipped) b e = absurd (cc)
-
-passing_kept : (d : Dot) (b : Body) (k : TokenId) → kept_for d b ≡ Some k → is_passing b ≡ true
-passing_kept d (bodies.ClientAdded f) k e = absurd (cc)
-passing_kept d (bodies.ClientRetired f) k e = absurd (cc)
-passing_kept d (bodies.ConsentGiven f) k e = absurd (cc)
-passing_kept d (bodies.ConsentWithdrawn f) k e = absurd (cc)
-passing_kept d (bodies.CodeIssued f) k e = refl
-passing_kept d (bodies.CodeRedeemed f) k e = refl
-passing_kept d (bodies.RefreshRotated f) k e = refl
-passing_kept d (bodies.TokenRevoked f) k e = absurd (cc)
-passing_kept d (bodies.ReuseSeen f) k e = refl
-passing_kept d (bodies.SubjectOut f) k e = absurd (cc)
 
 -- a region that was pruned, or wasn't, knows what it knew, or has skipped it
 pruned_below : (moment count : Option ℕ) (full start : RegionFields) → PrunesOld moment full (Ok count) start → SlotsBelow full.facts.slots start.facts.slots
@@ -96,9 +68,6 @@ pruned_less (Some moment) (Some n) full start pruned d b at = of (pruned.facts.k
     of (inl same) = sym same ∙ at
     of (inr may) = absurd (skipped_held b (sym (pruned.facts.skips d may) ∙ at))
 
-none_is_some : (s : Slot) → None ≡ Some s → ⊥
-none_is_some s e = cc
-
 -- a region without facts knows nothing
 knows_none : (P : StoreFields) (d : Dot) → P ≡ empty_store → map.get P.slots d ≡ None
 knows_none P d is = ap (λ (Q : StoreFields). map.get Q.slots d) is ∙ map.get-empty dot_cmp d
@@ -111,14 +80,18 @@ first_below u s t b (inr below) none at = subst (λ o. SlotBelow o u) at below
 
 -- ---- what another region has that has loaded the bundles
 
+known_above : (s : Slot) (u : Option Slot) → SlotBelow (Some s) u → u ≡ None → ⊥
+known_above s None below none = below
+known_above s (Some t) below none = none_is_some t (sym none)
+
 skip_above : (u : Option Slot) → SlotBelow (Some Skipped) u → u ≡ Some Skipped
 skip_above None below = absurd below
 skip_above (Some (Held b)) below = absurd below
 skip_above (Some Skipped) below = refl
 
-log_from : (olds : List BundleFields) (region : RegionFields) (log : List ℕ) (h : HasLogged olds region log) → Grew h.turns [] log h.start.facts region.facts
+log_from : (olds : List BundleFields) (region : RegionFields) (log : List ℕ) (h : HasLogged olds region log) → Grew h.prunes h.turns [] log h.start.facts region.facts
 log_from olds region log h =
-    through h.words (record { edge = edge_of h.terms h.start; log = Some []; faults = h.faults }) h.turns (record { edge = edge_of h.terms region; log = Some log; faults = h.told }) [] log h.served refl refl refl refl
+    through h.words (record { edge = edge_of h.terms h.start; log = Some []; faults = h.faults; prunes = h.prunes }) h.turns (record { edge = edge_of h.terms region; log = Some log; faults = h.told; prunes = h.prunes }) [] log h.served refl refl refl refl
 
 -- the bundles of the log are those by which it grew
 log_is : (log : List ℕ) (news bundles : List BundleFields) → AreLogged log news → AreBundles bundles → log ≡ log_bytes bundles → bundles ≡ news
@@ -129,7 +102,7 @@ pub keeps_all : LogKeepsAll
 keeps_all olds region log h news logged bytes all are among_olds among_news new loaded dropped loads =
     let U = loaded.facts.slots in
     let grew = log_from olds region log h in
-    let through = subst (Through (all_ends h.turns) h.start.facts region.facts) (log_is log news grew.0 logged grew.2.fit grew.1) grew.2 in
+    let through = subst (Through h.prunes (all_ends h.turns) h.start.facts region.facts) (log_is log news grew.0 logged grew.2.fit grew.1) grew.2 in
     let back = loads.1 in
     let same : all ≡ back.bundles = one_list bytes back.bundles all (record { fit = back.fit; rest = loads.0; parts = back.parts; torn = loads.2 }) are in
     let above = each_below new back.bundles loaded back.fit back.each in
@@ -139,21 +112,38 @@ keeps_all olds region log h news logged bytes all are among_olds among_news new 
     let old_from = each_from h.first olds h.full U h.loaded (below_among U olds all among_olds each) in
     record {
       held = λ d b at. held_by d b (held_at (map.get region.facts.slots d) b (sym (get_held region.facts.slots d) ∙ at)) (from d) (old_from d);
-      marks = λ d at. marked d at (from d);
-      horizon = through.late loaded.facts.horizon (later_among loaded.facts.horizon news all among_news late);
+      marks = λ d at. marked d at (from d) (old_from d);
+      horizon = λ off. through.late off loaded.facts.horizon (later_among loaded.facts.horizon news all among_news late);
     }
   where
-    held_by : (d : Dot) (b : Body) → map.get region.facts.slots d ≡ Some (Held b) → IsFrom (map.get loaded.facts.slots d) (map.get h.start.facts.slots d) (map.get region.facts.slots d)
-        → IsFrom (map.get loaded.facts.slots d) (map.get h.first.facts.slots d) (map.get h.full.facts.slots d) → SlotBelow (Some (Held b)) (map.get loaded.facts.slots d)
-    held_by d b at (inr below) old = subst (λ o. SlotBelow o (map.get loaded.facts.slots d)) at below
-    held_by d b at (inl same) old =
+    -- what a region held before its service, the other knows
+    started : (d : Dot) (b : Body) → map.get h.start.facts.slots d ≡ Some (Held b) → IsFrom (map.get loaded.facts.slots d) (map.get h.first.facts.slots d) (map.get h.full.facts.slots d)
+        → SlotBelow (Some (Held b)) (map.get loaded.facts.slots d)
+    started d b at old =
         first_below (map.get loaded.facts.slots d) (map.get h.first.facts.slots d) (map.get h.full.facts.slots d) b old (knows_none h.first.facts d h.empty)
-        (pruned_less h.moment h.count h.full h.start h.pruned d b (sym same ∙ at))
+        (pruned_less h.moment h.count h.full h.start h.pruned d b at)
 
-    marked : (d : Dot) → map.get region.facts.slots d ≡ Some Skipped → IsFrom (map.get loaded.facts.slots d) (map.get h.start.facts.slots d) (map.get region.facts.slots d)
-        → (map.get h.start.facts.slots d ≡ Some Skipped) ⊎ (map.get loaded.facts.slots d ≡ Some Skipped)
-    marked d at (inl same) = inl (sym same ∙ at)
-    marked d at (inr below) = inr (skip_above (map.get loaded.facts.slots d) (subst (λ o. SlotBelow o (map.get loaded.facts.slots d)) at below))
+    held_by : (d : Dot) (b : Body) → map.get region.facts.slots d ≡ Some (Held b) → IsLeft h.prunes (map.get loaded.facts.slots d) (map.get h.start.facts.slots d) (map.get region.facts.slots d)
+        → IsFrom (map.get loaded.facts.slots d) (map.get h.first.facts.slots d) (map.get h.full.facts.slots d) → SlotBelow (Some (Held b)) (map.get loaded.facts.slots d)
+    held_by d b at (inl (inr below)) old = subst (λ o. SlotBelow o (map.get loaded.facts.slots d)) at below
+    held_by d b at (inl (inl same)) old = started d b (sym same ∙ at) old
+    held_by d b at (inr gone) old = absurd (skipped_held b (sym gone.1 ∙ at))
+
+    -- a region that prunes itself has skipped what its start knew
+    pruned_at : (d : Dot) → h.prunes ≡ true → (o : Option Slot) → map.get h.start.facts.slots d ≡ o → (o ≡ None → ⊥)
+        → IsFrom (map.get loaded.facts.slots d) (map.get h.first.facts.slots d) (map.get h.full.facts.slots d)
+        → (map.get h.start.facts.slots d ≡ Some Skipped) ⊎ (map.get loaded.facts.slots d ≡ Some Skipped) ⊎ IsPrunedBefore h.prunes loaded d
+    pruned_at d on None at some old = absurd (some refl)
+    pruned_at d on (Some Skipped) at some old = inl at
+    pruned_at d on (Some (Held b)) at some old = inr (inr (on, known_above (Held b) (map.get loaded.facts.slots d) (started d b at old)))
+
+    marked : (d : Dot) → map.get region.facts.slots d ≡ Some Skipped → IsLeft h.prunes (map.get loaded.facts.slots d) (map.get h.start.facts.slots d) (map.get region.facts.slots d)
+        → IsFrom (map.get loaded.facts.slots d) (map.get h.first.facts.slots d) (map.get h.full.facts.slots d)
+        → (map.get h.start.facts.slots d ≡ Some Skipped) ⊎ (map.get loaded.facts.slots d ≡ Some Skipped) ⊎ IsPrunedBefore h.prunes loaded d
+    marked d at (inl (inl same)) old = inl (sym same ∙ at)
+    marked d at (inl (inr below)) old = inr (inl (skip_above (map.get loaded.facts.slots d) (subst (λ o. SlotBelow o (map.get loaded.facts.slots d)) at below)))
+    marked d at (inr (on, is, inr known)) old = inr (inr (on, known))
+    marked d at (inr (on, is, inl known)) old = pruned_at d on (map.get h.start.facts.slots d) refl known old
 
 -- ---- the log is loaded behind the old log
 
@@ -173,10 +163,6 @@ fits_behind L (x ∷ xs) y ys h = fits_behind (with_slots L x.items) xs y ys h.1
 each_behind : (U : Slots) (xs : List BundleFields) (y : BundleFields) (ys : List BundleFields) → EachBelow U (xs ++ y ∷ ys) → AllBelow U y.items
 each_behind U [] y ys h = h.0
 each_behind U (x ∷ xs) y ys h = each_behind U xs y ys h.1
-
-known_above : (s : Slot) (u : Option Slot) → SlotBelow (Some s) u → u ≡ None → ⊥
-known_above s None below none = below
-known_above s (Some t) below none = none_is_some t (sym none)
 
 no_tie : (m n : ℕ) → (m ≡ n → ⊥) → (m == n) ≡ false
 no_tie m n differ = elim (m == n) as (λ t. (m == n) ≡ t → t ≡ false) [
@@ -220,11 +206,11 @@ module _ (all back : List BundleFields) (rest cut : List ℕ) (torn : IsTorn cut
 pub loads_all : LogLoads
 loads_all olds region log h calm news logged bytes are new loaded empty fresh result loads = by result loads
   where
-    grew : Grew h.turns [] log h.start.facts region.facts
+    grew : Grew h.prunes h.turns [] log h.start.facts region.facts
     grew = log_from olds region log h
 
-    news_through : Through (all_ends h.turns) h.start.facts region.facts news
-    news_through = subst (Through (all_ends h.turns) h.start.facts region.facts) (log_is log news grew.0 logged grew.2.fit grew.1) grew.2
+    news_through : Through h.prunes (all_ends h.turns) h.start.facts region.facts news
+    news_through = subst (Through h.prunes (all_ends h.turns) h.start.facts region.facts) (log_is log news grew.0 logged grew.2.fit grew.1) grew.2
 
     -- the slots of a region without facts
     nothing : new.facts.slots ≡ h.first.facts.slots
@@ -244,7 +230,7 @@ loads_all olds region log h calm news logged bytes are new loaded empty fresh re
     known =
         let above = each_below h.first olds h.full h.fit h.loaded in
         let grown = slots_trans h.full.facts.slots h.start.facts.slots region.facts.slots (pruned_below h.moment h.count h.full h.start h.pruned)
-        (turns_grow h.words true (record { edge = edge_of h.terms h.start; log = Some []; faults = h.faults }) h.turns (record { edge = edge_of h.terms region; log = Some log; faults = h.told }) h.served).facts.slots in
+        (turns_grow h.words true (record { edge = edge_of h.terms h.start; log = Some []; faults = h.faults; prunes = h.prunes }) h.turns (record { edge = edge_of h.terms region; log = Some log; faults = h.told; prunes = h.prunes }) h.served).facts.slots in
         each_both region.facts.slots olds news (each_more h.full.facts.slots region.facts.slots olds grown above.each) (news_through.known calm)
 
     behind : (rest : List ℕ) → (front : TakesFront new bytes rest loaded) → Parted front.bundles (olds ++ news) rest are.rest

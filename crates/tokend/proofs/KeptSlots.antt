@@ -1,5 +1,6 @@
 -- What slots become with items joined to them. Key results:
 --   from_items     each slot is as it was, or below what is above the items
+--   left_twice     each slot is that, or was pruned, over two changes
 --   unchanged      items that change nothing leave each slot
 --   fits_lower     items that fit, and weren't dropped, fit what is below
 --   items_lower    what is below stays below with the items
@@ -42,6 +43,34 @@ pub from_twice : (u r s t : Option Slot) → IsFrom u r s → IsFrom u s t → I
 from_twice u r s t h (inr below) = inr below
 from_twice u r s t (inl same) (inl again) = inl (again ∙ same)
 from_twice u r s t (inr below) (inl again) = inr (subst (λ o. SlotBelow o u) (sym again) below)
+
+-- a slot, or what U knows of its dot, is known
+abbrev pub IsKnown : Option Slot → Option Slot → Type 0
+IsKnown u s = (s ≡ None → ⊥) ⊎ (u ≡ None → ⊥)
+
+-- the slot is as it was, or is below what U knows, or is the mark of a fact that was pruned
+abbrev pub IsLeft : Bool → Option Slot → Option Slot → Option Slot → Type 0
+IsLeft prunes u s t = IsFrom u s t ⊎ ((prunes ≡ true) × (t ≡ Some skipped) × IsKnown u s)
+
+some_not_none : (s : Slot) → Some s ≡ None → ⊥
+some_not_none s e = cc
+
+below_known : (s u : Option Slot) → SlotBelow s u → (s ≡ None → ⊥) → u ≡ None → ⊥
+below_known None u below some none = some refl
+below_known (Some x) None below some none = below
+below_known (Some x) (Some y) below some none = some_not_none y none
+
+known_before : (prunes : Bool) (u r s : Option Slot) → IsLeft prunes u r s → IsKnown u s → IsKnown u r
+known_before prunes u r s h (inr some) = inr some
+known_before prunes u r s (inl (inl same)) (inl some) = inl (λ none. some (same ∙ none))
+known_before prunes u r s (inl (inr below)) (inl some) = inr (below_known s u below some)
+known_before prunes u r s (inr gone) (inl some) = gone.2
+
+pub left_twice : (prunes : Bool) (u r s t : Option Slot) → IsLeft prunes u r s → IsLeft prunes u s t → IsLeft prunes u r t
+left_twice prunes u r s t h (inl (inr below)) = inl (inr below)
+left_twice prunes u r s t (inl h) (inl (inl same)) = inl (from_twice u r s t h (inl same))
+left_twice prunes u r s t (inr gone) (inl (inl same)) = inr (gone.0, same ∙ gone.1, gone.2)
+left_twice prunes u r s t h (inr gone) = inr (gone.0, gone.1, known_before prunes u r s h gone.2)
 
 -- what B skipped, S has skipped
 abbrev pub SkipsStay : Slots → Slots → Type 0

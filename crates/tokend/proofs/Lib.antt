@@ -19,6 +19,7 @@ pub mod ServiceLogs
 pub mod Services
 pub mod ScriptEvents
 pub mod Shows
+pub mod SliceLaws
 pub mod SocketLaws
 pub mod Tasks
 pub mod Tellings

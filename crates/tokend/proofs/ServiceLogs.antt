@@ -22,7 +22,7 @@ use Rattle.tokend.specs.Turns.{AreDecisions, AreTurns, Endings, IsKept, IsLost, 
 use Rattle.tokend.specs.declared.fault.Fault.{Fault}
 use Rattle.tokend.specs.declared.load.LoadFault.{LoadFault}
 use Rattle.tokend.specs.declared.load.LoadFault.TheVariants as load
-use Rattle.tokend.proofs.Turning.{edge_stays}
+use Rattle.tokend.proofs.Turning.{terms_stay}
 
 -- the bundles that an old log brought
 abbrev Brought : {A : Type 0} → (List ℕ → Option (List ℕ)) → Option (String A) → RegionFields → RegionFields → Type 0
@@ -80,7 +80,7 @@ refusing_stays : (words : ChaCha) (log_taken : Bool) (old : Running) (turns : Li
     → new.edge.terms ≡ old.edge.terms
 refusing_stays words log_taken old [] new same = ap (λ (r : Running). r.edge.terms) same
 refusing_stays words log_taken old (ends ∷ turns) new h =
-    refusing_stays (past_each words ends) log_taken h.1 turns new h.4 ∙ ap (λ (e : EdgeFields). e.terms) (edge_stays h.0 h.1 h.3) ∙ turn_refuses words log_taken old ends h.0 h.2
+    refusing_stays (past_each words ends) log_taken h.1 turns new h.4 ∙ terms_stay h.0 h.1 h.3 ∙ turn_refuses words log_taken old ends h.0 h.2
 
 as_edge : (terms : TermsFields) (edge : EdgeFields) → edge.terms ≡ terms → edge.sealed ≡ false → edge ≡ edge_of terms edge.region
 as_edge terms edge ahead sealed = λ i. record { region = edge.region; terms = ahead i; sealed = sealed i }
@@ -91,15 +91,15 @@ known_empty (Some xs) bytes is empty = ap (λ l. Some l) empty
 
 module _ {L : Type 0} (kept : List ℕ → Option (List ℕ)) (holds : L → Option (List ℕ)) (opens : List ℕ → L → Type 0) where
   -- what the log of a name has, and what was logged in it
-  abbrev Written : {A : Type 0} → Option (String A) → List BundleFields → RegionFields → RegionFields → Writing → Type 0
-  Written name olds start end faults = (bytes : List ℕ) × IsLog holds opens name bytes
-      × ((logged : HasLogged olds end bytes) × (logged.start ≡ start) × (logged.faults ≡ faults.before) × (logged.told ≡ faults.after))
+  abbrev Written : {A : Type 0} → Option (String A) → Bool → List BundleFields → RegionFields → RegionFields → Writing → Type 0
+  Written name prunes olds start end faults = (bytes : List ℕ) × IsLog holds opens name bytes
+      × ((logged : HasLogged olds end bytes) × (logged.start ≡ start) × (logged.faults ≡ faults.before) × (logged.told ≡ faults.after) × (logged.prunes ≡ prunes))
 
-  written : {A : Type 0} (name : Option (String A)) (terms : TermsFields) (keeps has_inner : Bool) (repeat : ℕ) (words : ChaCha) (requests : Option ℕ) (first full start : RegionFields) (moment count : Option ℕ) (end : EdgeFields) (faults : Writing) (olds : List BundleFields)
+  written : {A : Type 0} (name : Option (String A)) (terms : TermsFields) (keeps has_inner prunes : Bool) (repeat : ℕ) (words : ChaCha) (requests : Option ℕ) (first full start : RegionFields) (moment count : Option ℕ) (end : EdgeFields) (faults : Writing) (olds : List BundleFields)
       → first.facts ≡ empty_store → AreBundles olds → TakesEach first olds full → PrunesOld moment full (Ok count) start → IsSome name → KnowsLogs holds → end.sealed ≡ false
-      → ServesLogged holds opens name words requests keeps repeat has_inner true (record { start = edge_of terms start; end = end; faults = faults }) → Written name olds start end.region faults
-  written None terms keeps has_inner repeat words requests first full start moment count end faults olds empty fit brought prunes some knows unsealed h = absurd (cc)
-  written (Some name) terms keeps has_inner repeat words requests first full start moment count end faults olds empty fit brought prunes some knows unsealed h =
+      → ServesLogged holds opens name words requests keeps repeat has_inner true (record { start = edge_of terms start; end = end; faults = faults; prunes = prunes }) → Written name prunes olds start end.region faults
+  written None terms keeps has_inner prunes repeat words requests first full start moment count end faults olds empty fit brought pruned some knows unsealed h = absurd (cc)
+  written (Some name) terms keeps has_inner prunes repeat words requests first full start moment count end faults olds empty fit brought pruned some knows unsealed h =
       let opened = h.0 in
       let closed = h.1 in
       let connections = h.4 in
@@ -118,16 +118,18 @@ module _ {L : Type 0} (kept : List ℕ → Option (List ℕ)) (holds : L → Opt
             moment = moment;
             count = count;
             start = start;
-            pruned = prunes;
+            pruned = pruned;
             terms = terms;
             words = words;
             faults = faults.before;
             turns = connections.0;
             told = faults.after;
-            served = subst (λ (e : EdgeFields). AreTurns words true (record { edge = edge_of terms start; log = Some []; faults = faults.before }) connections.0 (record { edge = e; log = Some bytes.0; faults = faults.after })) ends_at
-                (subst (λ o. AreTurns words true (record { edge = edge_of terms start; log = Some []; faults = faults.before }) connections.0 (record { edge = end; log = o; faults = faults.after })) bytes.1
-                (subst (λ o. AreTurns words true (record { edge = edge_of terms start; log = o; faults = faults.before }) connections.0 (record { edge = end; log = holds closed; faults = faults.after })) before connections.5));
+            prunes = prunes;
+            served = subst (λ (e : EdgeFields). AreTurns words true (record { edge = edge_of terms start; log = Some []; faults = faults.before; prunes = prunes }) connections.0 (record { edge = e; log = Some bytes.0; faults = faults.after; prunes = prunes })) ends_at
+                (subst (λ o. AreTurns words true (record { edge = edge_of terms start; log = Some []; faults = faults.before; prunes = prunes }) connections.0 (record { edge = end; log = o; faults = faults.after; prunes = prunes })) bytes.1
+                (subst (λ o. AreTurns words true (record { edge = edge_of terms start; log = o; faults = faults.before; prunes = prunes }) connections.0 (record { edge = end; log = holds closed; faults = faults.after; prunes = prunes })) before connections.5));
           },
+          refl,
           refl,
           refl,
           refl,
@@ -138,10 +140,11 @@ module _ {L : Type 0} (kept : List ℕ → Option (List ℕ)) (holds : L → Opt
   service_logs service output faults ran taken some knows unsealed =
       let run = ran.run in
       let edge_is = ran.start.0 in
+      let prunes = is_some service.limits.prune_margin in
       let old = from_old kept service.files.load ran.edge.region run.region run.dropped run.loaded in
       let started : with_region (with_region ran.edge run.region) run.opened.region ≡ edge_of (terms_of service) run.opened.region = ap (λ (e : EdgeFields). with_region (with_region e run.region) run.opened.region) edge_is in
-      let w = written service.files.log (terms_of service) (keeps_in service.limits.keep) (is_some service.at.inner) (unwrap_or service.limits.repeat 0) ran.words service.limits.requests ran.edge.region run.region run.opened.region service.files.prune run.opened.pruned run.opened.end faults old.0
+      let w = written service.files.log (terms_of service) (keeps_in service.limits.keep) (is_some service.at.inner) prunes (unwrap_or service.limits.repeat 0) ran.words service.limits.requests ran.edge.region run.region run.opened.region service.files.prune run.opened.pruned run.opened.end faults old.0
       (ap (λ (e : EdgeFields). e.region.facts) edge_is) old.1 old.2 run.opened.prunes some knows unsealed
-      (subst (λ t. ServesLogged holds opens service.files.log ran.words service.limits.requests (keeps_in service.limits.keep) (unwrap_or service.limits.repeat 0) (is_some service.at.inner) t (record { start = edge_of (terms_of service) run.opened.region; end = run.opened.end; faults = faults })) taken
-      (subst (λ (e : EdgeFields). ServesLogged holds opens service.files.log ran.words service.limits.requests (keeps_in service.limits.keep) (unwrap_or service.limits.repeat 0) (is_some service.at.inner) service.files.log_taken (record { start = e; end = run.opened.end; faults = faults })) started run.opened.served)) in
-      record { olds = old.0; bytes = w.0; old = old.3; log = w.1; logged = w.2.0; begun = w.2.1; told = (w.2.2, w.2.3) }
+      (subst (λ t. ServesLogged holds opens service.files.log ran.words service.limits.requests (keeps_in service.limits.keep) (unwrap_or service.limits.repeat 0) (is_some service.at.inner) t (record { start = edge_of (terms_of service) run.opened.region; end = run.opened.end; faults = faults; prunes = prunes })) taken
+      (subst (λ (e : EdgeFields). ServesLogged holds opens service.files.log ran.words service.limits.requests (keeps_in service.limits.keep) (unwrap_or service.limits.repeat 0) (is_some service.at.inner) service.files.log_taken (record { start = e; end = run.opened.end; faults = faults; prunes = prunes })) started run.opened.served)) in
+      record { olds = old.0; bytes = w.0; old = old.3; log = w.1; logged = w.2.0; begun = w.2.1; told = (w.2.2, w.2.3); prunes = w.2.4 }

@@ -96,7 +96,7 @@ module _ {L : Type 0} (kept : List ℕ → Option (List ℕ)) (holds : L → Opt
 
   pub has_opened : {T : Type 0} (service : Service) (dropped : ℕ) (start : EdgeFields) (words : ChaCha) (pruned : Option ℕ) (region : RegionFields) (end : EdgeFields) (output : Change) (faults : Writing) (r : Result T Fault)
       → PrunesOld service.files.prune start.region (Ok pruned) region → OnOk r (Announces (record { dropped = dropped; pruned = pruned }) service.at output.before output.after)
-      → OnOk r (ServesLogged holds opens service.files.log words service.limits.requests (keeps_in service.limits.keep) (unwrap_or service.limits.repeat 0) (is_some service.at.inner) service.files.log_taken (record { start = with_region start region; end = end; faults = faults }))
+      → OnOk r (ServesLogged holds opens service.files.log words service.limits.requests (keeps_in service.limits.keep) (unwrap_or service.limits.repeat 0) (is_some service.at.inner) service.files.log_taken (record { start = with_region start region; end = end; faults = faults; prunes = is_some service.limits.prune_margin }))
       → OnOk r (HasOpened holds opens service dropped start words output faults)
   has_opened service dropped start words pruned region end output faults (Ok x) prunes announced served =
       record { pruned = pruned; region = region; prunes = prunes; announced = announced; end = end; served = served }

@@ -7,11 +7,13 @@
 --   goes_unread     a connection ended unread
 --   goes_parted     a kept connection ended behind its last reply
 --   goes_unsent     a client didn't take its reply
+--   goes_sliced     a slice of the region was pruned
+--   goes_pruned     what a server prunes behind a turn
 --   goes_kept       the requests of a turn were decided, and their records kept
 --   goes_lost       the requests of a turn were decided, and the log failed
 --   turns_grow      turns leave what the region knew
 use Rattle.std.proofs.Common.{◌≡◌, ℕ, ◌+◌, Bool, false, true, List, [], ◌∷◌, ◌++◌, append-nil, append_assoc, length, Option, Some, None, Result, Ok, Err, inl, inr, refl, sym, ap, subst, ◌∙◌, arith}
-use Rattle.std.specs.Prelude.{◌⊎◌, set}
+use Rattle.std.specs.Prelude.{◌⊎◌, set, is_some, cond}
 use Rattle.std.proofs.KnownBytes.{Appends-nil}
 use Rattle.std.proofs.lemmas.List.{length-append}
 use Rattle.rand_chacha.specs.ChaCha.{ChaCha}
@@ -22,6 +24,7 @@ use Rattle.tk_turn.specs.Links.{LinkFields}
 use Rattle.tk_turn.specs.Requests.{AreDecided, Request}
 use Rattle.tk_turn.specs.Turns.{AreDecidedAt, MayDecide, LogChange, State}
 use Rattle.tk_turn.specs.Turns as turn
+use Rattle.tk_handle.specs.declared.dot.Dot.{Dot}
 use Rattle.tk_edge.specs.EdgeFields.{EdgeFields}
 use Rattle.tk_edge.specs.declared.edge.Served.{Served}
 use Rattle.tk_edge.specs.declared.edge.Served.TheVariants.{Nothing}
@@ -33,6 +36,8 @@ use Rattle.tk_edge.specs.declared.tell.Fault.TheVariants.{Write, Log}
 use Rattle.tokend.specs.Decisions.{Decides, Ends, IsUnread, Seals, asking_of, ended_if, fault_of, paths_by, reach_by}
 use Rattle.tokend.specs.Draw.{six, past_six}
 use Rattle.tokend.specs.Growing.{Grows}
+use Rattle.tokend.specs.Pruning.{IsPruned, IsPrunedBy, Slices, SlicesBy, begun, gone_on, is_due, latest, slice_size}
+use Rattle.tokend.specs.declared.pruning.Pruning.{Pruning}
 use Rattle.tokend.specs.Serving.{connection_fault}
 use Rattle.tokend.specs.Telling.{Writer, Writes}
 use Rattle.tk_edge.specs.declared.edge.Served.TheVariants.{Done}
@@ -41,10 +46,11 @@ use Rattle.tokend.specs.Decisions.{Ending, Repeats}
 use Rattle.tokend.specs.Repeats.{RepeatsFields, Repetition, is_repeat}
 use Rattle.tokend.specs.declared.repeats.Refreshed.{Refreshed}
 use Rattle.tokend.specs.Turns.{AreAmong, AreRepeated}
-use Rattle.tokend.specs.Turns.{AreDecisions, AreReported, AreTurns, Endings, Goes, IsKept, IsLost, IsTurn, MayLackReply, MayReach, ReachEach, Running, Site, ReportsOf, all_ends, connections_in, past_each, running}
+use Rattle.tokend.specs.Turns.{AreDecisions, AreReported, AreTurns, Endings, Goes, IsKept, IsLost, IsPause, IsTurn, MayReach, ReachEach, Running, Site, ReportsOf, all_ends, connections_in, past_each, running}
 use Rattle.tokend.specs.declared.server.Server.{Server}
 use Rattle.tokend.proofs.Deciding.{decision_grows, may_stay, none_stays, parted, unread}
 use Rattle.tokend.proofs.Growing.{grows_same, grows_twice}
+use Rattle.tokend.proofs.SliceLaws.{slice_above}
 use Rattle.tokend.proofs.RepeatLaws.{closes_taken, found_parts, none_repeated, one_granted, recent_by, repeated_both, stays_taken}
 
 -- ---- lists of endings
@@ -110,21 +116,21 @@ turns_both words log_taken old (x ∷ xs) mid ys new h k = (
 pub goes_forgotten : (site : Site) (repeats : RepeatsFields) → repeats.seconds ≡ site.server.repeats.seconds → AreAmong repeats.kept site.server.repeats.kept
     → Goes site (record { server = record site.server { repeats = repeats }; log = site.log; faults = site.faults })
 goes_forgotten site repeats same among =
-    record { turns = []; served = refl; words = refl; counted = omega arith; closes = λ _. refl; keeps = refl; repeats = record { seconds = same; each = tt; kept = among }; reaches = tt; has_inner = refl; log_taken = refl; fault = refl }
+    record { turns = []; served = refl; words = refl; counted = omega arith; closes = λ _. refl; keeps = refl; repeats = record { seconds = same; each = tt; kept = among }; reaches = tt; has_inner = refl; margin = refl; log_taken = refl; fault = refl }
 
 pub goes_nowhere : (site : Site) → Goes site site
 goes_nowhere site =
-    record { turns = []; served = refl; words = refl; counted = omega arith; closes = λ _. refl; keeps = refl; repeats = none_repeated site.server.repeats; reaches = tt; has_inner = refl; log_taken = refl; fault = refl }
+    record { turns = []; served = refl; words = refl; counted = omega arith; closes = λ _. refl; keeps = refl; repeats = none_repeated site.server.repeats; reaches = tt; has_inner = refl; margin = refl; log_taken = refl; fault = refl }
 
 -- the moment at which requests are decided changes nothing else
 pub goes_at : (site : Site) (now : ℕ) → Goes site (record { server = record site.server { now = now }; log = site.log; faults = site.faults })
 goes_at site now =
-    record { turns = []; served = refl; words = refl; counted = omega arith; closes = λ _. refl; keeps = refl; repeats = none_repeated site.server.repeats; reaches = tt; has_inner = refl; log_taken = refl; fault = refl }
+    record { turns = []; served = refl; words = refl; counted = omega arith; closes = λ _. refl; keeps = refl; repeats = none_repeated site.server.repeats; reaches = tt; has_inner = refl; margin = refl; log_taken = refl; fault = refl }
 
 -- the socket whose requests are decided changes nothing else
 pub goes_over : (site : Site) (is_inner : Bool) → Goes site (record { server = record site.server { is_inner = is_inner }; log = site.log; faults = site.faults })
 goes_over site is_inner =
-    record { turns = []; served = refl; words = refl; counted = omega arith; closes = λ _. refl; keeps = refl; repeats = none_repeated site.server.repeats; reaches = tt; has_inner = refl; log_taken = refl; fault = refl }
+    record { turns = []; served = refl; words = refl; counted = omega arith; closes = λ _. refl; keeps = refl; repeats = none_repeated site.server.repeats; reaches = tt; has_inner = refl; margin = refl; log_taken = refl; fault = refl }
 
 pub goes_both : (old mid new : Site) → Goes old mid → Goes mid new → Goes old new
 goes_both old mid new h k =
@@ -145,6 +151,7 @@ goes_both old mid new h k =
       reaches = subst (ReachEach old.server.has_inner) (sym all)
           (reach_both old.server.has_inner (all_ends h.turns) (all_ends k.turns) h.reaches (subst (λ b. ReachEach b (all_ends k.turns)) h.has_inner k.reaches));
       has_inner = k.has_inner ∙ h.has_inner;
+      margin = k.margin ∙ h.margin;
       log_taken = k.log_taken ∙ h.log_taken;
       fault = k.fault ∙ h.fault;
     }
@@ -156,7 +163,7 @@ pub goes_unread : (fault : Fault) (old : Server) (words : ChaCha) (left : ℕ) (
 goes_unread fault old words left log before after is drawn counted told = record {
   turns = (record { end = Err fault; stays = false; reach = plain All; granted = None; again = None } ∷ []) ∷ [];
   served =
-      let then : Running = record { edge = old.edge; log = log; faults = after } in (
+      let then : Running = record { edge = old.edge; log = log; faults = after; prunes = is_some old.pruning.margin } in (
         then,
         then,
         record {
@@ -165,7 +172,7 @@ goes_unread fault old words left log before after is drawn counted told = record
           told = after;
           decided = (old.edge, [], [], unread (six old.words) old.log_taken old.edge fault is, refl, (refl, refl));
           lines = (after, told, refl);
-          log = inl (record { log = Appends-nil log; edge = refl; faults = refl });
+          log = inl (record { log = Appends-nil log; edge = refl; faults = refl; prunes = refl });
         },
         inl refl,
         refl,
@@ -177,6 +184,7 @@ goes_unread fault old words left log before after is drawn counted told = record
   repeats = record { seconds = refl; each = (tt, tt); kept = λ _ is. is };
   reaches = (tt, tt);
   has_inner = refl;
+  margin = refl;
   log_taken = refl;
   fault = refl;
 }
@@ -188,7 +196,7 @@ pub goes_parted : (old : Server) (words : ChaCha) (left : ℕ) (log : Option (Li
 goes_parted old words left log faults drawn counted = record {
   turns = (record { end = Ok Nothing; stays = false; reach = plain All; granted = None; again = None } ∷ []) ∷ [];
   served =
-      let then : Running = record { edge = old.edge; log = log; faults = faults } in (
+      let then : Running = record { edge = old.edge; log = log; faults = faults; prunes = is_some old.pruning.margin } in (
         then,
         then,
         record {
@@ -197,7 +205,7 @@ goes_parted old words left log faults drawn counted = record {
           told = faults;
           decided = (old.edge, [], [], parted (six old.words) old.log_taken old.edge, refl, (refl, refl));
           lines = (faults, refl, refl);
-          log = inl (record { log = Appends-nil log; edge = refl; faults = refl });
+          log = inl (record { log = Appends-nil log; edge = refl; faults = refl; prunes = refl });
         },
         inl refl,
         refl,
@@ -209,6 +217,7 @@ goes_parted old words left log faults drawn counted = record {
   repeats = record { seconds = refl; each = (tt, tt); kept = λ _ is. is };
   reaches = (tt, tt);
   has_inner = refl;
+  margin = refl;
   log_taken = refl;
   fault = refl;
 }
@@ -218,18 +227,18 @@ pub goes_unsent : (server : Server) (log : Option (List ℕ)) (before after : Wr
 goes_unsent server log before after told = record {
   turns = [] ∷ [];
   served =
-      let then : Running = record { edge = server.edge; log = log; faults = before } in (
+      let then : Running = record { edge = server.edge; log = log; faults = before; prunes = is_some server.pruning.margin } in (
         then,
-        record { edge = server.edge; log = log; faults = after },
+        record { edge = server.edge; log = log; faults = after; prunes = is_some server.pruning.margin },
         record {
           edge = server.edge;
           records = [];
           told = before;
           decided = (refl, refl);
           lines = refl;
-          log = inl (record { log = Appends-nil log; edge = refl; faults = refl });
+          log = inl (record { log = Appends-nil log; edge = refl; faults = refl; prunes = refl });
         },
-        inr (refl, refl, told),
+        inr (inl (record { line = told; others = refl })),
         refl,
       );
   words = refl;
@@ -239,9 +248,78 @@ goes_unsent server log before after told = record {
   repeats = none_repeated server.repeats;
   reaches = tt;
   has_inner = refl;
+  margin = refl;
   log_taken = refl;
   fault = refl;
 }
+
+-- a slice of the region was pruned
+pub goes_sliced : (old : Server) (pass : Pruning) (moment millis : ℕ) (new : Server) (log : Option (List ℕ)) (faults : Writer) → is_some old.pruning.margin ≡ true → pass.margin ≡ old.pruning.margin
+    → Slices old pass moment millis new → Goes (record { server = old; log = log; faults = faults }) (record { server = new; log = log; faults = faults })
+goes_sliced old pass moment millis new log faults on same h =
+    let margin : new.pruning.margin ≡ old.pruning.margin = ap (λ (s : Server). s.pruning.margin) h.others ∙ kept_margin pass h.slice.at millis ∙ same in
+    let then : Running = record { edge = old.edge; log = log; faults = faults; prunes = is_some old.pruning.margin } in
+    record {
+      turns = [] ∷ [];
+      served = (
+        then,
+        record { edge = new.edge; log = log; faults = faults; prunes = is_some new.pruning.margin },
+        record {
+          edge = old.edge;
+          records = [];
+          told = faults;
+          decided = (refl, refl);
+          lines = refl;
+          log = inl (record { log = Appends-nil log; edge = refl; faults = refl; prunes = refl });
+        },
+        inr (inr (record {
+          prunes = on;
+          moment = moment;
+          after = pass.after;
+          slice = h.slice;
+          region = h.region;
+          others = λ i. record { edge = ap (λ (s : Server). s.edge) h.others i; log = log; faults = faults; prunes = is_some (margin i) };
+        })),
+        refl,
+      );
+      words = ap (λ (s : Server). s.words) h.others;
+      counted = omega (arith, ap (λ (s : Server). s.left) h.others);
+      closes = λ _. refl;
+      keeps = ap (λ (s : Server). s.keeps) h.others;
+      repeats = subst (AreRepeated old.repeats []) (sym (ap (λ (s : Server). s.repeats) h.others)) (none_repeated old.repeats);
+      reaches = tt;
+      has_inner = ap (λ (s : Server). s.has_inner) h.others;
+      margin = margin;
+      log_taken = ap (λ (s : Server). s.log_taken) h.others;
+      fault = ap (λ (s : Server). s.fault) h.others;
+    }
+  where
+    kept_margin : (pass : Pruning) (at : Option Dot) (millis : ℕ) → (gone_on pass at millis).margin ≡ pass.margin
+    kept_margin pass None millis = refl
+    kept_margin pass (Some dot) millis = refl
+
+-- what a server prunes behind a turn
+pub goes_pruned : (old : Server) (millis : ℕ) (new : Server) → IsPruned old millis new → (log : Option (List ℕ)) (faults : Writer)
+    → Goes (record { server = old; log = log; faults = faults }) (record { server = new; log = log; faults = faults })
+goes_pruned old millis new h log faults = by old.pruning.margin refl h
+  where
+    unchanged : new ≡ old → Goes (record { server = old; log = log; faults = faults }) (record { server = new; log = log; faults = faults })
+    unchanged same =
+        subst (λ s. Goes (record { server = old; log = log; faults = faults }) (record { server = s; log = log; faults = faults })) (sym same) (goes_nowhere _)
+
+    begun_margin : (margin : ℕ) (due : Bool) → (cond due (record old.pruning { moment = Some (latest old.pruning margin millis old.now); after = None }) old.pruning).margin ≡ old.pruning.margin
+    begun_margin margin true = refl
+    begun_margin margin false = refl
+
+    at : (margin : ℕ) → is_some old.pruning.margin ≡ true → (moment : Option ℕ) → SlicesBy old (begun old.pruning margin millis old.now) moment millis new
+        → Goes (record { server = old; log = log; faults = faults }) (record { server = new; log = log; faults = faults })
+    at margin on None same = unchanged same
+    at margin on (Some moment) h = goes_sliced old (begun old.pruning margin millis old.now) moment millis new log faults on (begun_margin margin (is_due old.pruning millis)) h
+
+    by : (margin : Option ℕ) → old.pruning.margin ≡ margin → IsPrunedBy margin old millis new
+        → Goes (record { server = old; log = log; faults = faults }) (record { server = new; log = log; faults = faults })
+    by None is same = unchanged same
+    by (Some margin) is h = at margin (ap (λ o. is_some o) is) (begun old.pruning margin millis old.now).moment h
 
 -- ---- the decisions of a turn
 
@@ -257,6 +335,7 @@ record Went (old : Server) (logged : List ℕ) (new : Server) : Type 0 where
   repeats : AreRepeated old.repeats ends new.repeats
   reaches : ReachEach old.has_inner ends
   has_inner : new.has_inner ≡ old.has_inner
+  margin : new.pruning.margin ≡ old.pruning.margin
   log_taken : new.log_taken ≡ old.log_taken
   lines : old.fault ≡ None → (before after : Writer) → ReportsOf new.fault before after → AreReported ends before after
   stuck : (old.fault ≡ None → ⊥) → (ends ≡ []) × (new ≡ old)
@@ -272,6 +351,7 @@ went_nowhere old logged new same none = record {
   repeats = subst (AreRepeated old.repeats []) (sym (ap (λ (s : Server). s.repeats) same)) (none_repeated old.repeats);
   reaches = tt;
   has_inner = ap (λ s. s.has_inner) same;
+  margin = ap (λ s. s.pruning.margin) same;
   log_taken = ap (λ s. s.log_taken) same;
   lines = λ told before after h. subst (λ o. ReportsOf o before after) (ap (λ s. s.fault) same ∙ told) h;
   stuck = λ _. (refl, same);
@@ -305,6 +385,7 @@ went_both old mid new logged more h k =
       repeats = repeated_both old.repeats mid.repeats new.repeats h.ends k.ends h.repeats k.repeats;
       reaches = reach_both old.has_inner h.ends k.ends h.reaches (subst (λ b. ReachEach b k.ends) h.has_inner k.reaches);
       has_inner = k.has_inner ∙ h.has_inner;
+      margin = k.margin ∙ h.margin;
       log_taken = k.log_taken ∙ h.log_taken;
       lines = lines_both old mid new logged more h k;
       stuck = λ s.
@@ -339,6 +420,7 @@ went_end old bytes over outcome replied logged new h = record {
   repeats = subst (AreRepeated old.repeats _) (sym (ap (λ (s : Server). s.repeats) h.moved)) (one_granted h.end (goes_on outcome) (reach_by old.edge.terms old.has_inner old.is_inner) h.granted old.repeats);
   reaches = (may_reach old.has_inner old.is_inner, tt);
   has_inner = ap (λ s. s.has_inner) h.moved;
+  margin = ap (λ s. s.pruning.margin) h.moved;
   log_taken = ap (λ s. s.log_taken) h.moved;
   lines = λ told before after t. one_told h.end (goes_on outcome) (reach_by old.edge.terms old.has_inner old.is_inner) h.granted None before after (subst (λ o. ReportsOf o before after) (ap (λ s. s.fault) h.moved) t);
   stuck = λ s. absurd (s h.told);
@@ -371,6 +453,7 @@ went_again old bytes over outcome replied logged new h =
       });
       reaches = (may_reach old.has_inner old.is_inner, tt);
       has_inner = ap (λ s. s.has_inner) h.moved;
+      margin = ap (λ s. s.pruning.margin) h.moved;
       log_taken = ap (λ s. s.log_taken) h.moved;
       lines = λ told before after t. (before, refl, subst (λ o. ReportsOf o before after) (ap (λ s. s.fault) h.moved) t);
       stuck = λ s. absurd (s h.told);
@@ -418,14 +501,16 @@ module _ (places : List ℕ) (old new : State Server) (log : LogChange) (before 
   Gone = Goes (record { server = old.service; log = log.before; faults = before }) (record { server = end; log = log.after; faults = after })
 
   abbrev then : Running
-  then = record { edge = new.service.edge; log = log.after; faults = after }
+  then = record { edge = new.service.edge; log = log.after; faults = after; prunes = is_some end.pruning.margin }
+
+  abbrev start : Running
+  start = record { edge = old.service.edge; log = log.before; faults = before; prunes = is_some old.service.pruning.margin }
 
   -- a turn by what it decided, and what became of its records
   gone : (mid : Server) (logged : List ℕ) → Went old.service logged mid → old.service.fault ≡ None → ReportsOf mid.fault before told
-      → new.service.words ≡ mid.words → new.service.left ≡ mid.left → new.service.keeps ≡ mid.keeps → new.service.repeats ≡ mid.repeats → new.service.has_inner ≡ mid.has_inner → new.service.log_taken ≡ mid.log_taken
-      → IsKept (record { edge = old.service.edge; log = log.before; faults = before }) mid.edge logged told then
-      ⊎ IsLost (record { edge = old.service.edge; log = log.before; faults = before }) mid.edge logged told then → Gone
-  gone mid logged went untold lines words left keeps repeats has_inner log_taken became =
+      → new.service.words ≡ mid.words → new.service.left ≡ mid.left → new.service.keeps ≡ mid.keeps → new.service.repeats ≡ mid.repeats → new.service.has_inner ≡ mid.has_inner → new.service.pruning.margin ≡ mid.pruning.margin → new.service.log_taken ≡ mid.log_taken
+      → (then.prunes ≡ start.prunes → IsKept start mid.edge logged told then ⊎ IsLost start mid.edge logged told then) → Gone
+  gone mid logged went untold lines words left keeps repeats has_inner margin log_taken became =
       let all : went.ends ++ [] ≡ went.ends = append-nil went.ends in
       let many : connections_in (went.ends ++ []) ≡ connections_in went.ends = ap connections_in all in
       record {
@@ -439,7 +524,7 @@ module _ (places : List ℕ) (old new : State Server) (log : LogChange) (before 
             told = told;
             decided = went.decided;
             lines = went.lines untold before told lines;
-            log = became;
+            log = became (ap (λ o. is_some o) (margin ∙ went.margin));
           },
           inl refl,
           refl,
@@ -451,6 +536,7 @@ module _ (places : List ℕ) (old new : State Server) (log : LogChange) (before 
         repeats = subst (λ l. AreRepeated old.service.repeats l new.service.repeats) (sym all) (subst (AreRepeated old.service.repeats went.ends) (sym repeats) went.repeats);
         reaches = subst (ReachEach old.service.has_inner) (sym all) went.reaches;
         has_inner = has_inner ∙ went.has_inner;
+        margin = margin ∙ went.margin;
         log_taken = log_taken ∙ went.log_taken;
         fault = sym untold;
       }
@@ -461,8 +547,8 @@ module _ (places : List ℕ) (old new : State Server) (log : LogChange) (before 
   goes_kept mid logged decided kept untold lines same =
       gone mid.service logged (went_at places old.service old.links mid.service mid.links logged decided) untold
       (subst (λ (x : Server). ReportsOf x.fault before told) kept.service lines)
-      (ap (λ (x : Server). x.words) kept.service) (ap (λ (x : Server). x.left) kept.service) (ap (λ (x : Server). x.keeps) kept.service) (ap (λ (x : Server). x.repeats) kept.service) (ap (λ (x : Server). x.has_inner) kept.service) (ap (λ (x : Server). x.log_taken) kept.service)
-      (inl (record { log = kept.appended; edge = ap (λ (x : Server). x.edge) kept.service; faults = same }))
+      (ap (λ (x : Server). x.words) kept.service) (ap (λ (x : Server). x.left) kept.service) (ap (λ (x : Server). x.keeps) kept.service) (ap (λ (x : Server). x.repeats) kept.service) (ap (λ (x : Server). x.has_inner) kept.service) (ap (λ (x : Server). x.pruning.margin) kept.service) (ap (λ (x : Server). x.log_taken) kept.service)
+      (λ prunes. inl (record { log = kept.appended; edge = ap (λ (x : Server). x.edge) kept.service; faults = same; prunes = prunes }))
 
   -- the log failed
   pub goes_lost : (mid : State Server) (logged : List ℕ) → AreDecidedAt Decides places old.service old.links mid.service mid.links logged → turn.IsLost Seals places mid new log logged
@@ -470,8 +556,8 @@ module _ (places : List ℕ) (old new : State Server) (log : LogChange) (before 
   goes_lost mid logged decided lost untold lines line =
       gone mid.service logged (went_at places old.service old.links mid.service mid.links logged decided) untold
       (subst (λ o. ReportsOf o before told) (ap (λ (x : Server). x.fault) lost.service) lines)
-      (ap (λ (x : Server). x.words) lost.service) (ap (λ (x : Server). x.left) lost.service) (ap (λ (x : Server). x.keeps) lost.service) (ap (λ (x : Server). x.repeats) lost.service) (ap (λ (x : Server). x.has_inner) lost.service) (ap (λ (x : Server). x.log_taken) lost.service)
-      (inr (record { some = lost.some; log = lost.appended; edge = ap (λ (x : Server). x.edge) lost.service; faults = line }))
+      (ap (λ (x : Server). x.words) lost.service) (ap (λ (x : Server). x.left) lost.service) (ap (λ (x : Server). x.keeps) lost.service) (ap (λ (x : Server). x.repeats) lost.service) (ap (λ (x : Server). x.has_inner) lost.service) (ap (λ (x : Server). x.pruning.margin) lost.service) (ap (λ (x : Server). x.log_taken) lost.service)
+      (λ prunes. inr (record { some = lost.some; log = lost.appended; edge = ap (λ (x : Server). x.edge) lost.service; faults = line; prunes = prunes }))
 
 -- ---- what turns leave of a region
 
@@ -489,21 +575,50 @@ turn_grows words log_taken old ends new h =
     of (inl kept) = grows_same h.edge.region new.edge.region (ap (λ (e : EdgeFields). e.region) kept.edge)
     of (inr lost) = grows_same h.edge.region new.edge.region (ap (λ (e : EdgeFields). e.region) lost.edge)
 
--- a reply that is lost changes no edge
-pub edge_stays : (old new : Running) → MayLackReply old new → new.edge ≡ old.edge
-edge_stays old new (inl same) = ap (λ (r : Running). r.edge) same
-edge_stays old new (inr h) = h.0
-
-pub log_stays : (old new : Running) → MayLackReply old new → new.log ≡ old.log
+-- a pause leaves the log, the terms, and whether the edge is sealed and its region pruned
+pub log_stays : (old new : Running) → IsPause old new → new.log ≡ old.log
 log_stays old new (inl same) = ap (λ (r : Running). r.log) same
-log_stays old new (inr h) = h.1
+log_stays old new (inr (inl lacks)) = ap (λ (r : Running). r.log) lacks.others
+log_stays old new (inr (inr loses)) = ap (λ (r : Running). r.log) loses.others
+
+pub terms_stay : (old new : Running) → IsPause old new → new.edge.terms ≡ old.edge.terms
+terms_stay old new (inl same) = ap (λ (r : Running). r.edge.terms) same
+terms_stay old new (inr (inl lacks)) = ap (λ (r : Running). r.edge.terms) lacks.others
+terms_stay old new (inr (inr loses)) = ap (λ (r : Running). r.edge.terms) loses.others
+
+pub sealed_stays : (old new : Running) → IsPause old new → new.edge.sealed ≡ old.edge.sealed
+sealed_stays old new (inl same) = ap (λ (r : Running). r.edge.sealed) same
+sealed_stays old new (inr (inl lacks)) = ap (λ (r : Running). r.edge.sealed) lacks.others
+sealed_stays old new (inr (inr loses)) = ap (λ (r : Running). r.edge.sealed) loses.others
+
+pub prunes_stay : (old new : Running) → IsPause old new → new.prunes ≡ old.prunes
+prunes_stay old new (inl same) = ap (λ (r : Running). r.prunes) same
+prunes_stay old new (inr (inl lacks)) = ap (λ (r : Running). r.prunes) lacks.others
+prunes_stay old new (inr (inr loses)) = ap (λ (r : Running). r.prunes) loses.others
+
+pub turn_prunes : (words : ChaCha) (log_taken : Bool) (old : Running) (ends : Endings) (new : Running) → IsTurn words log_taken old ends new → new.prunes ≡ old.prunes
+turn_prunes words log_taken old ends new h = of h.log
+  where
+    of : IsKept old h.edge h.records h.told new ⊎ IsLost old h.edge h.records h.told new → new.prunes ≡ old.prunes
+    of (inl kept) = kept.prunes
+    of (inr lost) = lost.prunes
+
+-- what a pause leaves of a region
+pub pause_grows : (old new : Running) → IsPause old new → Grows old.edge.region new.edge.region
+pause_grows old new (inl same) = grows_same old.edge.region new.edge.region (ap (λ (r : Running). r.edge.region) same)
+pause_grows old new (inr (inl lacks)) = grows_same old.edge.region new.edge.region (ap (λ (r : Running). r.edge.region) lacks.others)
+pause_grows old new (inr (inr loses)) = record {
+  number = loses.region.number;
+  settings = loses.region.settings;
+  facts = slice_above old.edge.region.facts loses.moment loses.after slice_size loses.slice new.edge.region.facts loses.region.facts;
+}
 
 pub turns_grow : (words : ChaCha) (log_taken : Bool) (old : Running) (turns : List Endings) (new : Running) → AreTurns words log_taken old turns new
     → Grows old.edge.region new.edge.region
 turns_grow words log_taken old [] new same = grows_same old.edge.region new.edge.region (ap (λ (r : Running). r.edge.region) same)
 turns_grow words log_taken old (ends ∷ turns) new h =
     grows_twice old.edge.region h.0.edge.region new.edge.region (turn_grows words log_taken old ends h.0 h.2)
-    (subst (λ (e : EdgeFields). Grows e.region new.edge.region) (edge_stays h.0 h.1 h.3) (turns_grow (past_each words ends) log_taken h.1 turns new h.4))
+    (grows_twice h.0.edge.region h.1.edge.region new.edge.region (pause_grows h.0 h.1 h.3) (turns_grow (past_each words ends) log_taken h.1 turns new h.4))
 
 pub server_grows : (old new : Site) → Goes old new → Grows old.server.edge.region new.server.edge.region
 server_grows old new h = turns_grow old.server.words old.server.log_taken (running old) h.turns (running new) h.served

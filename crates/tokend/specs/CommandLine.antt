@@ -69,9 +69,11 @@ use Rattle.tokend.specs.Rules.{
   check_rules,
   greatest_connections,
   greatest_keep,
+  greatest_margin,
   greatest_port,
   greatest_repeat,
   greatest_requests,
+  least_margin,
   names_rule,
   service_rules,
   setting_rules,
@@ -223,7 +225,7 @@ pub record HasFiles (rows : List Row) (f : FileOptions) : Type 0 where
 abbrev pub IsNoFiles : List Row → Type 0
 IsNoFiles rows = (files : FileOptions) → ¬ (HasFiles rows files)
 
--- the rows have these limits of a service's connections, each in its range, or without a limit
+-- the rows have these limits of a service, each in its range, or without a limit
 pub record HasLimits (rows : List Row) (l : LimitOptions) : Type 0 where
   pub requests : IfSome l.requests (HasNumber rows (codes "requests") 0 greatest_requests)
   pub endless : IfNone l.requests ((n : ℕ)
@@ -233,6 +235,10 @@ pub record HasLimits (rows : List Row) (l : LimitOptions) : Type 0 where
   pub repeat : IfSome l.repeat (HasNumber rows (codes "repeat") 0 greatest_repeat)
   pub unrepeated : IfNone l.repeat ((n : ℕ)
       → ¬ (HasNumber rows (codes "repeat") 0 greatest_repeat n))
+  pub prune_margin : IfSome l.prune_margin
+      (HasNumber rows (codes "prune-margin") least_margin greatest_margin)
+  pub unpruned : IfNone l.prune_margin ((n : ℕ)
+      → ¬ (HasNumber rows (codes "prune-margin") least_margin greatest_margin n))
 
 -- the rows have this service: the settings, each number in its range, the sockets, the limits, the
 -- files, what is taken of a push, the choices, and what the service says of itself

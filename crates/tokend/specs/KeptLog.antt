@@ -9,7 +9,8 @@
 --   LogLoads      the log is loaded behind the old log, and nothing in it is refused
 --   ServiceLogs   a service with a log has written such a log
 use Rattle.std.specs.Prelude.{◌≡◌, ◌≢◌, ◌⊎◌, ⊤, ℕ, ◌≤◌, true, false, max, List, [], ◌∷◌, ◌++◌}
-use Rattle.std.specs.Prelude.{Option, None, Some, IfSome, IsSome, Result, Ok, Err, String}
+use Rattle.std.specs.Prelude.{Bool, Option, None, Some, IfSome, IsSome, is_some, Result, Ok, Err}
+use Rattle.std.specs.Prelude.{String}
 use Rattle.std.specs.Prelude.{string_bytes}
 use Rattle.std.specs.FinMap as map
 use Rattle.rand_chacha.specs.ChaCha.{ChaCha}
@@ -64,7 +65,7 @@ AreAmong (b ∷ more) all = IsIn b all × AreAmong more all
 
 -- A region without facts took in the bundles of an old log, was pruned if that was requested, and
 -- has served connections over an edge whose log gets the bundles taken in. The edge isn't sealed,
--- and the log, which was empty, has these bytes.
+-- and the log, which was empty, has these bytes. The region may have been pruned between turns.
 pub record HasLogged (olds : List BundleFields) (region : RegionFields) (log : List ℕ) : Type 0
   where
     pub first : RegionFields
@@ -81,18 +82,36 @@ pub record HasLogged (olds : List BundleFields) (region : RegionFields) (log : L
     pub faults : Writer
     pub turns : List Endings
     pub told : Writer
+    pub prunes : Bool
     pub served : AreTurns words true
-        (record { edge = edge_of terms start; log = Some []; faults = faults }) turns
-        (record { edge = edge_of terms region; log = Some log; faults = told })
+        (record {
+          edge = edge_of terms start;
+          log = Some [];
+          faults = faults;
+          prunes = prunes;
+        })
+        turns
+        (record {
+          edge = edge_of terms region;
+          log = Some log;
+          faults = told;
+          prunes = prunes;
+        })
+
+-- a region that prunes itself has skipped a dot, and another knows the dot
+abbrev pub IsPrunedBefore : Bool → RegionFields → Dot → Type 0
+IsPrunedBefore prunes loaded d = (prunes ≡ true) × (map.get loaded.facts.slots d ≢ None)
 
 -- What a region held, another holds or has skipped. What it skipped since its start, the other has
--- skipped. Its horizon is that of its start, or isn't later than the other's.
-pub record KeepsSince (start region loaded : RegionFields) : Type 0 where
+-- skipped; if the region prunes itself, the other knows the dot, and may hold the fact. Its horizon
+-- is that of its start, or isn't later than the other's, unless the region prunes itself.
+pub record KeepsSince (prunes : Bool) (start region loaded : RegionFields) : Type 0 where
   pub held : IsHeldBy region loaded
   pub marks : (d : Dot) → map.get region.facts.slots d ≡ Some Skipped
       → (map.get start.facts.slots d ≡ Some Skipped)
-      ⊎ (map.get loaded.facts.slots d ≡ Some Skipped)
-  pub horizon : region.facts.horizon ≤ max start.facts.horizon loaded.facts.horizon
+      ⊎ (map.get loaded.facts.slots d ≡ Some Skipped) ⊎ IsPrunedBefore prunes loaded d
+  pub horizon : prunes ≡ false
+      → region.facts.horizon ≤ max start.facts.horizon loaded.facts.horizon
 
 -- a region that has loaded the bundles of an old log and of the log that was written behind it, in
 -- any order, whatever else was among them and if the end is torn, knows what the writer knew
@@ -104,7 +123,7 @@ LogKeepsAll =
     → (bytes : List ℕ) (all : List BundleFields) → AreLogged bytes all
     → AreAmong olds all → AreAmong news all
     → (new loaded : RegionFields) (dropped : ℕ) → Loads new bytes (Ok dropped) loaded
-    → KeepsSince h.start region loaded
+    → KeepsSince h.prunes h.start region loaded
 
 -- the connection didn't run out of memory
 abbrev pub IsCalm : Result Served Fault → Type 0
@@ -172,6 +191,7 @@ pub record HasWritten {L : Type 0} (kept : List ℕ → Option (List ℕ))
   pub logged : HasLogged olds end bytes
   pub begun : logged.start ≡ start
   pub told : (logged.faults ≡ faults.before) × (logged.told ≡ faults.after)
+  pub prunes : logged.prunes ≡ is_some service.limits.prune_margin
 
 -- A service that has run with a log, which gets what is taken in, has written such a log, if its
 -- edge isn't sealed at the end and the bytes of logs are known. `kept`, `holds` and `opens` are

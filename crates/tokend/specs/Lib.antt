@@ -18,6 +18,7 @@
 --   Repeats       is_repeat, a refresh that is repeated
 --   Decisions     Decides, what a server decides of the bytes that have come
 --   Repeating     IsAsked, what a request asks if refreshes may be repeated
+--   Pruning       IsPruned, what a server prunes behind a turn
 --   Turns         AreTurns, what turns do to an edge, its log and the lines about faults
 --   Connection    IsConnection, what a connection of `loopback` does to an edge and its log
 --   ServiceRun    IsServiceRun, what a service that ended well has done
@@ -47,6 +48,7 @@ pub mod Serving
 pub mod Repeats
 pub mod Decisions
 pub mod Repeating
+pub mod Pruning
 pub mod Turns
 pub mod Connection
 pub mod ServiceRun

@@ -102,4 +102,5 @@ terms_of service =
       barred = above service.region service.pushes.range;
       issuer = service.notices.issuer;
       health = service.notices.health;
+      metrics = None;
     }

@@ -45,6 +45,15 @@ greatest_keep = 3600
 abbrev pub greatest_repeat : ℕ
 greatest_repeat = 60
 
+-- the least number of seconds for which a family must be over before the server skips its facts: a
+-- day
+abbrev pub least_margin : ℕ
+least_margin = 86400
+
+-- the greatest such number
+abbrev pub greatest_margin : ℕ
+greatest_margin = 999999999
+
 -- the option `--id N`, with a number from 1 to the greatest and a default
 abbrev pub number_rule : Text → Text → ℕ → Rule
 number_rule id default greatest =
@@ -141,14 +150,16 @@ choice_rules =
     ∷ file_rule (codes "challenge") false
     ∷ []
 
--- the limits of a service's connections: how many are open at once, how many are served, how long
--- they are kept, and for how long a refresh may be repeated
+-- the limits of a service: how many connections are open at once, how many are served, how long
+-- they are kept, for how long a refresh may be repeated, and for how long a family must be over
+-- before its facts are skipped
 abbrev pub limit_rules : List Rule
 limit_rules =
     number_rule (codes "connections") (codes "1024") greatest_connections
     ∷ range_rule (codes "requests") 0 greatest_requests false
     ∷ range_rule (codes "keep") 0 greatest_keep false
     ∷ range_rule (codes "repeat") 0 greatest_repeat false
+    ∷ range_rule (codes "prune-margin") least_margin greatest_margin false
     ∷ []
 
 -- the options of what a service says of itself: the issuer, and whether health is given

@@ -39,7 +39,12 @@ pub record HasOpened {L : Type 0} (holds : L → Option (List ℕ)) (opens : Lis
   pub served : ServesLogged holds opens service.files.log words service.limits.requests
       (keeps_in service.limits.keep) (unwrap_or service.limits.repeat 0)
       (is_some service.at.inner) service.files.log_taken
-      (record { start = with_region start region; end = end; faults = faults })
+      (record {
+        start = with_region start region;
+        end = end;
+        faults = faults;
+        prunes = is_some service.limits.prune_margin;
+      })
 
 -- the old log was loaded, and the service opened with the region that came of it
 pub record HasRun {L : Type 0} (kept : List ℕ → Option (List ℕ)) (holds : L → Option (List ℕ))

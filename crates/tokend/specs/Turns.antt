@@ -3,6 +3,7 @@
 --   AreDecisions   requests are decided, one after the other
 --   AreReported    the lines about their faults
 --   IsTurn         the requests of a turn are decided, and their records are written at once
+--   IsPause        what may happen between two turns
 --   AreTurns       turns, one after the other
 --   connections_in   how many connections ended
 --   ReachEach      each request reached no more than its socket lets it
@@ -30,6 +31,7 @@ use Rattle.std.specs.Prelude.{
   Option,
   Some,
   None,
+  is_some,
   String,
   string_bytes,
   Result,
@@ -41,6 +43,8 @@ use Rattle.std.specs.Prelude.{
 use Rattle.std.specs.Option.{unwrap_or}
 use Rattle.std.specs.Io.KnownBytes.{Appends}
 use Rattle.rand_chacha.specs.ChaCha.{ChaCha}
+use Rattle.tk_handle.specs.declared.dot.Dot.{Dot}
+use Rattle.tk_ledger.specs.declared.slices.Slice.{Slice}
 use Rattle.tk_put.specs.Put.{AppendsFront}
 use Rattle.tk_edge.specs.EdgeFields.{EdgeFields}
 use Rattle.tk_edge.specs.Told.{Change}
@@ -51,6 +55,7 @@ use Rattle.tk_edge.specs.declared.tell.Fault.{Fault}
 use Rattle.tk_edge.specs.declared.tell.Fault.TheVariants.{Log, Write}
 use Rattle.tokend.specs.Decisions.{Ending, IsDecision, ended_if}
 use Rattle.tokend.specs.Draw.{six, past_six}
+use Rattle.tokend.specs.Pruning.{SlicesRegion}
 use Rattle.tokend.specs.Repeats.{IsIn, MayRepeat, RepeatsFields, with_granted}
 use Rattle.tokend.specs.Serving.{connection_fault}
 use Rattle.tokend.specs.Starting.{IsEmptyLog}
@@ -139,11 +144,13 @@ AreReported [] old new = new ≡ old
 AreReported (end ∷ ends) old new =
     (mid : Writer) × Reports end.end old mid × AreReported ends mid new
 
--- an edge, with the bytes of its log and the writer of the lines about faults
+-- an edge, with the bytes of its log and the writer of the lines about faults; and whether its
+-- region is pruned between turns
 pub record Running : Type 0 where
   pub edge : EdgeFields
   pub log : Option (List ℕ)
   pub faults : Writer
+  pub prunes : Bool
 
 -- the records are written behind what the log had; nothing is written of the log
 pub record IsKept (old : Running) (mid : EdgeFields) (records : List ℕ) (told : Writer)
@@ -151,6 +158,7 @@ pub record IsKept (old : Running) (mid : EdgeFields) (records : List ℕ) (told 
   pub log : Appends old.log new.log records
   pub edge : new.edge ≡ mid
   pub faults : new.faults ≡ told
+  pub prunes : new.prunes ≡ old.prunes
 
 -- the log failed, so that it has a beginning of the records; the edge is sealed, and the fault
 -- reported
@@ -160,6 +168,7 @@ pub record IsLost (old : Running) (mid : EdgeFields) (records : List ℕ) (told 
   pub log : AppendsFront old.log new.log records
   pub edge : new.edge ≡ record mid { sealed = true }
   pub faults : Writes told new.faults (connection_fault Log)
+  pub prunes : new.prunes ≡ old.prunes
 
 -- The requests of a turn are decided, one after the other. The lines of their faults are written,
 -- and their records are written at once, or the log fails.
@@ -172,18 +181,31 @@ pub record IsTurn (words : ChaCha) (log_taken : Bool) (old : Running) (ends : En
   pub lines : AreReported ends old.faults told
   pub log : IsKept old edge records told new ⊎ IsLost old edge records told new
 
--- nothing happened, or the line of a reply was written that its client didn't take
-abbrev pub MayLackReply : Running → Running → Type 0
-MayLackReply old new = (new ≡ old)
-    ⊎ ((new.edge ≡ old.edge) × (new.log ≡ old.log)
-    × Writes old.faults new.faults (connection_fault Write))
+-- the line of a reply was written that its client didn't take, and nothing else changed
+pub record LacksReply (old new : Running) : Type 0 where
+  pub line : Writes old.faults new.faults (connection_fault Write)
+  pub others : new ≡ record old { faults = new.faults }
 
--- turns, one after the other; behind each a reply may be lost
+-- A slice of a prune was pruned of the region, up to some moment and above some cursor, and nothing
+-- else changed. The region is pruned between turns.
+pub record LosesSlice (old new : Running) : Type 0 where
+  pub prunes : old.prunes ≡ true
+  pub moment : ℕ
+  pub after : Option Dot
+  pub slice : Slice
+  pub region : SlicesRegion old.edge.region moment after slice new.edge.region
+  pub others : new ≡ record old { edge = record old.edge { region = new.edge.region } }
+
+-- between two turns: nothing happened, or a reply was lost, or a slice of the region was pruned
+abbrev pub IsPause : Running → Running → Type 0
+IsPause old new = (new ≡ old) ⊎ LacksReply old new ⊎ LosesSlice old new
+
+-- turns, one after the other, with a pause behind each
 abbrev pub AreTurns : ChaCha → Bool → Running → List Endings → Running → Type 0
 AreTurns words log_taken old [] new = new ≡ old
 AreTurns words log_taken old (ends ∷ turns) new =
     (mid : Running) × (next : Running) × IsTurn words log_taken old ends mid
-    × MayLackReply mid next × AreTurns (past_each words ends) log_taken next turns new
+    × IsPause mid next × AreTurns (past_each words ends) log_taken next turns new
 
 -- the requests of all turns
 abbrev pub all_ends : List Endings → Endings
@@ -206,18 +228,25 @@ ServesAll words requests keeps repeat has_inner log_taken old new =
     × ClosesEach keeps (all_ends turns) × AreRepeats repeat [] (all_ends turns)
     × ReachEach has_inner (all_ends turns) × AreTurns words log_taken old turns new
 
--- An edge and the writer of the lines about faults, before and after its service.
+-- An edge and the writer of the lines about faults, before and after its service, and whether its
+-- region is pruned between turns.
 pub record Course : Type 0 where
   pub start : EdgeFields
   pub end : EdgeFields
   pub faults : Writing
+  pub prunes : Bool
 
 -- as many connections as requested were served, with this log
 abbrev pub ServesWith : ChaCha → Option ℕ → Bool → ℕ → Bool → Bool → Course → Change → Type 0
 ServesWith words requests keeps repeat has_inner log_taken s log =
     ServesAll words requests keeps repeat has_inner log_taken
-    (record { edge = s.start; log = log.before; faults = s.faults.before })
-    (record { edge = s.end; log = log.after; faults = s.faults.after })
+    (record {
+      edge = s.start;
+      log = log.before;
+      faults = s.faults.before;
+      prunes = s.prunes;
+    })
+    (record { edge = s.end; log = log.after; faults = s.faults.after; prunes = s.prunes })
 
 -- As many connections as requested were served: with the log that was opened by this name, which
 -- was empty, or without a log, if there is no name. `holds` has the bytes of a log, if they are
@@ -240,7 +269,12 @@ pub record Site : Type 0 where
 
 -- what runs at a site
 abbrev pub running : Site → Running
-running site = record { edge = site.server.edge; log = site.log; faults = site.faults }
+running site = record {
+  edge = site.server.edge;
+  log = site.log;
+  faults = site.faults;
+  prunes = is_some site.server.pruning.margin;
+}
 
 -- A server takes turns: each request has the next random words, and each connection that ended is
 -- one less to be served.
@@ -254,5 +288,6 @@ pub record Goes (old new : Site) : Type 0 where
   pub repeats : AreRepeated old.server.repeats (all_ends turns) new.server.repeats
   pub reaches : ReachEach old.server.has_inner (all_ends turns)
   pub has_inner : new.server.has_inner ≡ old.server.has_inner
+  pub margin : new.server.pruning.margin ≡ old.server.pruning.margin
   pub log_taken : new.server.log_taken ≡ old.server.log_taken
   pub fault : new.server.fault ≡ old.server.fault

@@ -172,7 +172,7 @@ fn serve_command<'a>(alloc: Global) -> Result<Command<'a>, AllocError>
 
 // The options of a service alone.
 #[rattlefmt::skip]
-const SERVICE_CHOICES: [Choice<'static>; 23] = [
+const SERVICE_CHOICES: [Choice<'static>; 24] = [
     ("region", Takes::Range(1, Service::GREATEST_REGION, true),
         "The number of the region that is served, 1 to 65535, like no other's and never used again [required]"),
     ("port", Takes::Range(0, Address::GREATEST_PORT, false),
@@ -215,6 +215,8 @@ const SERVICE_CHOICES: [Choice<'static>; 23] = [
         "How many seconds a connection stays open between its requests, 0 to 3600, 0 for one request each [default: 0]"),
     ("repeat", Takes::Range(0, Service::GREATEST_REPEAT, false),
         "For how many seconds a refresh that is repeated gets its reply again, 0 to 60 [default: 0]"),
+    ("prune-margin", Takes::Range(Service::LEAST_MARGIN, Service::GREATEST_MARGIN, false),
+        "Skips the facts of families that have been over for this many seconds, between requests, 86400 to 999999999 [default: none]"),
     ("issuer", Takes::Url,
         "The URL of this server, for its metadata and the iss of its redirects [default: none]"),
     ("health", Takes::Nothing,

@@ -188,17 +188,19 @@ impl Connections {
         self.keep = seconds.saturating_mul(1_000);
     }
 
-    /// Waits until some connection has something to do, or a tick has passed.
+    /// Waits until some connection has something to do, or a tick has passed, or `pause`
+    /// milliseconds, if given.
     ///
     /// If that fails, it counts as a connection that wasn't accepted.
-    pub(crate) fn wait(&mut self, left: u64) {
+    pub(crate) fn wait(&mut self, left: u64, pause: Option<u64>) {
         let wait = if self.has_room(left) || self.goes_on || !self.again.is_empty() {
-            Some(Duration::from_millis(0))
+            Some(0)
         } else if self.open > 0 || self.doors.iter().any(Door::has_client) {
-            Some(Duration::from_millis(TICK_MILLIS))
+            Some(TICK_MILLIS)
         } else {
             None
         };
+        let wait = sooner(wait, pause).map(Duration::from_millis);
         if self.poll.poll(&mut self.events, wait).is_err() {
             self.lose_unread();
         }
@@ -329,6 +331,15 @@ impl Connections {
                 }
             }
         }
+    }
+}
+
+// Returns the shorter of two waits, of which each may be without an end.
+fn sooner(one: Option<u64>, other: Option<u64>) -> Option<u64> {
+    match (one, other) {
+        (Some(one), Some(other)) => Some(one.min(other)),
+        (Some(one), None) => Some(one),
+        (None, other) => other,
     }
 }
 

@@ -1,5 +1,5 @@
-//! The greatest numbers that the options of a service take, and the limits of its connections:
-//! `LimitOptions`.
+//! The greatest numbers that the options of a service take, and the limits of its connections and
+//! of what it keeps: `LimitOptions`.
 
 ghost use Rattle.clap.specs.Words.{found_of, rows_of};
 ghost use Rattle.tokend.specs.CommandLine.{HasLimits};
@@ -7,7 +7,8 @@ ghost use Rattle.tokend.specs.CommandLine.{HasLimits};
 use crate::options::{Service, number};
 use clap::ArgMatches;
 
-/// The limits of a service's connections, by `--requests`, `--keep` and `--repeat`.
+/// The limits of a service: those of its connections, by `--requests`, `--keep` and `--repeat`, and
+/// of what is kept, by `--prune-margin`.
 #[derive(Clone, Copy)]
 pub struct LimitOptions {
     /// How many connections to serve; `None` for no end.
@@ -18,6 +19,9 @@ pub struct LimitOptions {
     /// For how many seconds a refresh that is repeated gets its reply again. `None` or 0: a repeat
     /// is a reuse.
     pub repeat: Option<u64>,
+    /// For how many seconds a family must be over before the server skips its facts. `None`: it
+    /// skips none.
+    pub prune_margin: Option<u64>,
 }
 
 impl Service {
@@ -35,18 +39,32 @@ impl Service {
 
     /// The greatest number of seconds for which a refresh that is repeated gets its reply again.
     pub const GREATEST_REPEAT: u64 = 60;
+
+    /// The least number of seconds for which a family must be over before the server skips its
+    /// facts: a day.
+    pub const LEAST_MARGIN: u64 = 86_400;
+
+    /// The greatest such number.
+    pub const GREATEST_MARGIN: u64 = 999_999_999;
 }
 
-/// Reads the limits of a service's connections.
+/// Reads the limits of a service.
 pub(crate) fn read_limits(matches: &ArgMatches<'_>) -> LimitOptions
     ensures { HasLimits (rows_of (found_of matches.now)) result }
 {
     let requests = number(matches, "requests", 0, Service::GREATEST_REQUESTS);
     let keep = number(matches, "keep", 0, Service::GREATEST_KEEP);
     let repeat = number(matches, "repeat", 0, Service::GREATEST_REPEAT);
+    let prune_margin = number(
+        matches,
+        "prune-margin",
+        Service::LEAST_MARGIN,
+        Service::GREATEST_MARGIN,
+    );
     LimitOptions {
         requests,
         keep,
         repeat,
+        prune_margin,
     }
 }

@@ -14,7 +14,8 @@
 //! - `command_line`, what clap knows; `words`, `options`: the arguments, and their task.
 //! - `draw`, random words; `address`, where a service listens; `folder`, `log_file`, `load`: logs.
 //! - `start`, a service before its first connection; `bind`, `listen`, its sockets; `serve`, its
-//!   connections; `turns`, a turn at a time; `server`, what is decided of each; `connections`.
+//!   connections; `turns`, a turn at a time; `server`, what is decided of each; `connections`;
+//!   `pruning`, what goes between turns.
 //! - `script`, `loopback`; `sources`, `facts`, `check`: the files that are printed or checked.
 //! - `fault`, `telling`: what may go wrong, with its line and status; `program`, all in order.
 //! - `promises`: the promises about regions. The definitions are in `specs/`, listed in `Lib`.
@@ -48,6 +49,7 @@ mod notices;
 mod options;
 mod program;
 pub mod promises;
+mod pruning;
 mod pushes;
 mod ranges;
 mod records;

@@ -94,7 +94,7 @@ pub struct Service {
     pub at: Addresses,
     /// How many connections are open at once at most, those of the inner socket aside.
     pub connections: u64,
-    /// The limits of its connections.
+    /// The limits of its connections, and of what it keeps.
     pub limits: LimitOptions,
     /// Its files.
     pub files: FileOptions,

@@ -63,6 +63,7 @@ impl Service {
             barred: above(self.region, self.pushes.range),
             issuer,
             health: self.notices.health,
+            metrics: None,
         })
     }
 }

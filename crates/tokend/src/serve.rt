@@ -24,6 +24,7 @@ use crate::fault::Fault;
 use crate::folder::Folder;
 use crate::listen::{Opening, listen};
 use crate::options::Service;
+use crate::pruning::Pruning;
 use crate::records::Records;
 use crate::repeats::Repeats;
 use crate::server::Server;
@@ -184,6 +185,7 @@ where
             before = writer_of F.holds F.failed faults.old;
             after = writer_of F.holds F.failed faults.new;
           };
+          prunes = is_some service.now.limits.prune_margin;
         })) }
     ensures fault { IfErr result (IsStartFault service.now) }
     ensures left { IfErr result
@@ -231,6 +233,7 @@ where
             before = writer_of F.holds F.failed faults.old;
             after = writer_of F.holds F.failed faults.new;
           };
+          prunes = is_some service.now.limits.prune_margin;
         })
         (record { before = L.holds log.old.log; after = L.holds log.new.log })) }
     ensures fault { IfErr result IsListenFault }
@@ -239,12 +242,14 @@ where
         (O.contents output.new)) }
     ensures silent { OnErr result (faults.new ≡ faults.old) }
 {
+    let pruning = Pruning::start(rt, service.limits.prune_margin);
     match listen(rt, service, opening, output) {
         Ok(mut connections) => {
             let keep = service.limits.keep.unwrap_or(0);
             connections.keep(keep);
             start.keeps = keep > 0;
             start.repeats = Repeats::new(rt.alloc(), service.limits.repeat.unwrap_or(0));
+            start.pruning = pruning;
             start.has_inner = service.at.inner.is_some();
             start.log_taken = service.files.log_taken;
             start.left = service.limits.requests.unwrap_or(u64::MAX);

@@ -1,5 +1,6 @@
 //! What decides the requests of a service: `Server`.
 
+use crate::pruning::Pruning;
 use crate::repeats::Repeats;
 use rand_chacha::ChaCha20Rng;
 use std::alloc::Global;
@@ -31,6 +32,8 @@ pub(crate) struct Server {
     pub fault: Option<EdgeFault>,
     /// The refreshes that were granted a short time ago.
     pub repeats: Repeats,
+    /// How far its passes over the region are that prune.
+    pub pruning: Pruning,
 }
 
 ghost use Rattle.std.specs.Prelude.{◌≡◌, ◌+◌, ◌-◌, ◌<◌, ◌≤◌, ◌++◌, ℕ, List, Option, None, Ok};
@@ -168,6 +171,7 @@ impl Server {
             left: 0,
             fault: None,
             repeats: Repeats::new(alloc, 0),
+            pruning: Pruning::new(None, 0, 0),
         }
     }
 
@@ -296,8 +300,7 @@ impl Server {
         }
     }
 
-    /// Counts each of some connections that ended before its request was whole, if any is left to
-    /// be served.
+    /// Counts some connections that ended before their requests were whole, if any are left.
     pub(crate) fn miss_each<F: Sink>(&mut self, count: u64, fault: EdgeFault, faults: &mut F)
         requires { IsUnread fault }
         ensures goes { (log : Option (List ℕ)) → Goes

@@ -136,7 +136,8 @@ fn turn<R: AllocGlobal + Clock, L: Sink, F: Sink>(
         }) }
 {
     // If the clock fails, no client was waited for long enough.
-    connections.wait(server.left);
+    let pause = server.pruning.pause(millis(rt).unwrap_or(0));
+    connections.wait(server.left, pause);
     let now = millis(rt).unwrap_or(0);
     connections.list();
     connections.accept(now, server.left);
@@ -154,6 +155,7 @@ fn turn<R: AllocGlobal + Clock, L: Sink, F: Sink>(
     connections.send(now, is_stopped);
     connections.close_late(now);
     tell_losses(connections, server, log, faults);
+    server.prune(now);
 }
 
 // Writes the lines of lost connections, and counts them.
@@ -252,8 +254,8 @@ fn decide_at<L: Sink, F: Sink>(
     }
 }
 
-// Returns the time in milliseconds, since some moment that stays the same.
-fn millis<C: Clock>(clock: &C) -> io::Result<u64> {
+/// Returns the time in milliseconds, since some moment that stays the same.
+pub(crate) fn millis<C: Clock>(clock: &C) -> io::Result<u64> {
     let millis = clock.monotonic()?.as_millis();
     Ok(u64::try_from(millis).unwrap_or(u64::MAX))
 }

@@ -9,4 +9,6 @@ returns c = record {
   unkept = search rules;
   repeat = search rules;
   unrepeated = search rules;
+  prune_margin = search rules;
+  unpruned = search rules;
 }

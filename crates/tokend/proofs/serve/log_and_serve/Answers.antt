@@ -18,6 +18,7 @@ returns-in_default-clause-served g c =
         before = writer_of g.F.Sink.holds g.F.Sink.failed c.args.faults.now;
         after = writer_of g.F.Sink.holds g.F.Sink.failed c.announce_and_serve.new.faults;
       };
+      prunes = is_some c.args.service.now.limits.prune_margin;
     })
     c.announce_and_serve.result c.in_default.is c.announce_and_serve.ensures.served
 
