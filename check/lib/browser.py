@@ -31,6 +31,7 @@ class Browser:
         self.base = "/session/" + said["sessionId"]
 
     def ask(self, method, path, body=None):
+        """Returns the value of a reply of chromedriver, of which an error is a failed test."""
         link = http.client.HTTPConnection("127.0.0.1", self.port, timeout=60)
         with contextlib.closing(link):
             link.request(method, self.base + path, None if body is None else json.dumps(body))

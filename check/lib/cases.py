@@ -37,6 +37,7 @@ class Case(unittest.TestCase):
         return it, "http://127.0.0.1:%d" % it.getsockname()[1]
 
     def start(self, script, *words, **environment):
+        """Starts a script of the examples, which is killed after the test."""
         child = subprocess.Popen(
             [os.path.join(TOP, "examples", script), *words], text=True, stdout=subprocess.PIPE,
             stderr=subprocess.PIPE, env=os.environ | {"TMPDIR": self.folder} | environment)

@@ -34,6 +34,7 @@ class Peer:
         self.server.server_close()
 
     def handler(self):
+        """Returns a class of handlers that reply by this peer, and that count connections."""
         peer = self
 
         class Handler(BaseHTTPRequestHandler):

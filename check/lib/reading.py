@@ -61,6 +61,7 @@ def token(item):
 
 
 def client_added(item):
+    """Returns the fields of a client, of whichever kind."""
     sort = item.number(1)
     fields = {"client_kind": ["public", "confidential", "resource"][sort]}
     if sort:
@@ -71,6 +72,7 @@ def client_added(item):
 
 
 def code_issued(item):
+    """Returns the fields of a code. Those of a challenge are there if it has one."""
     fields = {"client": item.dot(), "consent": item.dot(), "digest": item.take(32).hex()}
     for name in ("start", "expiry", "family_end"):
         fields.update(moment(name, item.number(8)))

@@ -53,6 +53,7 @@ req 1 0 ASK ann -
 req 1 0 POST /introspect <c2-2:s3cret> - token={refresh1}
 req 1 0 POST /admin/signout - - subject=ann
 req 1 0 POST /admin/retire - - client_id=c2-1
+req 1 0 GET /admin/clients - - -
 """
 
 # requests that a region with these options decides otherwise than the profile; 9:1 is not known

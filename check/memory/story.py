@@ -114,6 +114,7 @@ class Reader:
         self.into = self.story.events
 
     def take(self, line):
+        """Reads a line with a setting of the story."""
         words = line.split()
         if words[0] == "asker":
             self.story.asker = words[1]
@@ -132,6 +133,7 @@ class Reader:
             self.add(encoded(line))
 
     def add(self, line):
+        """Adds an event, with the names of what its reply gives."""
         text, _, names = line.removeprefix("! ").partition(" => ")
         event = Event(text, names.split())
         event.is_chosen = line.startswith("! ")

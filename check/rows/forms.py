@@ -91,6 +91,7 @@ def repeated(lines):
 
 
 def put_beginning(part, text, place, known):
+    """Puts the events and files of a beginning into a part of a row."""
     if text not in known:
         raise Bad("%s: no beginning %s above" % (place, text))
     part.beginnings.append(known[text])

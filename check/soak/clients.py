@@ -89,6 +89,7 @@ class Clients:
         return status == statuses[0]
 
     def add_client(self, region, kind="confidential"):
+        """Adds a client, and returns it; None if the region refuses."""
         secret = "%032x" % self.dice.getrandbits(128)
         status, said, _ = self.post(region, "/admin/client", kind=kind, secret=secret,
                                     scope="read write", redirects=REDIRECT_TEXT)
@@ -114,6 +115,7 @@ class Clients:
         return held
 
     def log_in(self, region):
+        """Obtains a code by a consent, mostly one that is there, and mostly redeems it."""
         if self.consents and self.world.chance(0.85):
             consent = self.dice.choice(self.consents[-400:])
         else:
@@ -213,6 +215,7 @@ class Clients:
             self.refresh(region, self.dice.choice(self.spent[-300:]))
 
     def revoke(self, region):
+        """Revokes one of the newest tokens."""
         if not self.tokens:
             return
         token = self.dice.choice(self.tokens[-RECENT:])
@@ -227,6 +230,7 @@ class Clients:
             self.end(tokens, "revocation")
 
     def sign_out(self, region):
+        """Signs out the subject of a family, one of the newest."""
         if not self.families:
             return
         subject = self.dice.choice(self.families[-300:]).subject
@@ -239,6 +243,7 @@ class Clients:
                 self.ends += [Ended(it, *made, "sign-out") for it in family.tokens if made]
 
     def retire(self, region):
+        """Retires a client, unless too few are left."""
         if len(self.clients) < LEAST:
             return
         client = self.dice.choice(self.clients)

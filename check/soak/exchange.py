@@ -44,6 +44,7 @@ class Exchange:
                 return
 
     def send(self, target, part):
+        """Pushes a part, keeps it for later, does both, or loses it."""
         luck = self.dice.random()
         if luck < 0.1:
             self.world.count("parts lost")

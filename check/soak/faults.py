@@ -26,6 +26,7 @@ class Load:
             it.start()
 
     def run(self, way):
+        """Runs until the region is dead. A refusal is kept."""
         try:
             way()
         except (OSError, http.client.HTTPException):
@@ -44,6 +45,7 @@ class Load:
                 self.region.take(part)
 
     def join(self):
+        """Waits for both threads, and keeps the tokens of the replies. Raises a refusal."""
         for it in self.threads:
             it.join()
         for token, status, said in self.replies:

@@ -53,6 +53,7 @@ class Model:
         self.settle()
 
     def settle(self):
+        """Makes the tables of uses, reuses, revocations, sign-outs and families anew."""
         kinds = collections.defaultdict(list)
         for it in self.facts.values():
             kinds[it["kind"]].append(it)

@@ -1,8 +1,6 @@
 """regions: sites whose clocks are files, and a witness that is never killed and never prunes."""
 import json
-import mmap
 import re
-import struct
 import urllib.parse
 
 from bundles import Dot, Vector, read_bundle
@@ -17,23 +15,6 @@ SEEN = " --refresh-seen all --repeat 0"  # the model is of refresh tokens, and o
 FORM = "Content-Type: application/x-www-form-urlencoded"
 NUMBERS, WITNESS = 30_000, 65_000  # region numbers of all first folders; the witness's
 PATIENCE = 120  # seconds of a start
-SECONDS = struct.Struct("=q")
-
-
-class Clock:
-    """The clock of a region: a file, some seconds off the moment of the run."""
-
-    def __init__(self, path, shim, moment):
-        self.words = "LD_PRELOAD=%s" % shim, "SOAK_CLOCK=%s" % path
-        self.skew, self.moment = 0, 0
-        path.write_bytes(bytes(SECONDS.size))
-        with open(path, "r+b") as file:
-            self.file = mmap.mmap(file.fileno(), 0)
-        self.set(moment)
-
-    def set(self, moment):
-        self.moment = moment + self.skew
-        SECONDS.pack_into(self.file, 0, self.moment)
 
 
 def vector_of(serials):

@@ -4,10 +4,10 @@ import json
 import os
 import random
 import socket
-import subprocess
 from pathlib import Path
 
-from regions import NUMBERS, Clock, Region, Witness
+from lib.clock import Clock, make_shim
+from regions import NUMBERS, Region, Witness
 
 DAY, BEGIN = 86_400, 1_800_000_000
 FIRST_PORT, STEP, PLACES = 12_000, 128, 150  # below those that the system gives to connections
@@ -38,8 +38,7 @@ class World:
         self.dice, self.now, self.round, self.step = random.Random(given.seed), BEGIN, 0, 0
         self.faults, self.counts, self.lines = 0, collections.Counter(), []
         self.shim = self.folder / "clock.so"
-        source = Path(__file__).with_name("clock.c")
-        subprocess.run(["cc", "-O2", "-shared", "-fPIC", "-o", self.shim, source], check=True)
+        make_shim(self.shim)
         self.events = open(self.folder / "events", "w", encoding="utf-8")
         self.regions = [
             Region(self.folder, index, NUMBERS // given.regions, port, self.clock(str(index)))

@@ -32,6 +32,7 @@ def logged(parts):
 
 
 def calls(parts):
+    """A line for each name, and a column for each kind of request."""
     it = part(parts, "calls")
     kinds = list(dict.fromkeys(kind for kind, _ in it.found("(.*): (.*)")))
     names = dict.fromkeys(name for _, name in it.found("(.*): (.*)"))
@@ -99,6 +100,7 @@ def turns(parts):
 
 
 def growth(parts):
+    """A line for each number of families."""
     it, rows = part(parts, "growth"), []
     for size in it.numbers("families (.*): memory in KiB"):
         name = "families %s: " % format(size, ",")
@@ -112,6 +114,7 @@ def growth(parts):
 
 
 def generations(parts):
+    """A line for each number of refreshes of a login."""
     it, rows = part(parts, "growth"), []
     for size in it.numbers("generation (.*): refreshes a second"):
         name = "generation %s: " % format(size, ",")
@@ -131,6 +134,7 @@ def memory(parts):
 
 
 def start(parts):
+    """A line for each number of families."""
     it, rows = part(parts, "start"), []
     for size in it.numbers("families (.*): memory in KiB"):
         name = "families %s: " % format(size, ",")
@@ -143,6 +147,7 @@ def start(parts):
 def sized(command, head, which, unit):
     """A table with a line for each size, and a column for each of some times."""
     def made(parts):
+        """Returns the measurement and its table."""
         it, rows = part(parts, command), []
         for size in it.numbers("%s (.*): %s in %s" % (command, which[0], unit)):
             name = "%s %s: " % (command, format(size, ","))
@@ -153,6 +158,7 @@ def sized(command, head, which, unit):
 
 
 def signouts(parts):
+    """A line for each number of codes, and a column for each kind of push."""
     it, rows = part(parts, "signouts"), []
     pushes = ("one that stops all", "128 later ones", "128 early ones", "one that stops one",
               "128 that stop all")
@@ -160,6 +166,25 @@ def signouts(parts):
         name = "codes %s: " % format(size, ",")
         rows.append([format(size, ",")] + [it.cell("%s%s in ms" % (name, one)) for one in pushes])
     return it, text_of(["codes of the subject", *(one + ", ms" for one in pushes)], rows)
+
+
+def days(parts):
+    """A line for each day with a start: what it took, without pruning and with it."""
+    it, rows, servers = part(parts, "days"), [], ("never pruned", "--prune-margin")
+    for day in it.numbers(r"day (\d+): a start with the log, s"):
+        name = "day %d" % day
+        rows.append(
+            [str(day)]
+            + [it.number("%s, %s: facts" % (name, server)) for server in servers]
+            + [tables.number(it.median("%s, %s: memory in KiB" % (name, server)) / 1024)
+               for server in servers]
+            + [tables.number(it.median("%s%s in KiB" % (name, what)) / 1024)
+               for what in (": log", ", --prune-margin: pages")]
+            + [it.number("%s: a start with the %s, s" % (name, what)) for what in ("log", "pages")])
+    return it, text_of(["day", "facts, never pruned", "with the option",
+                        "MiB of memory, never pruned", "with the option", "log, MiB",
+                        "pages with the option, MiB", "start with the log, s",
+                        "start with these pages, s"], rows)
 
 
 def push(parts):
@@ -281,6 +306,7 @@ def beside(parts):
 
 
 def ledger(parts):
+    """A line for each number of families."""
     it, rows = part(parts, "ledger"), []
     for size in it.numbers("statuses a second, (.*) families"):
         of = ", %s families" % format(size, ",")
@@ -304,8 +330,9 @@ ALL = {
     "clients": clients, "turns": turns, "growth": growth, "generations": generations,
     "memory": memory, "start": start, "prunes": plain("prunes", ["a prune", ""]),
     "uses": sized("uses", "redemptions of a code", ("lowest serials", "highest serials"), "ms"),
-    "signouts": signouts, "push": push,
+    "signouts": signouts, "push": push, "days": days,
     "consents": sized("consents", "consents before", ("withdrawn", "for another scope"), "µs"),
+    "lists": sized("lists", "clients", ("the first page", "one in the middle"), "µs"),
     "carried": plain("carried", ["`carry` to an empty server", ""]), "revoked": revoked,
     "fanned": fanned, "scaled": scaled, "spread": spread, "cells": cells, "peers": peers,
     "beside": beside, "ledger": ledger, "pruned": pruned,

@@ -103,6 +103,17 @@ def turns(parts):
     return Chart("", "requests a second", PLAIN_BARS + "set bmargin 5", "using 2:xtic(1)", curves)
 
 
+def days(parts):
+    """The memory of each day, of a server that never prunes and of one that does."""
+    it, form = part(parts, "days"), "day %d, %s: memory in KiB"
+    curves = [(name, [(day, it.median(form % (day, server)) / 1024)
+                      for day in it.numbers(r"day (\d+), never pruned: memory in KiB")])
+              for name, server in (("never pruned", "never pruned"),
+                                   ("--prune-margin 86400", "--prune-margin"))]
+    return Chart("days", "memory in MiB", "set yrange [0:*]",
+                 "using 1:2 with lines linewidth 2", curves)
+
+
 def sites(parts):
     """How long `carry` is at work for a day of a million logins, by the number of sites."""
     costs, most = paper.Costs(parts), paper.SITES[-1]
@@ -114,13 +125,14 @@ def sites(parts):
 
 
 ALL = {"growth": growth, "memory": memory, "delay": delay, "clients": clients, "turns": turns,
-       "sites": sites}
+       "days": days, "sites": sites}
 TITLES = {
     "growth": "Introspections a second, by the logins that a server holds",
     "memory": "Memory in MiB, by the logins that a server holds",
     "delay": "From a revocation until another region knows it, in ms",
     "clients": "Introspections a second, by the clients at the same time",
     "turns": "Requests a second of clients that keep their connections, beside Redis",
+    "days": "Memory by days, of a server that prunes itself and of one that never does",
     "sites": "Hours that carry is at work for a day of a million logins, by sites"}
 
 

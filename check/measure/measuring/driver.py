@@ -67,6 +67,7 @@ class Driver:
         return self.run(server, "many", server.port, count, clients, how, "get")
 
     def run(self, server, name, *words):
+        """Runs a program of the driver, and returns what it printed, with the rates."""
         before = server.used()
         words = [self.path(name)] + [str(it) for it in words]
         done = subprocess.run(words, capture_output=True, text=True, check=False)
@@ -99,6 +100,7 @@ class Driver:
 
     @contextlib.contextmanager
     def serving(self, words, has_log, before=()):
+        """Yields a C server that listens, with a log of its own if it is to have one."""
         with tempfile.TemporaryDirectory() as folder:
             log = [os.path.join(folder, "log")] if has_log else []
             server = Process([*before, self.path(words[0]), *words[1:], *log], folder)

@@ -26,6 +26,7 @@ KINDS = {"introspect": introspect, "refresh": refresh, "code": code}
 
 
 def need(program):
+    """Raises Absent if valgrind isn't there, or can't run the program."""
     for command in "valgrind", "callgrind_annotate":
         if not shutil.which(command):
             raise Absent("no " + command)

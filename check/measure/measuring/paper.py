@@ -70,6 +70,7 @@ def days(parts):
 
 
 def day(parts):
+    """A line for each number of sites and of refreshes: what one day takes."""
     costs, found = days(parts)
     rows = [[str(it.sites), str(it.refreshes), "%d million" % (it.facts / 1e6),
              tables.number(it.memory / 1e9) + " GB", tables.number(it.log / 1e9) + " GB",
@@ -98,6 +99,7 @@ def when(number):
 
 
 def breaks(parts):
+    """A line for each number of sites and of refreshes: which limit is first."""
     costs, found = days(parts)
     rows = []
     for it in found:

@@ -82,6 +82,7 @@ class Other(Asked):
             database.executescript(self.copies.replace(":count", str(count)))
 
     def stop(self):
+        """Ends the group of processes, by SIGKILL if SIGTERM isn't enough."""
         if self.child:
             for one in signal.SIGTERM, signal.SIGKILL:
                 with contextlib.suppress(ProcessLookupError):
@@ -105,6 +106,7 @@ class Glewlwyd(Other):
             raise Absent("no %s" % glewlwyd.TABLES)
 
     def start(self):
+        """Makes the database of glewlwyd with a client and a session, and starts it."""
         with gzip.open(glewlwyd.TABLES, "rt", encoding="utf-8") as file:
             with contextlib.closing(sqlite3.connect(self.database)) as database:
                 database.executescript(file.read())
@@ -129,6 +131,7 @@ class Application(Other):
             raise Absent("no %s under gunicorn" % cls.name)
 
     def start(self):
+        """Makes the database of the application, and starts it under gunicorn."""
         apps = os.path.join(HERE, "apps")
         given = {"DB": self.database, "CLIENT": CLIENT, "SECRET": SECRET, "REDIRECT": REDIRECT_TEXT,
                  "PYTHONPATH": apps, "PYTHONDONTWRITEBYTECODE": "1",

@@ -52,9 +52,9 @@ FIGURES = {
     "refresh-memory": Option(396, 0, 1e9, "bytes of a refresh in memory"),
     "refresh-wire": Option(137, 0, 1e9, "bytes of a refresh on the wire"),
     "refresh-log": Option(143, 0, 1e9, "bytes of a refresh in a log"),
-    # docs/MEASURED.md, "A prune": 200,001 pruned logins leave what 20,001 do
+    # docs/MEASURED.md, "A prune": 500,000 pruned logins leave 88 KiB more than 20,001 do
     "left": Option(0, 0, 1e9, "bytes that a pruned login leaves in memory"),
-    # docs/MEASURED.md, "A prune": the place of a mark on a page that has a fact
+    # docs/MEASURED.md, "A hundred days": the place of a mark on a page that has a fact
     "place": Option(24, 0, 1e9, "bytes of a mark beside a fact that lasts"),
     # docs/MEASURED.md, "Several sites behind HAProxy", one site; a code is one of two requests
     "introspected": Option(19_751, 1, 1e9, "introspections a second of a site"),
@@ -64,9 +64,9 @@ FIGURES = {
     "taken": Option(200_596, 1, 1e9, "facts of other sites a second that a site takes in"),
     # docs/MEASURED.md, "A start": 200,000 facts in 875 ms, less 1.14 ms for none
     "loaded": Option(228_869, 1, 1e9, "facts a second of a start"),
-    # docs/MEASURED.md, "A prune": pushes of 1,000,000 marks take 3.29 s. No start with marks is
-    # measured. A push does more for a mark than a start, so seconds of a start are at most these
-    "marked": Option(303_951, 1, 1e9, "marks a second of a start"),
+    # docs/MEASURED.md, "A hundred days", the last row: the marks, by the seconds of a start with
+    # the pages, which have some facts too. The machine was busy: a quiet one takes fewer seconds
+    "marked": Option(386_872, 1, 1e9, "marks a second of a start"),
 }
 
 OPTIONS = {**ASSUMED, **FIGURES}

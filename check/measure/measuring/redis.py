@@ -45,6 +45,7 @@ class Redis(Process):
 
 @contextlib.contextmanager
 def redis(has_log, before=()):
+    """Yields a Redis that listens, in a folder that is removed afterwards."""
     for command in "redis-server", "redis-benchmark":
         if not shutil.which(command):
             raise Absent("no Redis (%s)" % command)

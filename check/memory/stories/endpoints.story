@@ -1,6 +1,6 @@
 # One region, each of whose endpoints is asked: clients of three kinds, consents, codes with and
 # without a challenge, rotations, a reuse of a refresh token and of a code, revocations of each kind,
-# a retirement, a withdrawal, a sign-out, and what is refused.
+# a list, a retirement, a withdrawal, a sign-out, and what is refused.
 asker c1-2:s3cret
 
 open 1
@@ -27,6 +27,7 @@ req 1 1012 GET /authorize?response_type=code&client_id=c1-1 - ann - => code5
 req 1 1013 POST /token <c1-1:s3cret> - grant_type=authorization_code&code={code5} => access5 refresh5
 req 1 1014 POST /token <c1-1:s3cret> - grant_type=authorization_code&code={code5}
 look 1 1015 c1-3
+req 1 1015 GET /admin/clients?after=c1-1 - - -
 retire 1 1016 c1-3
 req 1 1017 POST /admin/withdraw - - consent_id={bob}
 req 1 1017 GET /authorize?response_type=code&client_id=c1-1&state=t - ann - => code6

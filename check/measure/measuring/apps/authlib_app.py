@@ -108,6 +108,7 @@ class Introspection(IntrospectionEndpoint):
         return True
 
     def introspect_token(self, token):
+        """Returns the claims of an access or a refresh token, by RFC 7662."""
         if request.form.get("token") == token.refresh_token:
             is_active, life = token.is_refresh_token_active(), LIFE
         else:
@@ -158,6 +159,7 @@ def revoke():
 
 
 def make_database():
+    """Makes the tables, and the client that the environment names."""
     db.create_all()
     client = Client(client_id=os.environ["CLIENT"], client_secret=os.environ["SECRET"],
                     client_id_issued_at=int(time.time()))

@@ -50,6 +50,7 @@ application = get_wsgi_application()
 
 
 def make_database():
+    """Makes the tables, the user, and the client that the environment names."""
     call_command("migrate", verbosity=0)
     user = User.objects.create(username="ann")
     Application.objects.create(

@@ -1,7 +1,8 @@
-/* A wall clock that a file has, for a program that is started with this in LD_PRELOAD.
+/* Clocks that a file has, for a program that is started with this in LD_PRELOAD.
  *
- * SOAK_CLOCK names a file of 8 bytes: the seconds since 1970, in the machine's order. Clocks that
- * only rise stay the machine's. */
+ * CHECK_CLOCK names a file of 8 bytes: the seconds since 1970, in the machine's order. They are the
+ * wall clock. With CHECK_CLOCK_RISES, clocks that only rise go with the file too: they are the
+ * machine's, and the seconds by which the file has grown. Without it they stay the machine's. */
 #define _GNU_SOURCE
 #include <fcntl.h>
 #include <stdint.h>
@@ -13,9 +14,11 @@
 #include <unistd.h>
 
 static volatile int64_t *seconds;
+static int64_t first;
+static int rises;
 
 __attribute__((constructor)) static void begin(void) {
-    const char *name = getenv("SOAK_CLOCK");
+    const char *name = getenv("CHECK_CLOCK");
     int file = name ? open(name, O_RDONLY | O_CLOEXEC) : -1;
     if (file < 0) {
         return;
@@ -23,17 +26,32 @@ __attribute__((constructor)) static void begin(void) {
     void *at = mmap(0, sizeof *seconds, PROT_READ, MAP_SHARED, file, 0);
     if (at != MAP_FAILED) {
         seconds = at;
+        first = *seconds;
+        rises = getenv("CHECK_CLOCK_RISES") != 0;
     }
     close(file);
 }
 
+static int is_wall(clockid_t clock) {
+    return clock == CLOCK_REALTIME || clock == CLOCK_REALTIME_COARSE;
+}
+
+static int is_rising(clockid_t clock) {
+    return clock == CLOCK_MONOTONIC || clock == CLOCK_MONOTONIC_RAW
+        || clock == CLOCK_MONOTONIC_COARSE || clock == CLOCK_BOOTTIME;
+}
+
 int clock_gettime(clockid_t clock, struct timespec *now) {
-    if (seconds && (clock == CLOCK_REALTIME || clock == CLOCK_REALTIME_COARSE)) {
+    if (seconds && is_wall(clock)) {
         now->tv_sec = *seconds;
         now->tv_nsec = 0;
         return 0;
     }
-    return (int)syscall(SYS_clock_gettime, clock, now);
+    int failed = (int)syscall(SYS_clock_gettime, clock, now);
+    if (!failed && seconds && rises && is_rising(clock)) {
+        now->tv_sec += *seconds - first;
+    }
+    return failed;
 }
 
 int gettimeofday(struct timeval *restrict now, void *restrict zone) {
