@@ -27,6 +27,7 @@ def compare_paths(name):
 
 
 def compare():
+    """Compares the index of checks with their folders, the gate, and the paths in documents."""
     listed = {re.search(r"\w+", it[0])[0]: it[-2] for it in rows(text_of(INDEX), "check | ")}
     same(INDEX, "the checks", folders(), sorted(listed))
     run = list(dict.fromkeys(re.findall(r"^check/(\w+)/run", text_of(GATE), re.M)))

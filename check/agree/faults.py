@@ -28,6 +28,7 @@ class Trial:
         return path
 
     def end(self, name, line, words, status=None, **more):
+        """Runs the program, compares its line and status, and returns its output."""
         if "stdin" not in more and "input" not in more:
             more["stdin"] = subprocess.DEVNULL
         more.setdefault("stdout", subprocess.PIPE)
@@ -42,6 +43,7 @@ class Trial:
 
 
 def files_of_a_service(t):
+    """Tries seeds and logs that a service can't read or use."""
     absent = os.path.join(t.room, "absent", "file")
     for n in (0, 31, 33):
         seed = t.file("short", b"x" * n)
@@ -74,6 +76,7 @@ def log_of_two(t):
 
 
 def loaded(t, log):
+    """Tries logs of the service's own number, whole ones, and cut ones."""
     own = t.serve + [t.seed, "--load", log]
     t.end("its own number's facts", "tokend: bad log file", own)
     with open(log, "rb") as f:
@@ -92,6 +95,7 @@ def loaded(t, log):
 
 
 def full_devices(t):
+    """Tries a standard output and a log that take no byte."""
     for name, words, given in (("serve", t.serve + [t.seed], None),
                                ("script", ["script"], "open 1\n"), ("help", ["--help"], None)):
         more = {"input": given} if given else {}
@@ -107,6 +111,7 @@ def full_devices(t):
 
 
 def scripts(t, log):
+    """Tries scripts that are wrong, too long, or can't be read."""
     for command in ("script", "loopback"):
         t.end("a bad line, " + command, "tokend: bad line 2", [command], input="open 1\nnothing\n")
         t.end("a long script, " + command, "tokend: script too long", [command],
@@ -132,6 +137,7 @@ def little_memory(t):
 
 
 def provoke(program, room, seed, errors):
+    """Provokes each fault, and compares its line and status with the sources' errors."""
     t = Trial(program, room, seed, errors)
     files_of_a_service(t)
     log = log_of_two(t)

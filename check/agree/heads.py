@@ -79,6 +79,7 @@ def compare_files(name, head):
 
 
 def compare():
+    """Names each definition of a head that its file lacks."""
     for name in files():
         text = text_of(name)
         head, known = head_of(text), known_to(name, text)

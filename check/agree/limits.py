@@ -60,6 +60,7 @@ def documents():
 
 
 def compare_phrases(greatest):
+    """Compares numbers in phrases of the documents with the limits of FORMATS.md."""
     millis = greatest["milliseconds of a request, and of its reply"]
     greatest = greatest | {"seconds of a request": millis / 1000}
     for name in documents():
@@ -71,6 +72,7 @@ def compare_phrases(greatest):
 
 
 def compare():
+    """Names each number with commas that is no limit of FORMATS.md."""
     greatest = compare_table()
     compare_phrases(greatest)
     allowed = set(greatest.values())

@@ -34,6 +34,7 @@ def headings(text):
 
 
 def compare_link(name, words, target):
+    """Names a link without its file, its heading, or the name that it is for."""
     path, _, anchor = target.partition("#")
     place = os.path.normpath(os.path.join(os.path.dirname(name), path)) if path else name
     if not os.path.exists(os.path.join(TOP, place)):
@@ -51,6 +52,7 @@ def compare_link(name, words, target):
 
 
 def compare_links(name, text):
+    """Looks at the links of a document outside its blocks of code."""
     plain = re.sub(r"^```.*?^```$", "", text, flags=re.M | re.S)
     targets = dict(re.findall(r"^\[(\w+)\]: (\S+)$", plain, re.M))
     for words, key in re.findall(r"\[([^\]\n]+)\]\[(\w+)\]", plain):
@@ -108,6 +110,7 @@ def compare_widths(name, text):
 
 
 def compare():
+    """Looks at links, sections, widths and words of each document, and at README's size."""
     for name in everything():
         text = text_of(name)
         compare_links(name, text)

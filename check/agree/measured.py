@@ -17,6 +17,7 @@ def compare_names(what, here, there):
 
 
 def compare():
+    """Compares the tables and commands of MEASURED.md with those that there are."""
     text = text_of(DOCUMENT)
     marked = re.findall(r"^<!-- measured: (\w+) -->\n(?:(?!<!-- ).*\n)*<!-- end -->$", text, re.M)
     compare_names("table", marked, blocks.ALL)

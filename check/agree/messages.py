@@ -14,6 +14,7 @@ LINE = r'\bFault::(\w+)(?:\(\w+\))? => (?:say|tell_\w+)\(faults, [^"\n]*b"([^"]*
 
 
 def statuses_of_sources(fault):
+    """Returns the status of each fault by its name."""
     arms = fault.split("impl Fault {", 1)[1].split("fn status(", 1)[1].split("\n    }\n", 1)[0]
     statuses = {}
     for names, number in re.findall(r"((?:\bFault::\w+(?:\(_\))?\s*\|?\s*)+)=> (\d)", arms):
@@ -23,6 +24,7 @@ def statuses_of_sources(fault):
 
 
 def of_sources():
+    """Returns the lines on standard output, and those of errors with their statuses."""
     fault, server, listen = text_of(FAULT), text_of(SERVER), text_of(LISTEN)
     statuses = statuses_of_sources(fault)
     errors = {}
@@ -53,6 +55,7 @@ def line_of(listen, name):
 
 
 def of_operating():
+    """Returns the same as `of_sources`, by the tables of OPERATING.md."""
     text = text_of(OPERATING)
     output = {line for cells in rows(text, "on standard output | cause")
               for line in coded(cells[0])}
@@ -62,6 +65,7 @@ def of_operating():
 
 
 def of_page(part):
+    """Returns the lines of a part of the manual page, each with its status."""
     text = text_of(PAGE).split(".SH %s\n" % part, 1)[1]
     text = re.split(r"^\.SH ", text, maxsplit=1, flags=re.M)[0]
     text = text.replace("\\-", "-").replace("\\~", "~")
@@ -99,6 +103,7 @@ def compare_scripts():
 
 
 def compare():
+    """Compares the messages of the sources with OPERATING.md and the manual page."""
     compare_scripts()
     output, errors = of_sources()
     plain = {line: status for line, status in errors.items() if line != "tokend: cannot read -"}

@@ -24,6 +24,7 @@ def range_in(text):
 
 
 def default_in(text, limits):
+    """Returns a default as the program's help has it."""
     if text.startswith("or `--"):  # another option may be given in its place
         return ""
     text = text.replace(",", "").strip("`")
@@ -68,6 +69,7 @@ def of_program(program, command):
 
 
 def of_operating():
+    """Returns range and default of each option, by the table of OPERATING.md."""
     options = {}
     for cells in rows(text_of(OPERATING), "option | range"):
         limits = range_in(cells[1])
@@ -106,6 +108,7 @@ def compare_mentions(known):
 
 
 def compare(program):
+    """Compares the help with OPERATING.md and the manual page, and returns the options."""
     serve, script = of_program(program, "serve"), of_program(program, "script")
     same("tokend loopback --help", "its options", script, of_program(program, "loopback"))
     settings = {name: serve.get(name) for name in script}

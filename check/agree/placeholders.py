@@ -8,6 +8,7 @@ NAME = r"@[A-Z_]+@"
 
 
 def compare():
+    """Compares the names of each configuration with the table of its page."""
     for folder in FOLDERS:
         page = folder + "/README.md"
         table = {name for cells in rows(text_of(page), "name | what goes in its place")

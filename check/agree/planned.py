@@ -1,5 +1,5 @@
 """planned: the figures of check/measure/planned against the tables of docs/MEASURED.md, its sums
-against sums made by hand, the table of docs/OPERATING.md against what it prints, and its refusals.
+against sums made by hand, the table of docs/CELLS.md against what it prints, and its refusals.
 """
 import json
 import math
@@ -11,9 +11,10 @@ import tempfile
 
 from lib import TOP
 from measuring import plan
-from texts import OPERATING, differ, rows, same, text_of
+from texts import differ, rows, same, text_of
 
 COMMAND, MEASURED = "check/measure/planned", "docs/MEASURED.md"
+DOCUMENT = "docs/CELLS.md"
 HOME = "check/measure/measuring/plan.py"
 
 # where a figure is a cell of a table: the table, the beginning of the row, and the column
@@ -68,7 +69,7 @@ SUMS = {
     "years that the numbers last": 364,
     "breaks first": "start, after 0.259 years"}
 
-# the columns of the table in docs/OPERATING.md, and the lines that they are of
+# the columns of the table in docs/CELLS.md, and the lines that they are of
 COLUMNS = {
     "cells": "cells", "sites": "sites", "start, s": "start of a site, s",
     "start is short": "years that a start is short",
@@ -108,8 +109,8 @@ def made():
     grown, logins, grown_before, logins_before = map(plain, growth.groups())
     return {
         "loaded": math.floor(200_000 / (most - least) * 1e3),
-        "marked": math.floor(cell("prunes", ["facts"], 1)
-                             / cell("prunes", ["pushes of marks: s"], 1)),
+        "marked": math.floor((cell("days", ["100"], 1) - cell("days", ["100"], 2))
+                             / cell("days", ["100"], 8)),
         "left": max(0, round((grown - grown_before) * 1024 / (logins - logins_before))),
         "place": plain(re.search(r"whose marks each had a place of (\d+) bytes", text)[1])}
 
@@ -128,6 +129,7 @@ def is_same(wanted, found):
 
 
 def compare_sums():
+    """Compares a plan of round figures with sums made by hand."""
     it = plan.Plan(10_000_000, ROUND)
     same(HOME, "the rows", list(SUMS), [row.name for row in plan.ROWS])
     for row in plan.ROWS:
@@ -159,8 +161,8 @@ def compare_printed(folder):
 
 
 def compare_table():
-    """Each row of the table in docs/OPERATING.md, whose options are named above it."""
-    text, found = text_of(OPERATING), 0
+    """Each row of the table in docs/CELLS.md, whose options are named above it."""
+    text, found = text_of(DOCUMENT), 0
     named = {name: words.split() for name, words in
              re.findall(r"^- \*(\w+)\*: `%s(.*?)`" % re.escape(COMMAND), text, re.M)}
     for users, kind, *cells in rows(text, "users | logins | cells | "):
@@ -170,10 +172,10 @@ def compare_table():
         it = plan.Plan(int(count), {name: option.default for name, option in plan.OPTIONS.items()}
                        | given)
         values = {row.name: plan.text_of(row.value(it)) for row in plan.ROWS}
-        same(OPERATING, "what %s users need, %s" % (users, kind),
+        same(DOCUMENT, "what %s users need, %s" % (users, kind),
              [values[name] for name in COLUMNS.values()], cells)
         found += 1
-    same(OPERATING, "the rows of the table of `planned`", 3 * len(named) or "some", found)
+    same(DOCUMENT, "the rows of the table of `planned`", 3 * len(named) or "some", found)
 
 
 def compare_refusals():

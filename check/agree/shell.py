@@ -40,6 +40,7 @@ def learn(handles, said):
 
 
 def compare_requests(program, name):
+    """Runs the requests of a document, and compares what each prints."""
     handles = {}
     with Server(program) as server:
         for block in blocks(name):
@@ -58,6 +59,7 @@ def compare_requests(program, name):
 
 
 def compare_script(program):
+    """Runs the commands of SCRIPT.md, and compares what each prints."""
     for block in blocks(SCRIPT):
         for command, wanted in commands(block):
             line = command.replace("build/tokend", '"$TOKEND"', 1)

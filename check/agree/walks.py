@@ -45,6 +45,7 @@ def pairs(text):
 
 
 def compare_walks():
+    """Names each file that isn't there, and each name that isn't in its file."""
     text = text_of(WALKS)
     for file in sorted(set(re.findall(FILE, text))):
         if not any(sources(None, file)):

@@ -152,6 +152,7 @@ class Follow(Case):
         return path
 
     def with_history(self, first=1, last=9):
+        """Returns logs that keep a history of the given numbers, and have looked once."""
         self.history = Path(self.folder) / "history"
         self.history.mkdir(exist_ok=True)
         it = self.follow.Logs([self.live, self.old], self.state, self.history,

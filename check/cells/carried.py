@@ -15,6 +15,7 @@ FIRST_RUN = 95  # of each site: facts of its earlier numbers are taken
 
 class Carries(CellsCase):
     def up(self, *names):
+        """Starts sites as if each had had runs before."""
         for name in names:
             folder = os.path.join(self.state, name)
             if not os.path.isdir(folder):

@@ -64,6 +64,7 @@ class FrontedCase(Subjects):
                 self.processes.add(int(file.read()))
 
     def end(self):
+        """Kills all processes of the cells."""
         self.note()  # `cells retire` starts one too
         for it in self.processes:
             try:
@@ -178,6 +179,7 @@ class Fronted(FrontedCase):
         over, good, bad = threading.Event(), [], []
 
         def go_on(is_kept):
+            """Introspects tokens until it is over. A reply that isn't active is kept in `bad`."""
             link = self.link() if is_kept else None
             while not (over.is_set() or bad):
                 for it in tokens:

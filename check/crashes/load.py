@@ -44,6 +44,7 @@ class Worker(threading.Thread):
         self.sites, self.moment, self.wrong, self.count = sites, moment, None, 0
 
     def run(self):
+        """Steps until the run stops or a site is killed. Any other end is kept in `wrong`."""
         try:
             while not self.moment.stop.is_set():
                 self.count += self.step()
@@ -69,6 +70,7 @@ class Carrier(Worker):
         self.older = {}
 
     def step(self):
+        """Carries from one site to another, by its vector or an older one, and waits a little."""
         one, other = random.sample(self.sites, 2)
         vector = other.say_vector()
         count = carry(one, other, random.choice([vector, self.older.get(other, vector)]))
@@ -98,6 +100,7 @@ class Client(Worker):
         self.pairs, self.recent = pairs, recent
 
     def step(self):
+        """Sends one request of a random kind, or a login if no tokens are left."""
         way, = random.choices(*zip(
             (self.log_in, 20), (self.log_in_anew, 5), (self.look, 22), (self.refresh, 35),
             (self.revoke, 12), (self.revoke_family, 3), (self.reuse, 3), (self.sign_out, 6)))

@@ -27,6 +27,7 @@ class Past:
         return client(ELSEWHERE, next(self.serials))
 
     def new_family(self):
+        """Returns a new code and its redemption, of a family that is over or that lives."""
         one, other = ((ELSEWHERE, next(self.serials)) for _ in range(2))
         end = random.choice([OVER, LATER])
         items = [code(one, end, b"old"), redemption(other, one, end)]
@@ -51,6 +52,7 @@ class Pusher(Worker):
         self.past = past
 
     def step(self):
+        """Pushes facts or marks of the past to a random site, or again what got no reply."""
         time.sleep(random.random() * PAUSE)
         site = random.choice(self.sites)
         if self.past.unanswered:

@@ -67,6 +67,7 @@ class Streams(Case):
                      self.two.url, *broker]}[name]
 
     def begin(self, *names):
+        """Starts programs by their names, and waits for Redis."""
         for name in names:
             with open(os.path.join(self.folder, name + ".out"), "ab") as out:
                 child = subprocess.Popen(self.words(name), stdin=subprocess.DEVNULL, stdout=out,

@@ -38,6 +38,7 @@ class Installed(unittest.TestCase):
             return file.read()
 
     def dpkg(self, *words):
+        """Runs dpkg in the root, and returns what it printed. It must succeed."""
         environ = {**os.environ, "PATH": os.environ["PATH"] + ":/usr/sbin:/sbin", "LC_ALL": "C"}
         status, said = run(
             ["dpkg", "--root", self.root, "--log=/dev/null", "--force-script-chrootless",

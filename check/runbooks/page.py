@@ -64,6 +64,7 @@ class Runbooks(unittest.TestCase):
         return text
 
     def shell(self, script):
+        """Returns the output of a script in the root, as its user would run it."""
         environ = {"ROOT": self.root, "HOME": self.path("home"), "LC_ALL": "C.UTF-8", "TZ": "UTC",
                    "PATH": "%s:%s:/usr/bin:/bin:/usr/sbin" % (self.path("bin"),
                                                               self.path("usr/bin"))}
@@ -102,6 +103,7 @@ class Runbooks(unittest.TestCase):
         return "\n".join(lines)
 
     def run_section(self, name):
+        """Runs the commands of a section, and compares what each prints."""
         parts = chunks(self.sections[SET_UP]) + (
             chunks(self.sections[name]) if name != SET_UP else [])
         said = self.there(self.shell(self.script(parts)))
@@ -112,6 +114,7 @@ class Runbooks(unittest.TestCase):
 
 
 def add_tests():
+    """Adds a test for each section of the page."""
     with open(PAGE, encoding="utf-8") as file:
         names = list(sections(file.read()))
     for name in names:

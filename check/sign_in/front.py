@@ -66,6 +66,7 @@ class FrontCase(Case):
         self.addCleanup(child.terminate)
 
     def begin_pages(self):
+        """Starts the pages to sign in, with users and names of clients."""
         with open(self.path("users"), "w", encoding="utf-8") as users:
             for name, word in WORDS.items():
                 subprocess.run([FOLDER + "/sign-in", "--user", name], input=word + "\n", text=True,
@@ -76,6 +77,7 @@ class FrontCase(Case):
                    self.path("users"), self.path("names"))
 
     def begin_nginx(self):
+        """Starts nginx with the configuration of the example, and a certificate."""
         make_certificate(self.folder)
         with open(FOLDER + "/nginx.conf", encoding="utf-8") as file:
             text = self.added(file.read())

@@ -61,6 +61,7 @@ def _version(items: tuple[bytes, ...]) -> bytes:
 
 
 def _check_item(number: int, item: bytes) -> None:
+    """Raises Malformed if an item's length, dot or kind is wrong."""
     if not MARK <= len(item) <= MOST_BYTES:
         raise Malformed("item %d has %d bytes, not %d to %d"
                         % (number, len(item), MARK, MOST_BYTES))
@@ -80,6 +81,7 @@ class Bundle:
     horizon: Optional[int] = None
 
     def __post_init__(self) -> None:
+        """Raises Malformed if a bundle has too many items, or items that don't ascend."""
         if len(self.items) > MOST_ITEMS:
             raise Malformed("%d items, more than %d" % (len(self.items), MOST_ITEMS))
         before = FROM_THE_START
@@ -117,6 +119,7 @@ class Bundle:
         return self.items[-1][:MARK] if self.items else FROM_THE_START
 
     def write(self) -> bytes:
+        """Returns the bundle as bytes."""
         head = self.version
         if self.horizon is not None:
             head += _HORIZON.pack(self.horizon)

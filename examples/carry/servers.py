@@ -232,6 +232,7 @@ class Server:
         return int(took[1])
 
     def _read(self, path: str, reply: Reply, name: str, reader: Callable[[bytes], T]) -> T:
+        """Returns what a reader makes of a reply of status 200. Raises Lost for any other."""
         if reply.status != 200:
             raise self._lost(path, str(reply))
         try:
@@ -273,6 +274,7 @@ class Server:
         return self._exchange(self._link, path, body)
 
     def _connect(self) -> http.client.HTTPConnection:
+        """Returns a new connection, by the proxy if there is one. Raises Silent."""
         via, proxy = self._at, self._proxy
         if proxy:
             via = via._replace(host=proxy.host, port=proxy.port)
@@ -288,6 +290,7 @@ class Server:
 
     def _exchange(self, link: http.client.HTTPConnection, path: str,
                   body: Optional[bytes]) -> Reply:
+        """Sends a request, and returns its reply. Raises Silent if that takes too long."""
         target = self._at.target(path)
         fields = {} if body is None else dict(BYTES)
         if self._proxy and self._at.scheme == "http":

@@ -137,6 +137,7 @@ def lines(site: Site) -> Iterator[dict[str, str]]:
     lost: list[Lost] = []
 
     def feed() -> None:
+        """Writes all pages of the site to the program's input."""
         try:
             with Server(site.url, ACCESS) as server, \
                     contextlib.closing(pages(server, Vector())) as found:

@@ -80,6 +80,7 @@ def read_slots(text: str) -> tuple[int, ...]:
 
 
 def write_slots(slots: tuple[int, ...]) -> str:
+    """Returns slots as text, ranges with a dash; - for no slot."""
     parts: list[list[int]] = []
     for it in sorted(slots):
         if parts and parts[-1][-1] == it - 1:
@@ -101,6 +102,7 @@ def read_place(text: str, folder: Path) -> str:
 
 
 def read_site(line: str, folder: Path = Path()) -> Site:
+    """Returns the site of a line of the table. Raises Wrong."""
     words = line.split()
     if len(words) != 5:
         raise Wrong("not site, cell, place, numbers and slots: %s" % line.strip())

@@ -112,6 +112,7 @@ class Carrier:
         return []
 
     def attempt(self, way: Way) -> None:
+        """Takes in what a way has, and reports when it is lost and when it is there again."""
         key, names = (way.source.name, way.numbers), "%s -> %s" % (way.source.name, self.target)
         try:
             take(way, self.complain)

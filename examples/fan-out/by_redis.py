@@ -89,6 +89,7 @@ class Subscriber:
         self._faults = Faults("push")
 
     def run(self) -> None:
+        """Reads for ever. A fault of Redis is reported, and tried again."""
         while True:
             try:
                 self._read()

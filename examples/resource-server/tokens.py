@@ -39,6 +39,7 @@ class Checker:
                        "Content-Type": FORM}
 
     def introspect(self, token):
+        """Returns the claims of a reply of status 200. Raises Refused, status 503, without one."""
         # no proxy is used: the token must not leave the inner network
         body = urllib.parse.urlencode({"token": token}).encode()
         try:
