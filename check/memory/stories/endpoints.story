@@ -1,6 +1,6 @@
 # One region, each of whose endpoints is asked: clients of three kinds, consents, codes with and
-# without a challenge, rotations, a reuse of a refresh token and of a code, revocations of each kind,
-# a list, a retirement, a withdrawal, a sign-out, and what is refused.
+# without a challenge, rotations, a reuse of a refresh token and of a code, revocations of each
+# kind, a list, a retirement, a withdrawal, a sign-out, and what is refused.
 asker c1-2:s3cret
 
 open 1

@@ -16,8 +16,9 @@
 //!
 //! In reading order: `Refusal`, `Denial`, `challenge`, `Asked`, `Approval`, `Judged`,
 //! `decide_authorize`; then `AdminRefusal`, `registration`, `clients`, `consents`, `sign_outs`,
-//! `Administered`, `chosen`, `decide_admin`, `decide_clients`. The definitions are in `specs/`, by these names; those
-//! of administration are in `Administered`, `Chosen`, `Administration` and `Listing`.
+//! `Administered`, `chosen`, `decide_admin`, `decide_clients`. The definitions are in `specs/`, by
+//! these names; those of administration are in `Administered`, `Chosen`, `Administration` and
+//! `Listing`.
 #![tactic(auto)]
 
 mod admin_refusal;
