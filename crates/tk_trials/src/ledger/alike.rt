@@ -2,10 +2,11 @@
 
 use super::facts::{Place, dot, handle};
 use super::orders::Both;
-use super::same::{same_clients, same_consents, same_statuses};
+use super::same::{same_clients, same_consents, same_statuses, same_views};
 use tk_fact::{Fact, Subject};
 use tk_family::Steps;
 use tk_handle::{Dot, Handle, Kind, Moment, RegionNumber};
+use tk_ledger::ClientView;
 use tk_scope::Scope;
 use tk_store::SlotRef;
 
@@ -54,14 +55,21 @@ fn is_region_alike(both: &Both, region: RegionNumber) -> bool {
 
 // ---- clients, consents and tokens
 
+// Returns whether the plain ledger has this client.
+fn is_plain(both: &Both, client: &(Dot, ClientView<'_>)) -> bool {
+    match both.plain.client(client.0) {
+        Some(view) => same_views(&client.1, &view),
+        None => false,
+    }
+}
+
 // Returns whether both ledgers have the same client next above a dot, or first of all.
 fn is_next_alike(both: &Both, after: Option<Dot>) -> bool {
+    let cursor = after;
+    let plain = both.plain.next_client(cursor);
     match both.ledger.next_client(after) {
-        Some((client, view)) => {
-            both.plain.next_client(after) == Some(client)
-                && same_clients(&Some(view), &both.plain.client(client))
-        }
-        None => both.plain.next_client(after).is_none(),
+        Some(next) => plain == Some(next.0) && is_plain(both, &next),
+        None => plain.is_none(),
     }
 }
 

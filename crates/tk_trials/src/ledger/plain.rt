@@ -42,12 +42,13 @@ fn lower(dot: Dot, other: Option<Dot>) -> Dot {
     }
 }
 
-// Returns whether a dot is above another one, if there is another.
-fn is_above(dot: Dot, after: Option<Dot>) -> bool {
-    match after {
-        Some(after) => after < dot,
+// Returns whether the fact adds a client above a dot, or adds one if there is no dot.
+fn adds_above(fact: &Fact, after: Option<Dot>) -> bool {
+    let is_above = match after {
+        Some(after) => after < fact.dot,
         None => true,
-    }
+    };
+    is_above && matches!(fact.body, Body::ClientAdded(_))
 }
 
 impl PlainLedger {
@@ -198,7 +199,8 @@ impl PlainLedger {
     pub(super) fn next_client(&self, after: Option<Dot>) -> Option<Dot> {
         let mut least: Option<Dot> = None;
         for fact in self.facts.as_slice() {
-            if matches!(fact.body, Body::ClientAdded(_)) && is_above(fact.dot, after) {
+            let cursor = after;
+            if adds_above(fact, cursor) {
                 least = Some(lower(fact.dot, least));
             }
         }

@@ -38,7 +38,7 @@ pub(super) fn same_statuses(left: &Status<'_>, right: &Status<'_>) -> bool {
     }
 }
 
-fn same_views(left: &ClientView<'_>, right: &ClientView<'_>) -> bool {
+pub(super) fn same_views(left: &ClientView<'_>, right: &ClientView<'_>) -> bool {
     left.client_kind == right.client_kind
         && left.scope.same(right.scope)
         && left.redirects.same(right.redirects)
