@@ -1,23 +1,25 @@
 -- A bundle without some of its facts is a bundle. Key result:
 --   news_fits   what isn't dropped of a bundle has a spelling
-use Rattle.std.proofs.Common.{◌≡◌, ℕ, ◌<◌, ◌≤◌, ◌^◌, suc, Bool, true, false, ◌&&◌, ◌||◌, cond, nat_le, List, [], ◌∷◌, length, filter, Option, None, Some, refl, sym, ap, subst, ◌∙◌, arith}
+use Rattle.std.proofs.Common.{◌≡◌, ℕ, ◌<◌, ◌≤◌, ◌^◌, suc, Bool, true, false, cond, nat_le, List, []}
+use Rattle.std.proofs.Common.{◌∷◌, length, filter, Option, None, Some, refl, sym, ap, ◌∙◌, arith}
 use Rattle.std.specs.List.{AllByRecursion, list_any}
 use Rattle.std.specs.Ordering.{is_lt}
-use Rattle.std.specs.declared.cmp.Ordering.{Ordering}
-use Rattle.std.specs.declared.cmp.Ordering.TheVariants.{Less, Equal, Greater}
 use Rattle.std.proofs.lemmas.Bool.Decides.{nat_tests}
 use Rattle.tk_handle.specs.declared.dot.Dot.{Dot}
 use Rattle.tk_handle.specs.Dot.{dot_cmp, dot_cmp_total}
-use Rattle.tk_store.specs.Slots.{Slot, Slots, Held, Skipped, is_skipped}
+use Rattle.tk_store.specs.Slots.{Slot, Slots, Held, Skipped}
 use Rattle.tk_bundle.specs.BundleFields.{BundleFields, Items, is_mark}
 use Rattle.tk_bundle.specs.Bundle.{ascends, max_items, bundle, HorizonFits}
 use Rattle.tk_bundle.specs.Items.{item}
 use Rattle.tk_bundle.specs.News.{counts, news_of}
-use Rattle.tk_bundle.specs.Versions.{has_horizon, version_of}
+use Rattle.tk_bundle.specs.Versions.{version_of}
 use Rattle.tk_bundle.specs.VersionLaws.{horizon_told}
+use Rattle.tk_handle.proofs.TestLaws.{less}
+use Rattle.std.proofs.lemmas.Bool.{and_from as joined, and_parts as both_true}
 
 -- no mark is left out
-marks_kept : (S : Slots) (items : Items) → list_any is_mark (filter (counts S) items) ≡ list_any is_mark items
+marks_kept : (S : Slots) (items : Items)
+    → list_any is_mark (filter (counts S) items) ≡ list_any is_mark items
 marks_kept S [] = refl
 marks_kept S ((d, Skipped) ∷ more) = refl
 marks_kept S ((d, Held b) ∷ more) = elim (counts S (d, Held b)) as (λ t. list_any is_mark (cond t ((d, Held b) ∷ filter (counts S) more) (filter (counts S) more)) ≡ list_any is_mark more) [
@@ -25,7 +27,9 @@ marks_kept S ((d, Held b) ∷ more) = elim (counts S (d, Held b)) as (λ t. list
   | false ↦ marks_kept S more
 ]
 
-horizon_kept : (S : Slots) (items : Items) (horizon : Option ℕ) → HorizonFits (version_of items) horizon → HorizonFits (version_of (filter (counts S) items)) horizon
+horizon_kept : (S : Slots) (items : Items) (horizon : Option ℕ)
+    → HorizonFits (version_of items) horizon
+    → HorizonFits (version_of (filter (counts S) items)) horizon
 horizon_kept S items None fits = horizon_told (filter (counts S) items) ∙ marks_kept S items ∙ sym (horizon_told items) ∙ fits
 horizon_kept S items (Some moment) fits = (fits.0, horizon_told (filter (counts S) items) ∙ marks_kept S items ∙ sym (horizon_told items) ∙ fits.1)
 
@@ -36,36 +40,25 @@ no_longer p (x ∷ xs) = elim (p x) as (λ t. length (cond t (x ∷ filter p xs)
   | false ↦ omega (arith, no_longer p xs)
 ]
 
-all_kept : (p : Dot × Slot → Bool) (items : Items) → AllByRecursion item.Fits items → AllByRecursion item.Fits (filter p items)
+all_kept : (p : Dot × Slot → Bool) (items : Items) → AllByRecursion item.Fits items
+    → AllByRecursion item.Fits (filter p items)
 all_kept p [] all = tt
 all_kept p (i ∷ more) all = elim (p i) as (λ t. AllByRecursion item.Fits (cond t (i ∷ filter p more) (filter p more))) [
   | true ↦ (all.0, all_kept p more all.1)
   | false ↦ all_kept p more all.1
 ]
 
-less : (o : Ordering) → is_lt o ≡ true → o ≡ Less
-less Less e = refl
-less Equal e = absurd (cc)
-less Greater e = absurd (cc)
-
-both_true : (a b : Bool) → (a && b) ≡ true → (a ≡ true) × (b ≡ true)
-both_true true true e = (refl, refl)
-both_true true false e = absurd (cc)
-both_true false b e = absurd (cc)
-
-joined : (a b : Bool) → a ≡ true → b ≡ true → (a && b) ≡ true
-joined true b e f = f
-joined false b e f = absurd (cc)
-
 -- items above a dot are above each dot below that
-above_lower : (d e : Dot) (items : Items) → is_lt (dot_cmp d e) ≡ true → ascends (Some e) items ≡ true → ascends (Some d) items ≡ true
+above_lower : (d e : Dot) (items : Items) → is_lt (dot_cmp d e) ≡ true
+    → ascends (Some e) items ≡ true → ascends (Some d) items ≡ true
 above_lower d e [] low rise = refl
 above_lower d e (i ∷ more) low rise =
     let r = both_true (is_lt (dot_cmp e i.0)) (ascends (Some i.0) more) rise in
     joined (is_lt (dot_cmp d i.0)) (ascends (Some i.0) more)
     (ap is_lt (dot_cmp_total.trans d e i.0 (less (dot_cmp d e) low) (less (dot_cmp e i.0) r.0))) r.1
 
-rise_above : (p : Dot × Slot → Bool) (d : Dot) (items : Items) → ascends (Some d) items ≡ true → ascends (Some d) (filter p items) ≡ true
+rise_above : (p : Dot × Slot → Bool) (d : Dot) (items : Items) → ascends (Some d) items ≡ true
+    → ascends (Some d) (filter p items) ≡ true
 rise_above p d [] rise = refl
 rise_above p d (i ∷ more) rise =
     let r = both_true (is_lt (dot_cmp d i.0)) (ascends (Some i.0) more) rise in
@@ -78,7 +71,8 @@ above_none : (d : Dot) (items : Items) → ascends (Some d) items ≡ true → a
 above_none d [] rise = refl
 above_none d (i ∷ more) rise = (both_true (is_lt (dot_cmp d i.0)) (ascends (Some i.0) more) rise).1
 
-rise_kept : (p : Dot × Slot → Bool) (items : Items) → ascends None items ≡ true → ascends None (filter p items) ≡ true
+rise_kept : (p : Dot × Slot → Bool) (items : Items) → ascends None items ≡ true
+    → ascends None (filter p items) ≡ true
 rise_kept p [] rise = refl
 rise_kept p (i ∷ more) rise = elim (p i) as (λ t. ascends None (cond t (i ∷ filter p more) (filter p more)) ≡ true) [
   | true ↦ rise_above p i.0 more rise

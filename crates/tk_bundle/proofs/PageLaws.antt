@@ -3,7 +3,10 @@
 --   dots_are        the first dots that a vector does not cover are those of the page's items
 --   page_is         a page made at these dots is the page of the store
 --   page_fits       a page has a spelling
-use Rattle.std.proofs.Common.{◌≡◌, ℕ, ◌+◌, ◌<◌, ◌≤◌, ◌^◌, ◌-◌, Bool, true, false, ◌&&◌, cond, T, nat_lt, nat_le, eqb, List, [], ◌∷◌, ◌++◌, get_or, length, map, max, min, filter, take, zero, suc, Option, Some, None, slice_get, refl, sym, ap, subst, ◌∙◌, append_assoc, arith}
+use Rattle.std.proofs.Common.{◌≡◌, ℕ, ◌+◌, ◌<◌, ◌≤◌, ◌^◌, ◌-◌, Bool, true, false, ◌&&◌, cond, T}
+use Rattle.std.proofs.Common.{nat_lt, nat_le, List, [], ◌∷◌, ◌++◌, get_or, length, map, max, min}
+use Rattle.std.proofs.Common.{filter, take, zero, suc, Option, Some, None, slice_get, refl, sym, ap}
+use Rattle.std.proofs.Common.{subst, ◌∙◌, append_assoc, arith}
 use Rattle.std.specs.List.{AllByRecursion, cons_option, flat_map, list_any}
 use Rattle.std.specs.Option.{option_map}
 use Rattle.std.specs.FinMap as sets
@@ -35,10 +38,12 @@ use Rattle.tk_bundle.specs.declared.page.Page.{Page}
 use Rattle.tk_bundle.specs.BundleFields.{Items, is_mark, of_facts}
 use Rattle.tk_bundle.specs.Items.{item, mark_at, dot_size}
 use Rattle.tk_bundle.specs.ItemLaws.{dot_length}
-use Rattle.tk_bundle.specs.Versions.{mark_kind, kind_in, newest_kind, version_of, has_horizon}
+use Rattle.tk_bundle.specs.Versions.{kind_in, newest_kind, version_of, has_horizon}
 use Rattle.tk_bundle.specs.VersionLaws.{mark_told, horizon_told, facts_told}
 use Rattle.tk_bundle.specs.Bundle.{ascends, max_items, bundle, HorizonFits}
-use Rattle.tk_bundle.specs.Page.{item_at, items_at, last_of, horizon_by, horizon_with, page_within, IsPageAt, IsPageOf}
+use Rattle.tk_bundle.specs.Page.{item_at, items_at, last_of, horizon_by, horizon_with, page_within}
+use Rattle.tk_bundle.specs.Page.{IsPageAt, IsPageOf}
+use Rattle.tk_handle.proofs.TestLaws.{and as pair, both, is_true}
 
 -- ---- what slots have at given dots
 
@@ -50,25 +55,30 @@ items_at-dots S (f ∷ fs) all =
     ∙ ap (λ l. f ∷ l) (items_at-dots S fs all.1)
 
 -- the items at the first i dots and at the next one are those at the first i + 1
-pub items_at-more : (S : Slots) (dots : List Dot) (i : ℕ) (dot : Dot) → i < length dots → dot ≡ get_or dots i dot → items_at S (take i dots) ++ items_at S (dot ∷ []) ≡ items_at S (take (i + 1) dots)
+pub items_at-more : (S : Slots) (dots : List Dot) (i : ℕ) (dot : Dot) → i < length dots
+    → dot ≡ get_or dots i dot
+    → items_at S (take i dots) ++ items_at S (dot ∷ []) ≡ items_at S (take (i + 1) dots)
 items_at-more S dots i dot within is =
     sym (filter_map-append (item_at S) (take i dots) (dot ∷ []))
     ∙ ap (items_at S) (ap (λ d. take i dots ++ d ∷ []) is ∙ sym (take_at_read dots i dot within).1)
 
 -- the newest kind of two lists, one after the other
-newest_append : (last : ℕ) (fs gs : Items) → newest_kind last (fs ++ gs) ≡ newest_kind (newest_kind last fs) gs
+newest_append : (last : ℕ) (fs gs : Items)
+    → newest_kind last (fs ++ gs) ≡ newest_kind (newest_kind last fs) gs
 newest_append last [] gs = refl
 newest_append last (f ∷ fs) gs = newest_append (max last (kind_in f.1)) fs gs
 
 -- the newest kind with the item at one dot more
-pub more_newest : (S : Slots) (dots : List Dot) (i : ℕ) (dot : Dot) (before after : ℕ) → i < length dots → dot ≡ get_or dots i dot
+pub more_newest : (S : Slots) (dots : List Dot) (i : ℕ) (dot : Dot) (before after : ℕ)
+    → i < length dots → dot ≡ get_or dots i dot
     → before ≡ newest_kind 0 (items_at S (take i dots)) → after ≡ newest_kind before (items_at S (dot ∷ [])) → after ≡ newest_kind 0 (items_at S (take (i + 1) dots))
 more_newest S dots i dot before after within is so_far one =
     one ∙ ap (λ last. newest_kind last (items_at S (dot ∷ []))) so_far
     ∙ sym (newest_append 0 (items_at S (take i dots)) (items_at S (dot ∷ []))) ∙ ap (newest_kind 0) (items_at-more S dots i dot within is)
 
 -- the bytes with the item at one dot more
-pub more_written : (S : Slots) (dots : List Dot) (i : ℕ) (dot : Dot) (old before after : List ℕ) → i < length dots → dot ≡ get_or dots i dot
+pub more_written : (S : Slots) (dots : List Dot) (i : ℕ) (dot : Dot) (old before after : List ℕ)
+    → i < length dots → dot ≡ get_or dots i dot
     → before ≡ old ++ flat_map item.spell (items_at S (take i dots)) → after ≡ before ++ flat_map item.spell (items_at S (dot ∷ []))
     → after ≡ old ++ flat_map item.spell (items_at S (take (i + 1) dots))
 more_written S dots i dot old before after within is so_far one =
@@ -77,17 +87,20 @@ more_written S dots i dot old before after within is so_far one =
     ∙ ap (λ bytes. old ++ bytes) (sym (flat_map-append item.spell (items_at S (take i dots)) (items_at S (dot ∷ []))) ∙ ap (flat_map item.spell) (items_at-more S dots i dot within is))
 
 -- items of two lists that each have a spelling
-all_append : (fs gs : Items) → AllByRecursion item.Fits fs → AllByRecursion item.Fits gs → AllByRecursion item.Fits (fs ++ gs)
+all_append : (fs gs : Items) → AllByRecursion item.Fits fs → AllByRecursion item.Fits gs
+    → AllByRecursion item.Fits (fs ++ gs)
 all_append [] gs a b = b
 all_append (f ∷ fs) gs a b = (a.0, all_append fs gs a.1 b)
 
 -- the item at one dot more has a spelling
-pub more_fits : (S : Slots) (dots : List Dot) (i : ℕ) (dot : Dot) → i < length dots → dot ≡ get_or dots i dot
+pub more_fits : (S : Slots) (dots : List Dot) (i : ℕ) (dot : Dot) → i < length dots
+    → dot ≡ get_or dots i dot
     → AllByRecursion item.Fits (items_at S (take i dots)) → AllByRecursion item.Fits (items_at S (dot ∷ [])) → AllByRecursion item.Fits (items_at S (take (i + 1) dots))
 more_fits S dots i dot within is so_far one = subst (AllByRecursion item.Fits) (items_at-more S dots i dot within is) (all_append (items_at S (take i dots)) (items_at S (dot ∷ [])) so_far one)
 
 -- the first dots that a vector does not cover are those of the first slots
-pub dots_are : (S : Slots) (v : Vector) (after : Option Dot) (limit : ℕ) → take limit (take (limit + 1) (map dot_of (beyond S v after))) ≡ map dot_of (take limit (beyond S v after))
+pub dots_are : (S : Slots) (v : Vector) (after : Option Dot) (limit : ℕ)
+    → take limit (take (limit + 1) (map dot_of (beyond S v after))) ≡ map dot_of (take limit (beyond S v after))
 dots_are S v after limit = take-take limit (limit + 1) (map dot_of (beyond S v after)) (omega arith) ∙ take-map dot_of limit (beyond S v after)
 
 all_take : (S : Slots) (n : ℕ) (items : Items) → AllIn S items → AllIn S (take n items)
@@ -96,11 +109,13 @@ all_take S (suc n) [] all = tt
 all_take S (suc n) (i ∷ more) all = (all.0, all_take S n more all.1)
 
 -- the items at the dots of a page are the page's
-page_items : (S : Slots) (v : Vector) (after : Option Dot) (limit : ℕ) → items_at S (map dot_of (take limit (beyond S v after))) ≡ take limit (beyond S v after)
+page_items : (S : Slots) (v : Vector) (after : Option Dot) (limit : ℕ)
+    → items_at S (map dot_of (take limit (beyond S v after))) ≡ take limit (beyond S v after)
 page_items S v after limit = items_at-dots S (take limit (beyond S v after)) (all_take S limit (beyond S v after) (AllIn-beyond S v after))
 
 -- one dot more than there is room for shows whether more follow
-pub page_more : (fs : Items) (limit : ℕ) → nat_lt limit (length (take (limit + 1) (map dot_of fs))) ≡ nat_lt limit (length fs)
+pub page_more : (fs : Items) (limit : ℕ)
+    → nat_lt limit (length (take (limit + 1) (map dot_of fs))) ≡ nat_lt limit (length fs)
 page_more fs limit = ap (nat_lt limit) (length-take (limit + 1) (map dot_of fs) ∙ ap (min (limit + 1)) (length-map fs dot_of)) ∙ same limit (length fs)
   where
     same : (m n : ℕ) → nat_lt m (min (m + 1) n) ≡ nat_lt m n
@@ -108,41 +123,34 @@ page_more fs limit = ap (nat_lt limit) (length-take (limit + 1) (map dot_of fs) 
 
 -- ---- the dots of a page rise
 
-both : (a b : Bool) → T (a && b) → T a × T b
-both true b h = (tt, h)
-both false b h = absurd h
-
-is_true : (b : Bool) → T b → b ≡ true
-is_true true h = refl
-is_true false h = absurd h
-
-pair : (a b : Bool) → T a → T b → T (a && b)
-pair true b p q = q
-pair false b p q = absurd p
-
-below-take : (d : Dot) (n : ℕ) (es : Items) → T (below_all dot_cmp d es) → T (below_all dot_cmp d (take n es))
+below-take : (d : Dot) (n : ℕ) (es : Items) → T (below_all dot_cmp d es)
+    → T (below_all dot_cmp d (take n es))
 below-take d zero es h = tt
 below-take d (suc n) [] h = tt
 below-take d (suc n) (e ∷ es) h = let p = both _ _ h in pair _ _ p.0 (below-take d n es p.1)
 
-below-filter : (p : Dot × Slot → Bool) (d : Dot) (es : Items) → T (below_all dot_cmp d es) → T (below_all dot_cmp d (filter p es))
+below-filter : (p : Dot × Slot → Bool) (d : Dot) (es : Items) → T (below_all dot_cmp d es)
+    → T (below_all dot_cmp d (filter p es))
 below-filter p d [] h = tt
 below-filter p d (e ∷ es) h =
     let l = both _ _ h in
     elim (p e) as (λ t. T (below_all dot_cmp d (cond t (e ∷ filter p es) (filter p es)))) [ true ↦ pair _ _ l.0 (below-filter p d es l.1) | false ↦ below-filter p d es l.1 ]
 
-sorted-take : (n : ℕ) (es : Items) → T (sets.is_sorted dot_cmp es) → T (sets.is_sorted dot_cmp (take n es))
+sorted-take : (n : ℕ) (es : Items) → T (sets.is_sorted dot_cmp es)
+    → T (sets.is_sorted dot_cmp (take n es))
 sorted-take zero es h = tt
 sorted-take (suc n) [] h = tt
 sorted-take (suc n) (e ∷ es) h = let p = both _ _ h in pair _ _ (below-take e.0 n es p.0) (sorted-take n es p.1)
 
-sorted-filter : (p : Dot × Slot → Bool) (es : Items) → T (sets.is_sorted dot_cmp es) → T (sets.is_sorted dot_cmp (filter p es))
+sorted-filter : (p : Dot × Slot → Bool) (es : Items) → T (sets.is_sorted dot_cmp es)
+    → T (sets.is_sorted dot_cmp (filter p es))
 sorted-filter p [] h = tt
 sorted-filter p (e ∷ es) h =
     let l = both _ _ h in
     elim (p e) as (λ t. T (sets.is_sorted dot_cmp (cond t (e ∷ filter p es) (filter p es)))) [ true ↦ pair _ _ (below-filter p e.0 es l.0) (sorted-filter p es l.1) | false ↦ sorted-filter p es l.1 ]
 
-ascends_above : (d : Dot) (es : Items) → T (below_all dot_cmp d es) → T (sets.is_sorted dot_cmp es) → ascends (Some d) es ≡ true
+ascends_above : (d : Dot) (es : Items) → T (below_all dot_cmp d es) → T (sets.is_sorted dot_cmp es)
+    → ascends (Some d) es ≡ true
 ascends_above d [] low sorted = refl
 ascends_above d (e ∷ es) low sorted =
     let l = both _ _ low in
@@ -156,10 +164,14 @@ ascends_sorted (e ∷ es) sorted = let s = both _ _ sorted in ascends_above e.0 
 -- ---- a page in bytes
 
 -- the newest kind shows whether a mark is among the items
-horizon_is : (horizon : ℕ) (items : Items) → horizon_by (newest_kind 0 items) horizon ≡ horizon_with horizon items
+horizon_is : (horizon : ℕ) (items : Items)
+    → horizon_by (newest_kind 0 items) horizon ≡ horizon_with horizon items
 horizon_is horizon items = ap (λ t. cond t (Some horizon) None) (mark_told items)
 
-pub page_is : (made : Page) (P : StoreFields) (v : Vector) (after : Option Dot) (limit : ℕ) (dots : List Dot) (more : Bool) → dots ≡ map dot_of (take limit (beyond P.slots v after)) → more ≡ nat_lt limit (length (beyond P.slots v after)) → IsPageAt made P dots more → IsPageOf made (page_within limit P v after)
+pub page_is : (made : Page) (P : StoreFields) (v : Vector) (after : Option Dot) (limit : ℕ) (dots : List Dot) (more : Bool)
+    → dots ≡ map dot_of (take limit (beyond P.slots v after))
+    → more ≡ nat_lt limit (length (beyond P.slots v after)) → IsPageAt made P dots more
+    → IsPageOf made (page_within limit P v after)
 page_is made P v after limit dots more same follows at =
     let found = take limit (beyond P.slots v after) in
     let count : length dots ≡ length found = ap length same ∙ length-map found dot_of in
@@ -172,15 +184,20 @@ page_is made P v after limit dots more same follows at =
     }
 
 -- a page has a horizon exactly if its version has one
-horizon_fits : (horizon : ℕ) (items : Items) → moment.Fits horizon → HorizonFits (version_of items) (horizon_with horizon items)
+horizon_fits : (horizon : ℕ) (items : Items) → moment.Fits horizon
+    → HorizonFits (version_of items) (horizon_with horizon items)
 horizon_fits horizon items fits = by_mark (list_any is_mark items) (horizon_told items)
   where
-    by_mark : (t : Bool) → has_horizon (version_of items) ≡ t → HorizonFits (version_of items) (cond t (Some horizon) None)
+    by_mark : (t : Bool) → has_horizon (version_of items) ≡ t
+        → HorizonFits (version_of items) (cond t (Some horizon) None)
     by_mark true is = (fits, is)
     by_mark false is = is
 
 -- a page has a spelling
-pub page_fits : (P : StoreFields) (v : Vector) (after : Option Dot) (limit : ℕ) (dots : List Dot) → limit ≤ max_items → dots ≡ map dot_of (take limit (beyond P.slots v after)) → moment.Fits P.horizon → AllByRecursion item.Fits (items_at P.slots dots) → bundle.Fits (page_within limit P v after).bundle
+pub page_fits : (P : StoreFields) (v : Vector) (after : Option Dot) (limit : ℕ) (dots : List Dot)
+    → limit ≤ max_items → dots ≡ map dot_of (take limit (beyond P.slots v after))
+    → moment.Fits P.horizon → AllByRecursion item.Fits (items_at P.slots dots)
+    → bundle.Fits (page_within limit P v after).bundle
 page_fits P v after limit dots low same horizon fits =
     let found = take limit (beyond P.slots v after) in
     let items : items_at P.slots dots ≡ found = ap (items_at P.slots) same ∙ page_items P.slots v after limit in
@@ -198,7 +215,8 @@ page_fits P v after limit dots low same horizon fits =
 -- ---- single items
 
 -- the length of a dot, and the dot, are the mark of the dot
-pub mark_written : (d : Dot) (old mid new : List ℕ) → mid ≡ old ++ number_spelling w16 dot_size → new ≡ mid ++ dot_field.spell d → new ≡ old ++ item.spell (mark_at d)
+pub mark_written : (d : Dot) (old mid new : List ℕ) → mid ≡ old ++ number_spelling w16 dot_size
+    → new ≡ mid ++ dot_field.spell d → new ≡ old ++ item.spell (mark_at d)
 unfolding text_spelling
 mark_written d old mid new size dot =
     dot ∙ ap (λ bytes. bytes ++ dot_field.spell d) size ∙ append_assoc old (number_spelling w16 dot_size) (dot_field.spell d)
@@ -211,5 +229,6 @@ single_fits f fits =
     ((none, ((omega arith, refl), (fits, tt))), refl)
 
 -- a fact that a store holds at a dot passes its check
-pub held_passes : (P : StoreFields) (d : Dot) (b : Body) → IsFactSet (held_facts P) → sets.get P.slots d ≡ Some (Held b) → refusal_of b ≡ None
+pub held_passes : (P : StoreFields) (d : Dot) (b : Body) → IsFactSet (held_facts P)
+    → sets.get P.slots d ≡ Some (Held b) → refusal_of b ≡ None
 held_passes P d b sound at = sound d b (get_held P.slots d ∙ ap held_slot at)

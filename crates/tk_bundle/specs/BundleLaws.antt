@@ -11,8 +11,8 @@ use Rattle.std.proofs.lemmas.Option.{cond_some}
 use Rattle.tk_format.specs.Format.{◌>>=◌, Format, byte}
 use Rattle.tk_format.specs.Exact.{IsBytes, IsExact, Takes, Takes-then, bind_some, prefix_free}
 use Rattle.tk_format.specs.Exact.{some_is}
-use Rattle.tk_format.specs.Laws.{byte_exact, u16_exact, only_exact, after_exact, counted_exact}
-use Rattle.tk_format.specs.Laws.{both_exact, shaped_exact}
+use Rattle.tk_format.specs.NumberLaws.{byte_exact, u16_exact}
+use Rattle.tk_format.specs.Laws.{only_exact, after_exact, counted_exact, both_exact, shaped_exact}
 use Rattle.tk_handle.specs.Moment.{moment}
 use Rattle.tk_handle.proofs.FormatLaws.{moment_exact}
 use Rattle.tk_bundle.specs.BundleFields.{BundleFields}

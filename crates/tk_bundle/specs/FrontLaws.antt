@@ -2,39 +2,37 @@
 --   walk_more, walk_fail, walk_done   one step of the walk over items
 --   walk_ends      the walk leaves the end of the bytes
 --   walk_bundle    a bundle at the front is walked over
---   walk_torn      the beginning of a bundle, unless it is the whole bundle, is cut
 --   front_split    the bytes before the end that the walk leaves are the bundle's
 --   front_is       the bundle that is read there is the one at the front
-use Rattle.std.proofs.Common.{◌≡◌, ◌≢◌, ℕ, zero, suc, ◌+◌, ◌-◌, ◌<◌, ◌≤◌, Bool, true, false, cond}
-use Rattle.std.proofs.Common.{not, ltb, List, [], ◌∷◌, ◌++◌, length, take, drop, Option, Some, None}
+use Rattle.std.proofs.Common.{◌≡◌, ℕ, zero, suc, ◌+◌, ◌-◌, ◌<◌, ◌≤◌, Bool, true, false, cond}
+use Rattle.std.proofs.Common.{not, ltb, List, [], ◌∷◌, ◌++◌, length, take, Option, Some, None}
 use Rattle.std.proofs.Common.{Result, Ok, Err, refl, sym, ap, subst, ◌∙◌, append_assoc, arith}
 use Rattle.std.specs.Str.{bytes_eq}
-use Rattle.std.specs.Int.{w16, w64, from_be_bytes}
+use Rattle.std.specs.Int.{w16, w64}
 use Rattle.std.specs.List.{flat_map, AllByRecursion}
-use Rattle.std.proofs.lemmas.List.{take_at, take-append-le, drop-append-le, length-append}
-use Rattle.std.proofs.lemmas.List.{append-nil}
-use Rattle.std.proofs.lemmas.Bool.{le-ltb, ltb-false}
-use Rattle.tk_format.specs.Format.{◌⊗◌, number, byte, number_at, number_spelling, bytes_at}
+use Rattle.std.proofs.lemmas.List.{take_at, length-append}
+use Rattle.std.proofs.lemmas.Bool.{le-ltb}
+use Rattle.tk_format.specs.Format.{number, number_spelling}
 use Rattle.tk_format.specs.Format.{bytes_of, text_spelling}
-use Rattle.tk_format.specs.Laws.{byte_exact, u16_exact, bytes_exact, both_exact}
-use Rattle.tk_format.specs.Exact.{IsBytes, IsExact, Takes, Takes-then, bind_some, guard_some}
-use Rattle.tk_format.specs.Exact.{some_is, prefix_free}
+use Rattle.tk_format.specs.NumberLaws.{byte_exact, u16_exact, bytes_exact}
+use Rattle.tk_format.specs.Laws.{both_exact}
+use Rattle.tk_format.specs.Exact.{IsBytes, IsExact, Takes, Takes-then}
+use Rattle.tk_format.specs.Exact.{prefix_free}
 use Rattle.tk_format.specs.Spellings.{number_length}
 use Rattle.tk_bundle.specs.BundleLaws.{bundle_exact}
 use Rattle.tk_bundle.specs.declared.error.FrontError.{FrontError}
-use Rattle.tk_bundle.specs.declared.error.FrontError.TheVariants.{Malformed, Memory, Cut}
+use Rattle.tk_bundle.specs.declared.error.FrontError.TheVariants.{Malformed, Cut}
 use Rattle.std.proofs.lemmas.List.Concat.{flat_map-cons}
 use borrow.Author.Tests.{leb-true}
 use Rattle.tk_handle.specs.declared.dot.Dot.{Dot}
-use Rattle.tk_handle.specs.Moment.{moment}
 use Rattle.tk_fact.specs.FactBytes.{max_bytes}
 use Rattle.tk_store.specs.Slots.{Slot}
 use Rattle.tk_bundle.specs.BundleFields.{BundleFields, Items}
 use Rattle.tk_bundle.specs.Items.{item_bytes, item}
-use Rattle.tk_bundle.specs.Versions.{version_of, is_version, has_horizon}
+use Rattle.tk_bundle.specs.Versions.{version_of, is_version}
 use Rattle.tk_bundle.specs.VersionLaws.{version_known}
 use Rattle.tk_bundle.specs.Bundle.{magic, max_items, bundle, horizon_bytes, HorizonFits}
-use Rattle.tk_bundle.specs.Front.{◌>>=◌, or_cut, malformed_if, cut_if, opening, least_header}
+use Rattle.tk_bundle.specs.Front.{◌>>=◌, or_cut, malformed_if, opening, least_header}
 use Rattle.tk_bundle.specs.Front.{horizon_size, header, skipped, skipped_many, walk}
 
 -- a walk over items goes on behind the next one
@@ -76,7 +74,7 @@ bind_ok (Err d) f y e = absurd cc
 abbrev walked : {A : Type 0} → A → Result A FrontError
 walked x = Ok x
 
-ok_is : {A : Type 0} (x y : A) → walked x ≡ walked y → x ≡ y
+pub ok_is : {A : Type 0} (x y : A) → walked x ≡ walked y → x ≡ y
 ok_is x y e = cc
 
 cut_ok : {A : Type 0} (o : Option A) (x : A) → or_cut o ≡ Ok x → o ≡ Some x
@@ -125,11 +123,11 @@ many_end (suc n) bytes rest fits e =
     Ends-then bytes first.0 a.0 rest first.1 (many_end n a.0 rest first.1.rest_fits a.2)
 
 -- the walk behind the header
-abbrev counted_rest : (List ℕ × ℕ) × List ℕ → Result (List ℕ) FrontError
+abbrev pub counted_rest : (List ℕ × ℕ) × List ℕ → Result (List ℕ) FrontError
 counted_rest h = malformed_if (ltb max_items h.0.1) (skipped_many h.0.1 h.1)
 
 -- the walk behind the opening
-abbrev opened : (List ℕ × ℕ) × List ℕ → Result (List ℕ) FrontError
+abbrev pub opened : (List ℕ × ℕ) × List ℕ → Result (List ℕ) FrontError
 opened f = malformed_if (not (bytes_eq f.0.0 magic)) (malformed_if (not (is_version f.0.1))
     (or_cut ((header f.0.1).read f.1) >>= counted_rest))
 
@@ -224,140 +222,6 @@ walk_bundle b rest fits =
       u16_exact.again (length b.items) (items ++ rest) fits.0.1.0.0,
       few,
     ) (many_items b.items rest fits.0.1.1)
-
--- ---- a walk over more bytes, and the walk over the beginning of a bundle
-
--- a walk that results in r over some bytes results in `longer` if `more` follows them
-abbrev GoesOn : List ℕ → Result (List ℕ) FrontError → Result (List ℕ) FrontError → Type 0
-GoesOn more (Ok rest) longer = longer ≡ Ok (rest ++ more)
-GoesOn more (Err Malformed) longer = longer ≡ Err Malformed
-GoesOn more (Err Cut) longer = Unit {0}
-GoesOn more (Err Memory) longer = ⊥
-
-read_on : {A : Type 0} (more : List ℕ) (o longer : Option (A × List ℕ)) (f : A × List ℕ
-    → Result (List ℕ) FrontError) → ((x : A × List ℕ) → o ≡ Some x
-    → longer ≡ Some (x.0, x.1 ++ more))
-    → ((x : A × List ℕ) → GoesOn more (f x) (f (x.0, x.1 ++ more)))
-    → GoesOn more (or_cut o >>= f) (or_cut longer >>= f)
-read_on more None longer f reads next = tt
-read_on more (Some x) longer f reads next = rw (reads x refl) (next x)
-
-walk_on : (more : List ℕ) (r longer : Result (List ℕ) FrontError) (f : List ℕ
-    → Result (List ℕ) FrontError) → GoesOn more r longer
-    → ((rest : List ℕ) → GoesOn more (f rest) (f (rest ++ more)))
-    → GoesOn more (r >>= f) (longer >>= f)
-walk_on more (Ok rest) longer f so_far next = rw so_far (next rest)
-walk_on more (Err Malformed) longer f so_far next = rw so_far refl
-walk_on more (Err Cut) longer f so_far next = tt
-walk_on more (Err Memory) longer f so_far next = absurd so_far
-
-unless : (more : List ℕ) (b : Bool) (r longer : Result (List ℕ) FrontError) → GoesOn more r longer
-    → GoesOn more (cond b (Err Malformed) r) (cond b (Err Malformed) longer)
-unless more true r longer h = refl
-unless more false r longer h = h
-
-bytes_on : (n : ℕ) (bytes more : List ℕ) (x : List ℕ × List ℕ) → (bytes_of n).read bytes ≡ Some x
-    → (bytes_of n).read (bytes ++ more) ≡ Some (x.0, x.1 ++ more)
-unfolding bytes_at
-bytes_on n bytes more x e =
-    let g = guard_some (ltb (length bytes) n) (take n bytes, drop n bytes) x e in
-    let within : n ≤ length bytes = ltb-false (length bytes) n g.0 in
-    let long : ltb (length (bytes ++ more)) n ≡ false =
-    le-ltb _ _ (omega (arith, length-append bytes more)) in
-    rw (long, take-append-le n bytes more within, drop-append-le n bytes more within)
-    (ap (λ (y : List ℕ × List ℕ). Some (y.0, y.1 ++ more)) g.1)
-
-number_on : (bytes more : List ℕ) (x : ℕ × List ℕ) → (number w16).read bytes ≡ Some x
-    → (number w16).read (bytes ++ more) ≡ Some (x.0, x.1 ++ more)
-unfolding number_at
-number_on bytes more x e =
-    let g = guard_some (ltb (length bytes) 2) (from_be_bytes w16 (take 2 bytes), drop 2 bytes) x
-    e in
-    let within : 2 ≤ length bytes = ltb-false (length bytes) 2 g.0 in
-    let long : ltb (length (bytes ++ more)) 2 ≡ false =
-    le-ltb _ _ (omega (arith, length-append bytes more)) in
-    rw (long, take-append-le 2 bytes more within, drop-append-le 2 bytes more within)
-    (ap (λ (y : ℕ × List ℕ). Some (y.0, y.1 ++ more)) g.1)
-
-skipped_on : (bytes more : List ℕ) → GoesOn more (skipped bytes) (skipped (bytes ++ more))
-skipped_on bytes more =
-    read_on more _ _ _ (number_on bytes more) (λ n.
-    unless more (ltb max_bytes n.0) _ _ (read_on more _ _ (λ b. Ok b.1) (bytes_on n.0 n.1 more)
-    (λ b. refl)))
-
-many_on : (n : ℕ) (bytes more : List ℕ)
-    → GoesOn more (skipped_many n bytes) (skipped_many n (bytes ++ more))
-unfolding skipped_many
-many_on zero bytes more = refl
-many_on (suc n) bytes more =
-    walk_on more (skipped bytes) (skipped (bytes ++ more)) (λ rest. skipped_many n rest)
-    (skipped_on bytes more) (λ rest. many_on n rest more)
-
-byte_on : (bytes more : List ℕ) (x : ℕ × List ℕ) → byte.read bytes ≡ Some x
-    → byte.read (bytes ++ more) ≡ Some (x.0, x.1 ++ more)
-byte_on [] more x e = absurd cc
-byte_on (b ∷ bytes) more x e =
-    ap (λ (y : ℕ × List ℕ). Some (y.0, y.1 ++ more)) (some_is (b, bytes) x e)
-
-opening_on : (bytes more : List ℕ) (x : (List ℕ × ℕ) × List ℕ) → opening.read bytes ≡ Some x
-    → opening.read (bytes ++ more) ≡ Some (x.0, x.1 ++ more)
-opening_on bytes more x e =
-    let m = bind_some ((bytes_of 3).read bytes) _ x e in
-    let v = bind_some (byte.read m.0.1) _ x m.2 in
-    rw (bytes_on 3 bytes more m.0 m.1, byte_on m.0.1 more v.0 v.1)
-    (ap (λ (y : (List ℕ × ℕ) × List ℕ). Some (y.0, y.1 ++ more)) (some_is _ x v.2))
-
-header_on : (digit : ℕ) (bytes more : List ℕ) (x : (List ℕ × ℕ) × List ℕ)
-    → (header digit).read bytes ≡ Some x
-    → (header digit).read (bytes ++ more) ≡ Some (x.0, x.1 ++ more)
-header_on digit bytes more x e =
-    let h = bind_some ((bytes_of (horizon_size digit)).read bytes) _ x e in
-    let n = bind_some ((number w16).read h.0.1) _ x h.2 in
-    rw (bytes_on (horizon_size digit) bytes more h.0 h.1, number_on h.0.1 more n.0 n.1)
-    (ap (λ (y : (List ℕ × ℕ) × List ℕ). Some (y.0, y.1 ++ more)) (some_is _ x n.2))
-
--- a walk that is cut at once may go on in any way over more bytes
-short_on : (more : List ℕ) (short still : Bool) (r longer : Result (List ℕ) FrontError)
-    → (short ≡ false → still ≡ false) → GoesOn more r longer
-    → GoesOn more (cut_if short r) (cut_if still longer)
-short_on more true still r longer h on = tt
-short_on more false true r longer h on = let e = h refl in absurd cc
-short_on more false false r longer h on = on
-
-walk_goes_on : (bytes more : List ℕ) → GoesOn more (walk bytes) (walk (bytes ++ more))
-walk_goes_on bytes more =
-    short_on more (ltb (length bytes) least_header) (ltb (length (bytes ++ more)) least_header) _ _
-    (λ long. le-ltb (length (bytes ++ more)) least_header
-    (omega (arith, length-append bytes more, ltb-false (length bytes) least_header long)))
-    (read_on more _ _ opened (opening_on bytes more) (λ f.
-    unless more (not (bytes_eq f.0.0 magic)) _ _ (unless more (not (is_version f.0.1)) _ _
-    (read_on more _ _ counted_rest (header_on f.0.1 f.1 more) (λ h.
-    unless more (ltb max_items h.0.1) _ _ (many_on h.0.1 h.1 more))))))
-
--- if a walk ends well, the walk over the beginning of the bytes is cut
-cut_before : (more : List ℕ) (r longer : Result (List ℕ) FrontError) → GoesOn more r longer
-    → longer ≡ Ok [] → more ≢ [] → r ≡ Err Cut
-cut_before more (Ok rest) longer h whole some =
-    absurd (some (append_is_nil rest (ok_is (rest ++ more) [] (sym h ∙ whole))))
-  where
-    append_is_nil : (a : List ℕ) → a ++ more ≡ [] → more ≡ []
-    append_is_nil [] e = e
-    append_is_nil (x ∷ a) e = absurd cc
-cut_before more (Err Malformed) longer h whole some = absurd cc
-cut_before more (Err Cut) longer h whole some = refl
-cut_before more (Err Memory) longer h whole some = absurd h
-
--- the walk over a proper beginning of a bundle is cut
-pub walk_torn : (bytes : List ℕ) (b : BundleFields) (rest : List ℕ) → bundle.Fits b
-    → bytes ++ rest ≡ bundle.spell b → rest ≢ [] → walk bytes ≡ Err Cut
-walk_torn bytes b rest fits e some =
-    cut_before rest (walk bytes) (walk (bytes ++ rest)) (walk_goes_on bytes rest)
-    (ap walk (e ∙ sym (append-nil (bundle.spell b))) ∙ walk_bundle b [] fits) some
-
--- no walk ends over a proper beginning of a bundle
-pub torn_walked : (bytes left : List ℕ) (b : BundleFields) (rest : List ℕ) → walk bytes ≡ Ok left
-    → bundle.Fits b → bytes ++ rest ≡ bundle.spell b → rest ≢ [] → ⊥
-torn_walked bytes left b rest ok fits e some = let t = walk_torn bytes b rest fits e some in cc
 
 -- ---- the bytes before the rest
 

@@ -2,9 +2,9 @@
 --   item_exact     an item has one spelling
 --   dot_length     a dot has ten bytes
 --   mark_fits      the mark of a dot has a spelling
-use Rattle.std.proofs.Common.{◌≡◌, ℕ, ◌+◌, ◌<◌, ◌^◌, Bool, true, false, cond, eqb, nat_le, List, []}
-use Rattle.std.proofs.Common.{◌∷◌, ◌++◌}
-use Rattle.std.proofs.Common.{length, Option, Some, None, refl, sym, ap, subst, ◌∙◌, append_assoc}
+use Rattle.std.proofs.Common.{◌≡◌, ℕ, ◌+◌, ◌<◌, Bool, true, false, cond, eqb, nat_le, List}
+use Rattle.std.proofs.Common.{◌++◌}
+use Rattle.std.proofs.Common.{length, Option, Some, None, refl, ap, subst, ◌∙◌, append_assoc}
 use Rattle.std.proofs.Common.{arith}
 use Rattle.std.specs.Int.{w16, w64}
 use Rattle.std.specs.Option.{option_map}
@@ -20,7 +20,7 @@ use Rattle.tk_handle.specs.DotBytes.{dot_field}
 use Rattle.tk_handle.proofs.FormatLaws.{dot_field_exact}
 use Rattle.tk_fact.specs.declared.body.Body.{Body}
 use Rattle.tk_fact.specs.declared.body.Body.TheVariants as bodies
-use Rattle.tk_fact.specs.FactBytes.{kinds, body, fact, max_bytes, framed}
+use Rattle.tk_fact.specs.FactBytes.{kinds, body, fact, max_bytes}
 use Rattle.tk_fact.specs.FactLaws.{fact_exact}
 use Rattle.tk_store.specs.Slots.{Slot, Held, Skipped}
 use Rattle.tk_store.specs.WholeStores.{as_slot}

@@ -9,7 +9,8 @@
 --   Front         walk, over the lengths of the first bundle of many bytes; IsCut
 --   ItemLaws      item_exact, an item has one spelling
 --   BundleLaws    bundle_exact, a bundle has one spelling
---   FrontLaws     walk_bundle, a bundle at the front is walked over; walk_torn
+--   FrontLaws     walk_bundle, a bundle at the front is walked over
+--   TornLaws      walk_torn, the beginning of a bundle is cut
 --   VersionLaws   version_known, items have a version; version_tells
 pub mod Bundle
 pub mod BundleFields
@@ -21,6 +22,7 @@ pub mod Items
 pub mod News
 pub mod Page
 pub mod Paging
+pub mod TornLaws
 pub mod VersionLaws
 pub mod Versions
 pub use Rattle.tk_store.specs.FactSet

@@ -1,29 +1,28 @@
 -- A write at one place of one page is a write at one dot. Key results:
 --   seen_put, seen_same, seen_taken        the map after the write
 --   paged_new, paged_over, paged_less ..   the number of values after the write
-use Rattle.std.proofs.Common.{◌≡◌, ◌≢◌, ℕ, ◌+◌, ◌*◌, ◌/◌, ◌%◌, ◌-◌, ◌<◌, ◌≤◌, ◌==◌, ◌&&◌, Bool, true, false, cond, length, List, Option, Some, None, IsSome, is_some, option_map, refl, sym, ap, subst, ◌∙◌, inl, inr, arith, get_or}
-use Rattle.std.proofs.lemmas.Bool.{cases_Bool, cond-true, cond-false, cases_lt, and_parts, false_from_ne_true}
+use Rattle.std.proofs.Common.{◌≡◌, ◌≢◌, ℕ, ◌+◌, ◌%◌, ◌-◌, ◌≤◌, ◌==◌, ◌&&◌, Bool}
+use Rattle.std.proofs.Common.{true, false, cond, Option, Some, None, is_some}
+use Rattle.std.proofs.Common.{option_map, refl, sym, ap, ◌∙◌, inl, inr, arith}
+use Rattle.std.proofs.Common.{eqb-true as nat_same}
+use Rattle.std.proofs.lemmas.Bool.{cases_Bool, cond-true, cond-false, cases_lt, and_parts}
+use Rattle.std.proofs.lemmas.Bool.{false_from_ne_true, and_from as and_true}
 use Rattle.std.proofs.lemmas.Bool.Decides.{nat_tests}
-use Rattle.std.specs.Ordering.{eq_by_cmp, is_eq}
+use Rattle.std.specs.Ordering.{eq_by_cmp}
 use Rattle.std.specs.BTreeMap.{get}
 use Rattle.std.specs.FinMap as map
 use Rattle.tk_handle.specs.declared.dot.Dot.{Dot}
 use Rattle.tk_handle.specs.Dot.{dot_cmp, dot_cmp_total, dot_cmp-IsAntisymmetric}
 use mathlib.Core.Bool.{false≢true}
-use Rattle.tk_dots.specs.Pages.{span, page_of, Slots, Pages, slot_in, cell, cell_at, seen, IsPages, IsPaged}
+use Rattle.tk_dots.specs.Pages.{span, page_of, Pages, cell, cell_at, seen, IsPages}
+use Rattle.tk_dots.specs.Pages.{IsPaged}
 use Rattle.tk_dots.proofs.PlaceLaws.{tied, tied_same, same_place, get_seen}
-
-pub nat_same : (a b : ℕ) → (a == b) ≡ true → a ≡ b
-nat_same a b h = grind (arith, nat_tests)
 
 pub nat_is : (a b : ℕ) → a ≡ b → (a == b) ≡ true
 nat_is a b h = grind (arith, nat_tests)
 
-and_true : (a b : Bool) → a ≡ true → b ≡ true → (a && b) ≡ true
-and_true true b e f = f
-and_true false b e f = absurd (false≢true e)
-
-same_test : (q d : Dot) → (eq_by_cmp dot_cmp (page_of q) (page_of d) && ((q.serial % span) == (d.serial % span))) ≡ eq_by_cmp dot_cmp q d
+same_test : (q d : Dot)
+    → (eq_by_cmp dot_cmp (page_of q) (page_of d) && ((q.serial % span) == (d.serial % span))) ≡ eq_by_cmp dot_cmp q d
 same_test q d = elim (cases_Bool (eq_by_cmp dot_cmp q d)) [
   | inl same ↦
       and_true _ _ (tied_same (page_of q) (page_of d) (ap page_of (tied q d same))) (nat_is (q.serial % span) (d.serial % span) (ap (λ (x : Dot). x.serial % span) (tied q d same))) ∙ sym same
@@ -44,7 +43,8 @@ module _ {X : Type 0} where
     abbrev Written : Option X → Type 0
     Written o = (k : Dot) (j : ℕ) → cell N k j ≡ cond (eq_by_cmp dot_cmp k k0 && (j == i)) o (cell P k j)
 
-    written_at : (o : Option X) → Written o → (q : Dot) → cell_at N q ≡ cond (eq_by_cmp dot_cmp q d) o (cell_at P q)
+    written_at : (o : Option X) → Written o → (q : Dot)
+        → cell_at N q ≡ cond (eq_by_cmp dot_cmp q d) o (cell_at P q)
     written_at o h q =
         h (page_of q) (q.serial % span)
         ∙ ap (λ (k : Dot). cond (eq_by_cmp dot_cmp (page_of q) k && ((q.serial % span) == i)) o (cell_at P q)) page
@@ -57,7 +57,8 @@ module _ {X : Type 0} where
     pub get_here : cell P k0 i ≡ map.get F d
     get_here = ap (λ (k : Dot). cell P k i) page ∙ ap (λ (n : ℕ). cell P (page_of d) n) place ∙ at_seen d
 
-    get_written : (o : Option X) → Written o → (q : Dot) → map.get (seen N.entries) q ≡ cond (eq_by_cmp dot_cmp q d) o (map.get F q)
+    get_written : (o : Option X) → Written o → (q : Dot)
+        → map.get (seen N.entries) q ≡ cond (eq_by_cmp dot_cmp q d) o (map.get F q)
     get_written o h q = get_seen N q ∙ written_at o h q ∙ ap (cond (eq_by_cmp dot_cmp q d) o) (at_seen q)
 
     pub seen_put : (x : X) → Written (Some x) → seen N.entries ≡ map.insert F d x
@@ -94,7 +95,8 @@ module _ {X : Type 0} where
       ]
 
       module _ (pages : IsPages N) where
-        pub paged_new : (x : X) → Written (Some x) → is_some (cell P k0 i) ≡ false → IsPaged N (len + 1)
+        pub paged_new : (x : X) → Written (Some x) → is_some (cell P k0 i) ≡ false
+            → IsPaged N (len + 1)
         paged_new x h none = record {
           pages = pages;
           counted = ap (λ (n : ℕ). n + 1) counted_here ∙ sym (ap map.len (seen_put x h) ∙ map.len-insert dot_cmp_total F d x ∙ cond-false _ _ _ (held false none));
@@ -121,7 +123,8 @@ module _ {X : Type 0} where
         pub paged_same : ((k : Dot) (j : ℕ) → cell N k j ≡ cell P k j) → IsPaged N len
         paged_same h = record { pages = pages; counted = counted_here ∙ sym (ap map.len (seen_same h)) }
 
-        pub paged_set : (x : X) → Written (cond (is_some (cell P k0 i)) (Some x) None) → IsPaged N len
+        pub paged_set : (x : X) → Written (cond (is_some (cell P k0 i)) (Some x) None)
+            → IsPaged N len
         paged_set x h = elim (cases_Bool (is_some (cell P k0 i))) [
           | inl some ↦ paged_over x (λ k j. h k j ∙ ap (λ (o : Option X). cond (eq_by_cmp dot_cmp k k0 && (j == i)) o (cell P k j)) (cond-true _ _ _ some)) some
           | inr none ↦ paged_none (λ k j. h k j ∙ ap (λ (o : Option X). cond (eq_by_cmp dot_cmp k k0 && (j == i)) o (cell P k j)) (cond-false _ _ _ none)) none

@@ -1,6 +1,8 @@
 -- A map of values and marks is its pages and its runs. Key results:
 --   get_marked   what is at a dot
-use Rattle.std.proofs.Common.{◌≡◌, ◌≢◌, ℕ, ◌≤◌, ◌<◌, max, arith, ◌||◌, Bool, true, false, cond, List, [], ◌∷◌, Option, Some, None, IsSome, is_some, option_map, refl, sym, ap, subst, ◌∙◌, inl, inr, ◌⊎◌}
+use Rattle.std.proofs.Common.{◌≡◌, ◌≢◌, ℕ, ◌≤◌, ◌<◌, max, arith, ◌||◌, Bool, true, false, cond}
+use Rattle.std.proofs.Common.{List, [], ◌∷◌, Option, Some, None, IsSome, is_some, option_map, refl}
+use Rattle.std.proofs.Common.{sym, ap, subst, ◌∙◌, inl, inr, ◌⊎◌}
 use Rattle.std.proofs.lemmas.Bool.{cases_Bool, cases_lt, cond-true, cond-false, or_left}
 use Rattle.std.proofs.lemmas.Bool.Decides.{nat_tests}
 use Rattle.std.specs.List.{list_any}
@@ -10,16 +12,13 @@ use Rattle.std.specs.FinSet as set
 use Rattle.tk_handle.specs.declared.dot.Dot.{Dot}
 use Rattle.tk_handle.specs.Dot.{dot_cmp, dot_cmp_total, dot_cmp-IsAntisymmetric}
 use mathlib.Core.Bool.{false≢true}
-use Rattle.tk_dots.specs.Marks.{MarkedMap, with_marks, marked, AreApart, without_value, value_of, IsMarkBelow, Passes}
+use Rattle.tk_dots.specs.Marks.{MarkedMap, with_marks, marked, AreApart, without_value, value_of}
+use Rattle.tk_dots.specs.Marks.{Passes}
 use Rattle.tk_dots.specs.Pages.{IsAbove, IsNext, IsLast}
 use Rattle.tk_dots.specs.Runs.{DotSet, dot_of, IsNextIn, IsLastIn}
-use Rattle.tk_dots.proofs.PlaceLaws.{tied, tied_same, dot_is}
-
-some_none : {A : Type 0} (x : A) → Some x ≡ None → ⊥
-some_none x h = cc
-
-none_is : {A : Type 0} (x : A) → None ≡ Some x → ⊥
-none_is x h = cc
+use Rattle.tk_dots.proofs.PlaceLaws.{tied, dot_is}
+use Rattle.tk_handle.proofs.TestLaws.{not_none as none_some, some_none}
+use Rattle.std.proofs.lemmas.Option.{none-some as none_is}
 
 cond_or : {A : Type 0} (a b : Bool) (x y : A) → cond a x (cond b x y) ≡ cond (a || b) x y
 cond_or true b x y = refl
@@ -30,7 +29,8 @@ module _ {X : Type 0} where
   abbrev pub no_value : Option X
   no_value = None
 
-  get_marks : (m : MarkedMap X) (ds : List Dot) (q : Dot) → map.get (with_marks m ds) q ≡ cond (list_any (eq_by_cmp dot_cmp q) ds) (Some None) (map.get m q)
+  get_marks : (m : MarkedMap X) (ds : List Dot) (q : Dot)
+      → map.get (with_marks m ds) q ≡ cond (list_any (eq_by_cmp dot_cmp q) ds) (Some None) (map.get m q)
   get_marks m [] q = refl
   get_marks m (d ∷ ds) q =
       map.get-insert dot_cmp_total (with_marks m ds) d None q
@@ -38,10 +38,12 @@ module _ {X : Type 0} where
       ∙ cond_or (eq_by_cmp dot_cmp q d) (list_any (eq_by_cmp dot_cmp q) ds) (Some None) (map.get m q)
 
   -- what is at a dot: a mark of the runs, or what is on the pages
-  pub get_marked : (m : MarkedMap X) (s : DotSet) (q : Dot) → map.get (marked m s) q ≡ cond (set.contains s q) (Some None) (map.get m q)
+  pub get_marked : (m : MarkedMap X) (s : DotSet) (q : Dot)
+      → map.get (marked m s) q ≡ cond (set.contains s q) (Some None) (map.get m q)
   get_marked m s q = get_marks m (set.items s) q ∙ ap (λ (t : Bool). cond t (Some None) (map.get m q)) (sym (set.contains-items s q))
 
-  pub marked_empty : (m : MarkedMap X) (s : DotSet) → m ≡ map.empty → s ≡ set.empty → marked m s ≡ map.empty
+  pub marked_empty : (m : MarkedMap X) (s : DotSet) → m ≡ map.empty → s ≡ set.empty
+      → marked m s ≡ map.empty
   marked_empty m s none nothing = map.same_map dot_cmp_total dot_cmp-IsAntisymmetric _ _ (λ q.
       get_marked m s q
       ∙ ap (λ (t : DotSet). cond (set.contains t q) (Some None) (map.get m q)) nothing
@@ -73,7 +75,8 @@ module _ {X : Type 0} where
     free_page q free = sym (at_page q (free_run q free)) ∙ free
 
     -- what is on a page is at the dot, since no run has it
-    pub page_is : AreApart m s → (q : Dot) (o : Option X) → map.get m q ≡ Some o → map.get F q ≡ Some o
+    pub page_is : AreApart m s → (q : Dot) (o : Option X) → map.get m q ≡ Some o
+        → map.get F q ≡ Some o
     page_is apart q o here = elim (cases_Bool (set.contains s q)) [
       | inl on ↦ absurd (none_is o (sym (apart q on) ∙ here))
       | inr off ↦ at_page q off ∙ here
@@ -90,7 +93,9 @@ module _ {X : Type 0} where
         mark_not x e = cc
 
     -- the pages and the runs hold another map
-    pub same_marked : (n : MarkedMap X) (t : DotSet) (G : MarkedMap X) → ((q : Dot) → cond (set.contains t q) (Some None) (map.get n q) ≡ map.get G q) → marked n t ≡ G
+    pub same_marked : (n : MarkedMap X) (t : DotSet) (G : MarkedMap X)
+        → ((q : Dot) → cond (set.contains t q) (Some None) (map.get n q) ≡ map.get G q)
+        → marked n t ≡ G
     same_marked n t G h = map.same_map dot_cmp_total dot_cmp-IsAntisymmetric _ _ (λ q. get_marked n t q ∙ h q)
 
     -- ---- a value is put
@@ -102,7 +107,8 @@ module _ {X : Type 0} where
       pub put_marked : marked n s ≡ map.insert F d x
       put_marked = same_marked n s (map.insert F d x) (λ q. at_put q ∙ sym (map.get-insert dot_cmp_total F d x q))
         where
-          at_put : (q : Dot) → cond (set.contains s q) (Some None) (map.get n q) ≡ cond (eq_by_cmp dot_cmp q d) (Some x) (map.get F q)
+          at_put : (q : Dot)
+              → cond (set.contains s q) (Some None) (map.get n q) ≡ cond (eq_by_cmp dot_cmp q d) (Some x) (map.get F q)
           at_put q = elim (cases_Bool (eq_by_cmp dot_cmp q d)) [
             | inl same ↦
                 cond-false _ _ _ (ap (set.contains s) (tied q d same) ∙ free_run d free) ∙ get_put q ∙ cond-true _ _ _ same ∙ sym (cond-true _ _ _ same)
@@ -146,7 +152,8 @@ module _ {X : Type 0} where
           over None h = absurd (false≢true h)
           over (Some y) h = refl
 
-          at_over : (q : Dot) → cond (set.contains s q) (Some None) (map.get n q) ≡ cond (eq_by_cmp dot_cmp q d) (Some None) (map.get F q)
+          at_over : (q : Dot)
+              → cond (set.contains s q) (Some None) (map.get n q) ≡ cond (eq_by_cmp dot_cmp q d) (Some None) (map.get F q)
           at_over q = elim (cases_Bool (eq_by_cmp dot_cmp q d)) [
             | inl same ↦ elim (cases_Bool (set.contains s q)) [
               | inl on ↦ cond-true _ _ _ on ∙ sym (cond-true _ _ _ same)
@@ -161,7 +168,8 @@ module _ {X : Type 0} where
       pub over_apart : AreApart m s → AreApart n s
       over_apart apart q on = set' q ∙ none_over (eq_by_cmp dot_cmp q d) (apart q on)
         where
-          none_over : (b : Bool) → map.get m q ≡ None → cond b (option_map (λ _. no_value) (map.get m q)) (map.get m q) ≡ None
+          none_over : (b : Bool) → map.get m q ≡ None
+              → cond b (option_map (λ _. no_value) (map.get m q)) (map.get m q) ≡ None
           none_over true none = ap (option_map (λ _. no_value)) none
           none_over false none = none
 
@@ -178,7 +186,8 @@ module _ {X : Type 0} where
         pub moved_marked : marked k t ≡ map.insert F d None
         moved_marked = same_marked k t (map.insert F d None) (λ q. at_moved q ∙ sym (map.get-insert dot_cmp_total F d None q))
           where
-            at_moved : (q : Dot) → cond (set.contains t q) (Some None) (map.get k q) ≡ cond (eq_by_cmp dot_cmp q d) (Some None) (map.get F q)
+            at_moved : (q : Dot)
+                → cond (set.contains t q) (Some None) (map.get k q) ≡ cond (eq_by_cmp dot_cmp q d) (Some None) (map.get F q)
             at_moved q = elim (cases_Bool (eq_by_cmp dot_cmp q d)) [
               | inl same ↦ cond-true _ _ _ (has_added t d add q ∙ or_left _ _ same) ∙ sym (cond-true _ _ _ same)
               | inr apart ↦
@@ -194,7 +203,8 @@ module _ {X : Type 0} where
 
     -- a mark is moved from its page to the runs
     module _ (k : MarkedMap X) (t : DotSet) (d : Dot) (here : map.get m d ≡ Some no_value) (add : t ≡ set.insert s d) (gone : k ≡ map.remove m d) where
-      itself : (q : Dot) → map.get m q ≡ cond (eq_by_cmp dot_cmp q d) (option_map (λ _. no_value) (map.get m q)) (map.get m q)
+      itself : (q : Dot)
+          → map.get m q ≡ cond (eq_by_cmp dot_cmp q d) (option_map (λ _. no_value) (map.get m q)) (map.get m q)
       itself q = elim (cases_Bool (eq_by_cmp dot_cmp q d)) [
         | inl same ↦
             (ap (map.get m) (tied q d same) ∙ here) ∙ ap (option_map (λ _. no_value)) (sym (ap (map.get m) (tied q d same) ∙ here)) ∙ sym (cond-true _ _ _ same)
@@ -204,7 +214,8 @@ module _ {X : Type 0} where
       pub shift_marked : AreApart m s → marked k t ≡ F
       shift_marked apart = moved_marked m d itself k t add gone ∙ held_mark F d (page_is apart d no_value here)
         where
-          held_mark : (G : MarkedMap X) (d : Dot) → map.get G d ≡ Some no_value → map.insert G d None ≡ G
+          held_mark : (G : MarkedMap X) (d : Dot) → map.get G d ≡ Some no_value
+              → map.insert G d None ≡ G
           held_mark G d h = map.same_map dot_cmp_total dot_cmp-IsAntisymmetric _ _ (λ q. map.get-insert dot_cmp_total G d None q ∙ elim (cases_Bool (eq_by_cmp dot_cmp q d)) [
             | inl same ↦ cond-true _ _ _ same ∙ sym (ap (map.get G) (tied q d same) ∙ h)
             | inr other ↦ cond-false _ _ _ other
@@ -216,10 +227,12 @@ module _ {X : Type 0} where
     -- ---- a value is taken out
 
     -- where a value is
-    pub value_there : (q : Dot) → is_some (value_of (map.get F q)) ≡ true → (x : X) × (map.get F q ≡ Some (Some x))
+    pub value_there : (q : Dot) → is_some (value_of (map.get F q)) ≡ true
+        → (x : X) × (map.get F q ≡ Some (Some x))
     value_there q h = by_slot (map.get F q) h
       where
-        by_slot : (o : Option (Option X)) → is_some (value_of o) ≡ true → (x : X) × (o ≡ Some (Some x))
+        by_slot : (o : Option (Option X)) → is_some (value_of o) ≡ true
+            → (x : X) × (o ≡ Some (Some x))
         by_slot None h = absurd (false≢true h)
         by_slot (Some None) h = absurd (false≢true h)
         by_slot (Some (Some x)) h = (x, refl)
@@ -237,7 +250,8 @@ module _ {X : Type 0} where
       pub taken_marked : set.contains s d ≡ false → marked k s ≡ map.remove F d
       taken_marked off = same_marked k s (map.remove F d) (λ q. at_taken q ∙ sym (map.get-remove dot_cmp_total F d q))
         where
-          at_taken : (q : Dot) → cond (set.contains s q) (Some None) (map.get k q) ≡ cond (eq_by_cmp dot_cmp q d) None (map.get F q)
+          at_taken : (q : Dot)
+              → cond (set.contains s q) (Some None) (map.get k q) ≡ cond (eq_by_cmp dot_cmp q d) None (map.get F q)
           at_taken q = elim (cases_Bool (eq_by_cmp dot_cmp q d)) [
             | inl same ↦
                 cond-false _ _ _ (ap (set.contains s) (tied q d same) ∙ off)
@@ -256,20 +270,20 @@ module _ {X : Type 0} where
           none_taken false none = none
 
   -- without a value nothing is taken
-  pub not_taken : (F : MarkedMap X) (d : Dot) (o : Option (Option X)) → is_some (value_of o) ≡ false → (None ≡ value_of o) × (F ≡ without_value F d o)
+  pub not_taken : (F : MarkedMap X) (d : Dot) (o : Option (Option X)) → is_some (value_of o) ≡ false
+      → (None ≡ value_of o) × (F ≡ without_value F d o)
   not_taken F d None h = (refl, refl)
   not_taken F d (Some None) h = (refl, refl)
   not_taken F d (Some (Some x)) h = absurd (false≢true (sym h))
 
 -- ---- walks
 
-none_some : {A : Type 0} (o : Option A) → o ≡ None → IsSome o → ⊥
-none_some o none some = false≢true (sym (ap is_some none) ∙ some)
-
-below_both : (q a d : Dot) → is_lt (dot_cmp a d) ≡ true → is_lt (dot_cmp q d) ≡ false → is_lt (dot_cmp q a) ≡ false
+below_both : (q a d : Dot) → is_lt (dot_cmp a d) ≡ true → is_lt (dot_cmp q d) ≡ false
+    → is_lt (dot_cmp q a) ≡ false
 below_both q a d h i = grind (arith, nat_tests)
 
-above_both : (q a d : Dot) → is_lt (dot_cmp a d) ≡ false → is_lt (dot_cmp q a) ≡ false → is_lt (dot_cmp q d) ≡ false
+above_both : (q a d : Dot) → is_lt (dot_cmp a d) ≡ false → is_lt (dot_cmp q a) ≡ false
+    → is_lt (dot_cmp q d) ≡ false
 above_both q a d h i = grind (arith, nat_tests)
 
 module _ {X : Type 0} (m : MarkedMap X) (s : DotSet) (F : MarkedMap X) (is : marked m s ≡ F) (apart : AreApart m s) where
@@ -283,34 +297,44 @@ module _ {X : Type 0} (m : MarkedMap X) (s : DotSet) (F : MarkedMap X) (is : mar
   free_at : (q : Dot) → set.contains s q ≡ false → map.get m q ≡ None → map.get F q ≡ None
   free_at q off none = at_page m s F is q off ∙ none
 
-  near_mark : (after : Option Dot) (a : Dot) → IsNextIn s after (Some a) → ((q : Dot) → IsAbove after q → IsSome (map.get m q) → is_lt (dot_cmp q a) ≡ false) → IsNext F after (Some (a, None))
+  near_mark : (after : Option Dot) (a : Dot) → IsNextIn s after (Some a)
+      → ((q : Dot) → IsAbove after q → IsSome (map.get m q) → is_lt (dot_cmp q a) ≡ false)
+      → IsNext F after (Some (a, None))
   near_mark after a next pages = record {
     held = at_run m s F is a next.0;
     above = next.1;
     least = λ q up some. elim (known_at q some) [ inl on ↦ next.2 q up on | inr here ↦ pages q up here ];
   }
 
-  near_place : (after : Option Dot) (p : Dot × Option X) → IsNext m after (Some p) → ((q : Dot) → IsAbove after q → set.contains s q ≡ true → is_lt (dot_cmp q p.0) ≡ false) → IsNext F after (Some p)
+  near_place : (after : Option Dot) (p : Dot × Option X) → IsNext m after (Some p)
+      → ((q : Dot) → IsAbove after q → set.contains s q ≡ true → is_lt (dot_cmp q p.0) ≡ false)
+      → IsNext F after (Some p)
   near_place after p next runs = record {
     held = page_is m s F is apart p.0 p.1 next.held;
     above = next.above;
     least = λ q up some. elim (known_at q some) [ inl on ↦ runs q up on | inr here ↦ next.least q up here ];
   }
 
-  pub next_mark : (after : Option Dot) (a : Dot) (p : Dot × Option X) → IsNextIn s after (Some a) → IsNext m after (Some p) → is_lt (dot_cmp a p.0) ≡ true → IsNext F after (Some (a, None))
+  pub next_mark : (after : Option Dot) (a : Dot) (p : Dot × Option X) → IsNextIn s after (Some a)
+      → IsNext m after (Some p) → is_lt (dot_cmp a p.0) ≡ true → IsNext F after (Some (a, None))
   next_mark after a p mark place lt = near_mark after a mark (λ q up some. below_both q a p.0 lt (place.least q up some))
 
-  pub next_place : (after mark : Option Dot) (p : Dot × Option X) → IsNextIn s after mark → IsNext m after (Some p) → ((a : Dot) → mark ≡ Some a → is_lt (dot_cmp a p.0) ≡ false) → IsNext F after (Some p)
+  pub next_place : (after mark : Option Dot) (p : Dot × Option X) → IsNextIn s after mark
+      → IsNext m after (Some p) → ((a : Dot) → mark ≡ Some a → is_lt (dot_cmp a p.0) ≡ false)
+      → IsNext F after (Some p)
   next_place after None p mark place ge = near_place after p place (λ q up on. absurd (false≢true (sym (mark q up) ∙ on)))
   next_place after (Some a) p mark place ge = near_place after p place (λ q up on. above_both q a p.0 (ge a refl) (mark.2 q up on))
 
-  pub next_mark_alone : (after : Option Dot) (a : Dot) → IsNextIn s after (Some a) → IsNext m after None → IsNext F after (Some (a, None))
+  pub next_mark_alone : (after : Option Dot) (a : Dot) → IsNextIn s after (Some a)
+      → IsNext m after None → IsNext F after (Some (a, None))
   next_mark_alone after a mark place = near_mark after a mark (λ q up some. absurd (none_some (map.get m q) (place q up) some))
 
-  pub next_none : (after : Option Dot) → IsNextIn s after None → IsNext m after None → IsNext F after None
+  pub next_none : (after : Option Dot) → IsNextIn s after None → IsNext m after None
+      → IsNext F after None
   next_none after mark place q up = free_at q (mark q up) (place q up)
 
-  pub passes_is : (after : Option Dot) (r : Option (Dot × Option X)) → IsNext m after r → Passes F after r
+  pub passes_is : (after : Option Dot) (r : Option (Dot × Option X)) → IsNext m after r
+      → Passes F after r
   passes_is after None next = λ q x up h. none_some (map.get m q) (next q up) (ap is_some (value_on m s F is q x h))
   passes_is after (Some p) next = (page_is m s F is apart p.0 p.1 next.held, next.above, λ q x up h. next.least q up (ap is_some (value_on m s F is q x h)))
 
@@ -331,13 +355,16 @@ module _ {X : Type 0} (m : MarkedMap X) (s : DotSet) (F : MarkedMap X) (is : mar
           let same : a ≡ n = omega (arith, ge, e) in
           by_value (map.get m (dot_of r n)) refl (subst (λ (k : ℕ). IsSome (map.get m (dot_of r k))) same (page.there (omega (arith, same, some))))
         where
-          by_value : (o : Option (Option X)) → map.get m (dot_of r n) ≡ o → IsSome o → IsSome (map.get F (dot_of r n))
+          by_value : (o : Option (Option X)) → map.get m (dot_of r n) ≡ o → IsSome o
+              → IsSome (map.get F (dot_of r n))
           by_value None here h = absurd (false≢true h)
           by_value (Some x) here h = ap is_some (page_is m s F is apart (dot_of r n) x here)
 
 -- what is passed on is what was found
-pub passes_copied : {X : Type 0} (F : MarkedMap X) (after : Option Dot) (d : Dot) (x o : Option X) → o ≡ x → Passes F after (Some (d, x)) → Passes F after (Some (d, o))
+pub passes_copied : {X : Type 0} (F : MarkedMap X) (after : Option Dot) (d : Dot) (x o : Option X)
+    → o ≡ x → Passes F after (Some (d, x)) → Passes F after (Some (d, o))
 passes_copied F after d x o e h = (h.0 ∙ ap (λ y. Some y) (sym e), h.1, h.2)
 
-pub next_copied : {X : Type 0} (F : MarkedMap X) (after : Option Dot) (d : Dot) (x o : Option X) → o ≡ x → IsNext F after (Some (d, x)) → IsNext F after (Some (d, o))
+pub next_copied : {X : Type 0} (F : MarkedMap X) (after : Option Dot) (d : Dot) (x o : Option X)
+    → o ≡ x → IsNext F after (Some (d, x)) → IsNext F after (Some (d, o))
 next_copied F after d x o e h = record { held = h.held ∙ ap (λ y. Some y) (sym e); above = h.above; least = h.least }

@@ -1,24 +1,31 @@
 -- The order of dots is that of their pages, and on one page that of their places. Key results:
 --   on_page   the least dot above a dot is found on a page
 --   last_is   the greatest serial of a region
-use Rattle.std.proofs.Common.{◌≡◌, ◌≢◌, ℕ, ◌+◌, ◌*◌, ◌/◌, ◌%◌, ◌-◌, ◌<◌, ◌≤◌, Bool, true, false, cond, length, List, [], ◌∷◌, slice_get, IfSome, Option, Some, None, IsSome, is_some, refl, sym, ap, subst, ◌∙◌, inl, inr, ◌⊎◌, arith, get_or}
+use Rattle.std.proofs.Common.{◌≡◌, ◌≢◌, ℕ, ◌+◌, ◌*◌, ◌/◌, ◌%◌, ◌-◌, ◌<◌, ◌≤◌, true, false}
+use Rattle.std.proofs.Common.{length, List, ◌∷◌, slice_get, IfSome, Option, Some, None}
+use Rattle.std.proofs.Common.{IsSome, is_some, refl, sym, ap, subst, ◌∙◌, inl, inr, ◌⊎◌, arith}
+use Rattle.std.proofs.Common.{get_or}
 use Rattle.std.proofs.lemmas.List.{get_or_past}
-use Rattle.std.proofs.lemmas.Bool.{cases_Bool, cases_lt, false_from_ne_true}
+use Rattle.std.proofs.lemmas.Bool.{cases_lt, false_from_ne_true}
 use Rattle.std.proofs.lemmas.Bool.Decides.{nat_tests}
-use Rattle.std.specs.Ordering.{eq_by_cmp, is_eq, is_lt, is_gt, ordering_reverse}
+use Rattle.std.specs.Ordering.{is_lt, is_gt, ordering_reverse}
 use Rattle.std.specs.declared.cmp.Ordering.{Ordering}
 use Rattle.std.specs.declared.cmp.Ordering.TheVariants.{Less, Equal, Greater}
 use Rattle.std.specs.declared.ops.Bound.{Bound}
 use Rattle.std.specs.declared.ops.Bound.TheVariants.{Excluded, Unbounded}
-use Rattle.std.specs.BTreeMap.Range.{IsLeBy, IsLtBy, IsRangeOf, IsEntryInRange}
+use Rattle.std.specs.BTreeMap.Range.{IsLeBy, IsRangeOf, IsEntryInRange}
 use Rattle.std.specs.BTreeMap.{get}
 use Rattle.std.specs.FinMap as map
 use Rattle.tk_handle.specs.declared.dot.Dot.{Dot}
 use Rattle.tk_handle.specs.Dot.{dot_cmp, dot_cmp_total}
 use Rattle.tk_handle.specs.Ranges.{greatest_serial}
 use mathlib.Core.Bool.{false≢true}
-use Rattle.tk_dots.specs.Pages.{span, page_of, dot_in, Slots, Pages, slot_in, cell, cell_at, seen, FirstFrom, FirstIn, FirstOn, EndsFull, IsPage, IsPages, IsAbove, IsLeastAbove, IsNext, IsLast, IsFirstPage, FirstOfPages}
-use Rattle.tk_dots.proofs.PlaceLaws.{tied, tied_same, dot_is, get_seen}
+use Rattle.tk_dots.specs.Pages.{span, page_of, dot_in, Slots, Pages, slot_in, cell, cell_at, seen}
+use Rattle.tk_dots.specs.Pages.{FirstFrom, FirstIn, FirstOn, IsPage, IsPages, IsAbove}
+use Rattle.tk_dots.specs.Pages.{IsLeastAbove, IsNext, IsLast, FirstOfPages}
+use Rattle.tk_dots.proofs.PlaceLaws.{dot_is, get_seen}
+use Rattle.tk_handle.proofs.TestLaws.{less as is_less, not_none as none_some}
+use Rattle.std.proofs.lemmas.Option.{same_Some as some_same}
 
 -- a dot is below another
 abbrev Before : Dot → Dot → Type 0
@@ -37,20 +44,6 @@ is_before a b (inr h) = let e = h.0 in let f = h.1 in grind (arith, nat_tests)
 not_before : (a b : Dot) → (Before a b → ⊥) → is_lt (dot_cmp a b) ≡ false
 not_before a b h = false_from_ne_true _ (λ t. h (before a b t))
 
-none_some : {A : Type 0} (o : Option A) → o ≡ None → IsSome o → ⊥
-none_some o none some = false≢true (sym (ap is_some none) ∙ some)
-
-some_none : {A : Type 0} (x : A) → Some x ≡ None → ⊥
-some_none x h = cc
-
-some_same : {A : Type 0} (x y : A) → Some x ≡ Some y → x ≡ y
-some_same x y h = cc
-
-pub is_less : (o : Ordering) → is_lt o ≡ true → o ≡ Less
-is_less Less h = refl
-is_less Equal h = absurd (false≢true h)
-is_less Greater h = absurd (false≢true h)
-
 lt_reverse : (o : Ordering) → is_lt (ordering_reverse o) ≡ is_gt o
 lt_reverse Less = refl
 lt_reverse Equal = refl
@@ -67,7 +60,8 @@ place_in k i below = omega arith
 
 module _ {X : Type 0} where
   -- a place with a value is on a page
-  paged : (o : Option (Slots X)) (i : ℕ) → IsSome (slot_in o i) → (v : Slots X) × (o ≡ Some v) × (i < length v.items)
+  paged : (o : Option (Slots X)) (i : ℕ) → IsSome (slot_in o i)
+      → (v : Slots X) × (o ≡ Some v) × (i < length v.items)
   paged None i h = absurd (false≢true h)
   paged (Some v) i h = (
     v,
@@ -89,7 +83,8 @@ module _ {X : Type 0} where
         ∙ ap (λ (j : ℕ). cell m k j) (place_in k i below)
 
     -- a dot with a value has a page
-    pub held_on : (q : Dot) → IsSome (map.get F q) → (v : Slots X) × (get dot_cmp m (page_of q) ≡ Some v) × (q.serial % span < length v.items)
+    pub held_on : (q : Dot) → IsSome (map.get F q)
+        → (v : Slots X) × (get dot_cmp m (page_of q) ≡ Some v) × (q.serial % span < length v.items)
     held_on q h = paged (get dot_cmp m (page_of q)) (q.serial % span) (subst IsSome (at q) h)
 
     page_there : (q : Dot) → IsSome (map.get F q) → IsSome (get dot_cmp m (page_of q))
@@ -125,7 +120,8 @@ module _ {X : Type 0} where
         not_less q i below none (inr (inr e)) held (inr f) = absurd (omega (arith, e.1, f.1, below))
 
     -- a dot above another is at a later place of its page, or on a later page
-    rises : (d q : Dot) → is_lt (dot_cmp d q) ≡ true → ((page_of q ≡ page_of d) × (d.serial % span + 1 ≤ q.serial % span)) ⊎ Before (page_of d) (page_of q)
+    rises : (d q : Dot) → is_lt (dot_cmp d q) ≡ true
+        → ((page_of q ≡ page_of d) × (d.serial % span + 1 ≤ q.serial % span)) ⊎ Before (page_of d) (page_of q)
     rises d q h = elim (before d q h) [
       | inl lt ↦ inr (inl lt)
       | inr e ↦ elim (cases_lt (d.serial / span) (q.serial / span)) [
@@ -137,7 +133,8 @@ module _ {X : Type 0} where
     ]
 
     -- the least dot above is on the page of the dot
-    pub next_here : (d : Dot) (p : Dot × X) → FirstOn m (page_of d) (d.serial % span + 1) (Some p) → IsNext F (Some d) (Some p)
+    pub next_here : (d : Dot) (p : Dot × X) → FirstOn m (page_of d) (d.serial % span + 1) (Some p)
+        → IsNext F (Some d) (Some p)
     next_here d p first = on_page (Some d) (page_of d) (d.serial % span + 1) p (omega arith)
         (λ i le below. is_before d (dot_in (page_of d) i) (inr (refl, omega (arith, le))))
         (λ q above held. rises d q above) first
@@ -161,7 +158,9 @@ module _ {X : Type 0} where
     ]
 
     -- no dot above is on the page of the dot: the least is the first of the next page
-    pub next_page : (d : Dot) (p : Dot × X) → FirstFrom (cell m (page_of d)) (d.serial % span + 1) None → FirstOfPages m (Some (page_of d)) (Some p) → IsNext F (Some d) (Some p)
+    pub next_page : (d : Dot) (p : Dot × X)
+        → FirstFrom (cell m (page_of d)) (d.serial % span + 1) None
+        → FirstOfPages m (Some (page_of d)) (Some p) → IsNext F (Some d) (Some p)
     next_page d p none first = on_page (Some d) first.key 0 p first.some
         (λ i le below. above_page first.key i (before (page_of d) first.key first.above) first.some)
         (λ q above held. elim (rises d q above) [
@@ -172,11 +171,13 @@ module _ {X : Type 0} where
           ]
         ]) first.first
       where
-        above_page : (k : Dot) (i : ℕ) → Before (page_of d) k → 0 < k.serial → is_lt (dot_cmp d (dot_in k i)) ≡ true
+        above_page : (k : Dot) (i : ℕ) → Before (page_of d) k → 0 < k.serial
+            → is_lt (dot_cmp d (dot_in k i)) ≡ true
         above_page k i (inl lt) some = is_before d (dot_in k i) (inl lt)
         above_page k i (inr e) some = is_before d (dot_in k i) (inr (e.0, omega (arith, e.1)))
 
-    pub next_none : (d : Dot) → FirstFrom (cell m (page_of d)) (d.serial % span + 1) None → FirstOfPages m (Some (page_of d)) None → IsNext F (Some d) None
+    pub next_none : (d : Dot) → FirstFrom (cell m (page_of d)) (d.serial % span + 1) None
+        → FirstOfPages m (Some (page_of d)) None → IsNext F (Some d) None
     next_none d none no_page q above = elim (rises d q above) [
       | inl same ↦ at q ∙ ap (λ (y : Dot). cell m y (q.serial % span)) same.0 ∙ none (q.serial % span) same.1
       | inr later ↦ at q ∙ ap (λ (o : Option (Slots X)). slot_in o (q.serial % span)) (no_page (page_of q) (is_before (page_of d) (page_of q) later))
@@ -193,7 +194,9 @@ module _ {X : Type 0} where
     pub first_none : FirstOfPages m None None → IsNext F None None
     first_none no_page q above = at q ∙ ap (λ (o : Option (Slots X)). slot_in o (q.serial % span)) (no_page (page_of q) tt)
 
-    pub next_or_none : (d : Dot) (r : Option (Dot × X)) → FirstFrom (cell m (page_of d)) (d.serial % span + 1) None → FirstOfPages m (Some (page_of d)) r → IsNext F (Some d) r
+    pub next_or_none : (d : Dot) (r : Option (Dot × X))
+        → FirstFrom (cell m (page_of d)) (d.serial % span + 1) None
+        → FirstOfPages m (Some (page_of d)) r → IsNext F (Some d) r
     next_or_none d None none first = next_none d none first
     next_or_none d (Some x) none first = next_page d x none first
 
@@ -202,7 +205,8 @@ module _ {X : Type 0} where
     first_or_none (Some x) first = first_page x first
 
     -- a page has a value
-    pub page_has : (k : Dot) (v : Slots X) → get dot_cmp m k ≡ Some v → FirstFrom (λ j. get_or v.items j None) 0 None → ⊥
+    pub page_has : (k : Dot) (v : Slots X) → get dot_cmp m k ≡ Some v
+        → FirstFrom (λ j. get_or v.items j None) 0 None → ⊥
     page_has k v here none =
         let page : IsPage k v.items = pages k v here in
         none_some (get_or v.items (length v.items - 1) None) (none (length v.items - 1) (omega arith)) (page.full page.some)
@@ -221,11 +225,13 @@ module _ {X : Type 0} where
           → IsLeBy dot_cmp (record { region = r; serial = 1 }) q × IsLeBy dot_cmp q (record { region = r; serial = greatest_serial })
       in_region q here low high = (grind (arith, nat_tests), grind (arith, nat_tests))
 
-      region_of : (e : Dot) → IsLeBy dot_cmp (record { region = r; serial = 1 }) e → IsLeBy dot_cmp e (record { region = r; serial = greatest_serial }) → e.region ≡ r
+      region_of : (e : Dot) → IsLeBy dot_cmp (record { region = r; serial = 1 }) e
+          → IsLeBy dot_cmp e (record { region = r; serial = greatest_serial }) → e.region ≡ r
       region_of e low high = grind (arith, nat_tests)
 
       -- the page of a dot of the region that has a value is among the region's
-      page_within : (q : Dot) → q.region ≡ r → IsSome (map.get F q) → IsLeBy dot_cmp first (page_of q) × IsLeBy dot_cmp (page_of q) last
+      page_within : (q : Dot) → q.region ≡ r → IsSome (map.get F q)
+          → IsLeBy dot_cmp first (page_of q) × IsLeBy dot_cmp (page_of q) last
       page_within q same h =
           let there : (v : Slots X) × (get dot_cmp m (page_of q) ≡ Some v) × (q.serial % span < length v.items) = held_on q h in
           let page : IsPage (page_of q) there.0.items = pages (page_of q) there.0 there.1 in
@@ -233,7 +239,8 @@ module _ {X : Type 0} where
           in_region (page_of q) same (omega arith) (omega (arith, page.high, page.some)) in
           (subst (λ (x : Dot). IsLeBy dot_cmp x (page_of q)) (sym lo) within.0, subst (λ (x : Dot). IsLeBy dot_cmp (page_of q) x) (sym hi) within.1)
 
-      pub last_is : (k : Dot) (v : Slots X) → IsLeBy dot_cmp first k × IsLeBy dot_cmp k last → get dot_cmp m k ≡ Some v → 0 < k.serial
+      pub last_is : (k : Dot) (v : Slots X) → IsLeBy dot_cmp first k × IsLeBy dot_cmp k last
+          → get dot_cmp m k ≡ Some v → 0 < k.serial
           → ((q : Dot) → IsLeBy dot_cmp first q × IsLeBy dot_cmp q last → IsSome (get dot_cmp m q) → is_lt (dot_cmp k q) ≡ false)
           → IsLast F r ((k.serial - 1) * span + (length v.items - 1))
       last_is k v within here some top =
@@ -246,7 +253,9 @@ module _ {X : Type 0} where
             greatest = λ q same held. at_most q same held (not_lt k (page_of q) (top (page_of q) (page_within q same held) (page_there q held)));
           }
         where
-          at_most : (q : Dot) → q.region ≡ r → IsSome (map.get F q) → (k ≡ page_of q) ⊎ Before (page_of q) k → q.serial ≤ (k.serial - 1) * span + (length v.items - 1)
+          at_most : (q : Dot) → q.region ≡ r → IsSome (map.get F q)
+              → (k ≡ page_of q) ⊎ Before (page_of q) k
+              → q.serial ≤ (k.serial - 1) * span + (length v.items - 1)
           at_most q same held (inl e) =
               let there : (w : Slots X) × (get dot_cmp m (page_of q) ≡ Some w) × (q.serial % span < length w.items) = held_on q held in
               let one : there.0 ≡ v = some_same there.0 v (sym there.1 ∙ ap (get dot_cmp m) (sym e) ∙ here) in
@@ -258,7 +267,8 @@ module _ {X : Type 0} where
               absurd (omega (arith, lt, same, region))
           at_most q same held (inr (inr e)) = omega (arith, e.1)
 
-      pub last_none : ((q : Dot) → IsLeBy dot_cmp first q × IsLeBy dot_cmp q last → get dot_cmp m q ≡ None) → IsLast F r 0
+      pub last_none : ((q : Dot) → IsLeBy dot_cmp first q × IsLeBy dot_cmp q last → get dot_cmp m q ≡ None)
+          → IsLast F r 0
       last_none none = record {
         there = λ some. absurd (omega (arith, some));
         greatest = λ q same held. absurd (none_some (get dot_cmp m (page_of q)) (none (page_of q) (page_within q same held)) (page_there q held));
@@ -267,7 +277,8 @@ module _ {X : Type 0} where
   -- ---- the first page
 
   -- the first page above has a value, and its first is the least above
-  pub page_first : (m : Pages X) → IsPages m → (after : Option Dot) (k : Dot) (v : Slots X) → get dot_cmp m k ≡ Some v → 0 < k.serial → IsAbove after k
+  pub page_first : (m : Pages X) → IsPages m → (after : Option Dot) (k : Dot) (v : Slots X)
+      → get dot_cmp m k ≡ Some v → 0 < k.serial → IsAbove after k
       → ((q : Dot) → IsAbove after q → IsSome (get dot_cmp m q) → is_lt (dot_cmp q k) ≡ false)
       → (r : Option (Dot × X)) → FirstIn k v.items 0 r → FirstOfPages m after r
   page_first m pages after k v here some above least None none = absurd (no_none (pages k v here))
@@ -290,7 +301,8 @@ module _ {X : Type 0} where
       there.1
 
   -- the first entry of a range above a page has the first value above that page
-  pub range_excluded : (m : Pages X) → IsPages m → (a : Dot) (after : Option Dot) → after ≡ Some a → (part rest : List (Dot × Slots X)) (k : Dot) (v : Slots X)
+  pub range_excluded : (m : Pages X) → IsPages m → (a : Dot) (after : Option Dot) → after ≡ Some a
+      → (part rest : List (Dot × Slots X)) (k : Dot) (v : Slots X)
       → IsRangeOf dot_cmp (Excluded a) Unbounded m part → part ≡ (k, v) ∷ rest → 0 < k.serial
       → (r : Option (Dot × X)) → FirstIn k v.items 0 r → FirstOfPages m after r
   range_excluded m pages a after is part rest k v range steps some r first =
@@ -299,7 +311,8 @@ module _ {X : Type 0} where
       (page_first m pages (Some a) k v there.1 some (ap is_lt there.0.0)
       (λ q above held. le_not_lt k q (subst (λ (l : List (Dot × Slots X)). IfSome (slice_get l 0) (λ e. IsLeBy dot_cmp e.0 q)) steps (range.2 q (is_less (dot_cmp a q) above, tt) held))) r first)
 
-  pub range_all : (m : Pages X) → IsPages m → (after : Option Dot) → after ≡ None → (part rest : List (Dot × Slots X)) (k : Dot) (v : Slots X)
+  pub range_all : (m : Pages X) → IsPages m → (after : Option Dot) → after ≡ None
+      → (part rest : List (Dot × Slots X)) (k : Dot) (v : Slots X)
       → IsRangeOf dot_cmp Unbounded Unbounded m part → part ≡ (k, v) ∷ rest → 0 < k.serial
       → (r : Option (Dot × X)) → FirstIn k v.items 0 r → FirstOfPages m after r
   range_all m pages after is part rest k v range steps some r first =

@@ -1,10 +1,12 @@
 -- The pages after one of them was written. Key results:
 --   cells_updated, pages_updated              a page is put, or written through
 --   page_one, page_put, page_set, page_taken  a page is as `IsPage` says after a write
-use Rattle.std.proofs.Common.{◌≡◌, ◌≢◌, ℕ, ◌+◌, ◌*◌, ◌-◌, ◌<◌, ◌≤◌, ◌==◌, ◌&&◌, max, Bool, true, false, cond, length, List, [], Option, Some, None, IsSome, is_some, Result, Ok, Err, OnOk, OnErr, refl, sym, ap, subst, ◌∙◌, inl, inr, arith, get_or}
-use Rattle.std.proofs.lemmas.List.{get_or_past}
-use Rattle.std.proofs.lemmas.Bool.{cases_Bool, cond-true, cond-false, cases_lt}
-use Rattle.std.specs.Ordering.{eq_by_cmp, is_eq}
+use Rattle.std.proofs.Common.{◌≡◌, ◌≢◌, ℕ, ◌+◌, ◌*◌, ◌-◌, ◌<◌, ◌≤◌, ◌==◌, ◌&&◌, max, Bool, true}
+use Rattle.std.proofs.Common.{false, cond, length, List, Option, Some, None, IsSome, is_some}
+use Rattle.std.proofs.Common.{Result, Ok, Err, OnOk, OnErr, refl, sym, ap, subst, ◌∙◌, inl, inr}
+use Rattle.std.proofs.Common.{arith, get_or, ne_eqb as not_at, eqb-true as nat_same}
+use Rattle.std.proofs.lemmas.Bool.{cases_Bool, cond-true, cond-false}
+use Rattle.std.specs.Ordering.{eq_by_cmp}
 use Rattle.std.specs.BTreeMap.{get, is_at}
 use Rattle.std.specs.Map.{lookup}
 use Rattle.tk_handle.specs.declared.dot.Dot.{Dot}
@@ -13,13 +15,7 @@ use Rattle.tk_handle.specs.Ranges.{greatest_serial}
 use mathlib.Core.Bool.{false≢true}
 use Rattle.tk_dots.specs.Pages.{span, Slots, Pages, slot_in, cell, EndsFull, IsPage, IsPages}
 use Rattle.tk_dots.proofs.PlaceLaws.{tied, tied_same}
-use Rattle.tk_dots.proofs.CellLaws.{nat_same, nat_is}
-
-none_some : {A : Type 0} (o : Option A) → o ≡ None → IsSome o → ⊥
-none_some o none some = false≢true (sym (ap is_some none) ∙ some)
-
-some_same : {A : Type 0} (x y : A) → Some x ≡ Some y → x ≡ y
-some_same x y h = cc
+use Rattle.tk_dots.proofs.CellLaws.{nat_is}
 
 turned : (k q : Dot) → is_at (dot_cmp k) q ≡ false → eq_by_cmp dot_cmp q k ≡ false
 turned k q off = elim (cases_Bool (eq_by_cmp dot_cmp q k)) [
@@ -28,7 +24,8 @@ turned k q off = elim (cases_Bool (eq_by_cmp dot_cmp q k)) [
 ]
 
 module _ {X : Type 0} (m n : Pages X) (k0 : Dot) (w : Option (Slots X)) (updates : (q : Dot) → get dot_cmp n q ≡ cond (is_at (dot_cmp k0) q) w (get dot_cmp m q)) where
-  pub cells_updated : (at : ℕ) (o : Option X) → ((j : ℕ) → slot_in w j ≡ cond (j == at) o (cell m k0 j))
+  pub cells_updated : (at : ℕ) (o : Option X)
+      → ((j : ℕ) → slot_in w j ≡ cond (j == at) o (cell m k0 j))
       → (k : Dot) (j : ℕ) → cell n k j ≡ cond (eq_by_cmp dot_cmp k k0 && (j == at)) o (cell m k j)
   cells_updated at o written k j = elim (cases_Bool (is_at (dot_cmp k0) k)) [
     | inl same ↦
@@ -48,7 +45,8 @@ module _ {X : Type 0} (m n : Pages X) (k0 : Dot) (w : Option (Slots X)) (updates
   ]
 
 -- a page is written with the values that it had: no cell changes
-pub cells_kept : {X : Type 0} (m n : Pages X) (k0 : Dot) (w : Slots X) → ((q : Dot) → get dot_cmp n q ≡ cond (is_at (dot_cmp k0) q) (Some w) (get dot_cmp m q))
+pub cells_kept : {X : Type 0} (m n : Pages X) (k0 : Dot) (w : Slots X)
+    → ((q : Dot) → get dot_cmp n q ≡ cond (is_at (dot_cmp k0) q) (Some w) (get dot_cmp m q))
     → ((j : ℕ) → get_or w.items j None ≡ cell m k0 j) → (k : Dot) (j : ℕ) → cell n k j ≡ cell m k j
 cells_kept {X} m n k0 w updates same k j = elim (cases_Bool (is_at (dot_cmp k0) k)) [
   | inl here ↦ ap (λ (p : Option (Slots X)). slot_in p j) (updates k ∙ cond-true _ _ _ here) ∙ same j ∙ ap (λ (q : Dot). cell m q j) (tied k0 k here)
@@ -60,17 +58,15 @@ cond_twice true x y z = refl
 cond_twice false x y z = refl
 
 -- a page that was written is taken out
-pub taken_out : {X : Type 0} (m l n : Pages X) (k0 : Dot) (w : Slots X) → ((q : Dot) → get dot_cmp l q ≡ cond (is_at (dot_cmp k0) q) (Some w) (get dot_cmp m q))
+pub taken_out : {X : Type 0} (m l n : Pages X) (k0 : Dot) (w : Slots X)
+    → ((q : Dot) → get dot_cmp l q ≡ cond (is_at (dot_cmp k0) q) (Some w) (get dot_cmp m q))
     → ((q : Dot) → get dot_cmp n q ≡ cond (is_at (dot_cmp k0) q) None (get dot_cmp l q)) → (q : Dot) → get dot_cmp n q ≡ cond (is_at (dot_cmp k0) q) None (get dot_cmp m q)
 taken_out m l n k0 w there gone q = gone q ∙ ap (cond (is_at (dot_cmp k0) q) None) (there q) ∙ cond_twice (is_at (dot_cmp k0) q) None (Some w) (get dot_cmp m q)
 
 -- equal look-ups
-pub same_lookups : {X : Type 0} (m n : Pages X) → n.entries ≡ m.entries → (q : Dot) → get dot_cmp n q ≡ get dot_cmp m q
+pub same_lookups : {X : Type 0} (m n : Pages X) → n.entries ≡ m.entries → (q : Dot)
+    → get dot_cmp n q ≡ get dot_cmp m q
 same_lookups {X} m n e q = ap (λ (es : List (Dot × Slots X)). lookup (is_at (dot_cmp q)) es) e
-
-pub none_of : {A : Type 0} (o : Option A) → is_some o ≡ false → o ≡ None
-none_of None h = refl
-none_of (Some a) h = absurd (false≢true (sym h))
 
 pub on_ok : {A E : Type 0} (r : Result A E) (P Q : Type 0) → OnOk r P → (P → Q) → OnOk r Q
 on_ok (Ok a) P Q h f = f h
@@ -80,15 +76,15 @@ pub on_err : {A E : Type 0} (r : Result A E) (P Q : Type 0) → OnErr r P → (P
 on_err (Ok a) P Q h f = tt
 on_err (Err e) P Q h f = f h
 
-pub on_both : {A E : Type 0} (r : Result A E) (P Q S R : Type 0) → OnOk r P → OnOk r Q → OnErr r S → (P → Q → R) → (S → R) → R
+pub on_both : {A E : Type 0} (r : Result A E) (P Q S R : Type 0) → OnOk r P → OnOk r Q → OnErr r S
+    → (P → Q → R) → (S → R) → R
 on_both (Ok a) P Q S R p q s f g = f p q
 on_both (Err e) P Q S R p q s f g = g s
 
-not_at : (i at : ℕ) → i ≢ at → (i == at) ≡ false
-not_at i at ne = elim (cases_Bool (i == at)) [ inl same ↦ absurd (ne (nat_same i at same)) | inr apart ↦ apart ]
-
 module _ {X : Type 0} (k : Dot) where
-  pub page_one : (os : List (Option X)) (at : ℕ) (x : X) → at < span → 0 < (k.serial - 1) * span + at → (k.serial - 1) * span + at ≤ greatest_serial → length os ≡ at + 1
+  pub page_one : (os : List (Option X)) (at : ℕ) (x : X) → at < span
+      → 0 < (k.serial - 1) * span + at → (k.serial - 1) * span + at ≤ greatest_serial
+      → length os ≡ at + 1
       → ((j : ℕ) → get_or os j None ≡ cond (j == at) (Some x) None) → IsPage k os
   page_one os at x below low high len is = record {
     some = omega (arith, len);
@@ -103,13 +99,15 @@ module _ {X : Type 0} (k : Dot) where
 
   module _ (old os : List (Option X)) (at : ℕ) (page : IsPage k old) where
     -- the last place, at another place than the one that was written
-    kept : (o : Option X) → ((j : ℕ) → get_or os j None ≡ cond (j == at) o (get_or old j None)) → (i : ℕ) → i ≢ at → i ≡ length old - 1 → IsSome (get_or os i None)
+    kept : (o : Option X) → ((j : ℕ) → get_or os j None ≡ cond (j == at) o (get_or old j None))
+        → (i : ℕ) → i ≢ at → i ≡ length old - 1 → IsSome (get_or os i None)
     kept o is i other last = subst IsSome (sym (is i ∙ cond-false _ _ _ (test i other) ∙ ap (λ (j : ℕ). get_or old j None) last)) (page.full page.some)
       where
         test : (i : ℕ) → i ≢ at → (i == at) ≡ false
         test i ne = elim (cases_Bool (i == at)) [ inl same ↦ absurd (ne (nat_same i at same)) | inr apart ↦ apart ]
 
-    pub page_put : (x : X) → at < span → 0 < (k.serial - 1) * span + at → (k.serial - 1) * span + at ≤ greatest_serial → length os ≡ max (length old) (at + 1)
+    pub page_put : (x : X) → at < span → 0 < (k.serial - 1) * span + at
+        → (k.serial - 1) * span + at ≤ greatest_serial → length os ≡ max (length old) (at + 1)
         → ((j : ℕ) → get_or os j None ≡ cond (j == at) (Some x) (get_or old j None)) → IsPage k os
     page_put x below low high len is = record {
       some = omega (arith, len);
@@ -142,11 +140,14 @@ module _ {X : Type 0} (k : Dot) where
       low = λ first. is 0 ∙ none_set (0 == at) (nat_same 0 at) (page.low first);
     }
       where
-        none_set : (b : Bool) → (b ≡ true → 0 ≡ at) → get_or old 0 None ≡ None → cond b (cond (is_some (get_or old at None)) (Some x) None) (get_or old 0 None) ≡ None
+        none_set : (b : Bool) → (b ≡ true → 0 ≡ at) → get_or old 0 None ≡ None
+            → cond b (cond (is_some (get_or old at None)) (Some x) None) (get_or old 0 None) ≡ None
         none_set true same none = ap (λ (o : Option X). cond (is_some o) (Some x) None) (ap (λ (j : ℕ). get_or old j None) (sym (same refl)) ∙ none)
         none_set false same none = none
 
-    pub page_taken : length os ≤ length old → ((j : ℕ) → get_or os j None ≡ cond (j == at) None (get_or old j None)) → EndsFull os → 0 < length os → IsPage k os
+    pub page_taken : length os ≤ length old
+        → ((j : ℕ) → get_or os j None ≡ cond (j == at) None (get_or old j None)) → EndsFull os
+        → 0 < length os → IsPage k os
     page_taken len is full some = record {
       some = some;
       full = full;

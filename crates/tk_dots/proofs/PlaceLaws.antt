@@ -1,9 +1,10 @@
 -- A dot is known by its page and its place there. Key results:
 --   get_seen    the value at a dot, in the map that pages hold, is the value at its place
 --   same_place  two dots with one page and one place are equal
-use Rattle.std.proofs.Common.{◌≡◌, ◌≢◌, ℕ, zero, suc, ◌+◌, ◌*◌, ◌/◌, ◌%◌, ◌-◌, ◌<◌, ◌≤◌, ◌==◌, ◌&&◌, Bool, true, false, cond, List, [], ◌∷◌, Option, Some, None, IsSome, refl, sym, ap, subst, ◌∙◌, inl, inr, arith, get_or, ◌⊎◌}
-use Rattle.std.proofs.lemmas.Bool.{cases_Bool, cond-true, cond-false, cases_lt}
-use Rattle.std.proofs.lemmas.Bool.Decides.{nat_tests}
+use Rattle.std.proofs.Common.{◌≡◌, ◌≢◌, ℕ, zero, suc, ◌+◌, ◌*◌, ◌/◌, ◌%◌, ◌-◌, ◌<◌, ◌≤◌}
+use Rattle.std.proofs.Common.{Bool, true, false, cond, List, [], ◌∷◌, Option, Some, None}
+use Rattle.std.proofs.Common.{refl, sym, ap, subst, ◌∙◌, inl, inr, arith, get_or}
+use Rattle.std.proofs.lemmas.Bool.{cases_Bool, cond-true, cond-false}
 use Rattle.std.specs.Ordering.{eq_by_cmp, is_eq}
 use Rattle.std.specs.FinMap as map
 use Rattle.std.specs.Map.{lookup}
@@ -14,7 +15,8 @@ use Rattle.tk_handle.specs.Dot.{dot_cmp, dot_cmp_total, dot_cmp-IsAntisymmetric}
 use Rattle.std.specs.declared.cmp.Ordering.{Ordering}
 use Rattle.std.specs.declared.cmp.Ordering.TheVariants.{Less, Equal, Greater}
 use mathlib.Core.Bool.{false≢true}
-use Rattle.tk_dots.specs.Pages.{span, page_of, Slots, Pages, slot_in, cell, cell_at, with_slot, with_places, with_page, seen}
+use Rattle.tk_dots.specs.Pages.{span, page_of, Slots, Pages, slot_in, cell_at, with_slot}
+use Rattle.tk_dots.specs.Pages.{with_places, with_page, seen}
 
 -- dots that compare as equal are equal
 pub tied : (q d : Dot) → eq_by_cmp dot_cmp q d ≡ true → q ≡ d
@@ -38,12 +40,14 @@ same_place q d pages places =
     dot_is q d (ap (λ (x : Dot). x.region) pages) (omega arith)
 
 module _ {X : Type 0} where
-  get_slot : (m : map.FinMap dot_cmp X) (d : Dot) (o : Option X) (q : Dot) → map.get (with_slot m d o) q ≡ cond (eq_by_cmp dot_cmp q d) o (map.get m q)
+  get_slot : (m : map.FinMap dot_cmp X) (d : Dot) (o : Option X) (q : Dot)
+      → map.get (with_slot m d o) q ≡ cond (eq_by_cmp dot_cmp q d) o (map.get m q)
   get_slot m d None q = map.get-remove dot_cmp_total m d q
   get_slot m d (Some x) q = map.get-insert dot_cmp_total m d x q
 
   -- a dot on the page, at one of the first n places
-  here_places : (r p : ℕ) (os : List (Option X)) (n : ℕ) (m : map.FinMap dot_cmp X) (q : Dot) → n ≤ span → q.region ≡ r → q.serial / span ≡ p → q.serial % span < n
+  here_places : (r p : ℕ) (os : List (Option X)) (n : ℕ) (m : map.FinMap dot_cmp X) (q : Dot)
+      → n ≤ span → q.region ≡ r → q.serial / span ≡ p → q.serial % span < n
       → map.get (with_places r p os n m) q ≡ get_or os (q.serial % span) None
   unfolding with_places
   here_places r p os zero m q le region page below = absurd (omega arith)
@@ -61,7 +65,8 @@ module _ {X : Type 0} where
       ]
 
   -- any other dot
-  other_places : (r p : ℕ) (os : List (Option X)) (n : ℕ) (m : map.FinMap dot_cmp X) (q : Dot) → n ≤ span → (q.region ≡ r → q.serial / span ≡ p → ⊥)
+  other_places : (r p : ℕ) (os : List (Option X)) (n : ℕ) (m : map.FinMap dot_cmp X) (q : Dot)
+      → n ≤ span → (q.region ≡ r → q.serial / span ≡ p → ⊥)
       → map.get (with_places r p os n m) q ≡ map.get m q
   unfolding with_places
   other_places r p os zero m q le off = refl
@@ -91,11 +96,13 @@ module _ {X : Type 0} where
         ∙ sym (cond-false _ _ _ apart)
   ]
 
-  cond_slot : (b : Bool) (v : Slots X) (o : Option (Slots X)) (i : ℕ) → cond b (get_or v.items i None) (slot_in o i) ≡ slot_in (cond b (Some v) o) i
+  cond_slot : (b : Bool) (v : Slots X) (o : Option (Slots X)) (i : ℕ)
+      → cond b (get_or v.items i None) (slot_in o i) ≡ slot_in (cond b (Some v) o) i
   cond_slot true v o i = refl
   cond_slot false v o i = refl
 
-  get_entries : (es : List (Dot × Slots X)) (q : Dot) → map.get (seen es) q ≡ slot_in (lookup (is_at (dot_cmp (page_of q))) es) (q.serial % span)
+  get_entries : (es : List (Dot × Slots X)) (q : Dot)
+      → map.get (seen es) q ≡ slot_in (lookup (is_at (dot_cmp (page_of q))) es) (q.serial % span)
   get_entries [] q = map.get-empty dot_cmp q
   get_entries (e ∷ es) q =
       get_page e.0.region e.0.serial e.1.items (seen es) q

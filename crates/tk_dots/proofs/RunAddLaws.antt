@@ -1,9 +1,10 @@
 -- One dot more in the runs. Key results:
 --   added        the set has that dot too
 --   added_runs   no two runs touch
-use Rattle.std.proofs.Common.{◌≡◌, ◌≢◌, ℕ, ◌+◌, ◌-◌, ◌<◌, ◌≤◌, true, false, Some, refl, sym, ap, subst, ◌∙◌, inl, inr, ◌⊎◌, arith}
-use Rattle.std.proofs.lemmas.Bool.{cases_Bool, cases_lt, cases_eq, cond-true, cond-false, or_cases, or_left, or_right, false_from_ne_true}
-use Rattle.std.proofs.lemmas.Bool.Decides.{nat_tests}
+use Rattle.std.proofs.Common.{◌≡◌, ◌≢◌, ℕ, ◌+◌, ◌-◌, ◌<◌, ◌≤◌, true, false, Some, refl, sym, ap}
+use Rattle.std.proofs.Common.{subst, ◌∙◌, inl, inr, ◌⊎◌, arith}
+use Rattle.std.proofs.lemmas.Bool.{cases_Bool, cases_lt, cases_eq, cond-true, cond-false, or_cases}
+use Rattle.std.proofs.lemmas.Bool.{or_left, or_right, false_from_ne_true}
 use Rattle.std.specs.Ordering.{eq_by_cmp}
 use Rattle.std.specs.BTreeMap.{get, is_at, IsOrdered}
 use Rattle.std.specs.FinSet as set
@@ -11,9 +12,11 @@ use Rattle.tk_handle.specs.declared.dot.Dot.{Dot}
 use Rattle.tk_handle.specs.Dot.{dot_cmp, dot_cmp_total, dot_cmp-IsAntisymmetric}
 use Rattle.tk_handle.specs.Ranges.{greatest_serial}
 use mathlib.Core.Bool.{false≢true}
-use Rattle.tk_dots.specs.Runs.{Runs, dot_of, run_set, IsCovered, IsRuns, IsEndAbove, IsStart, Joined}
+use Rattle.tk_dots.specs.Runs.{Runs, dot_of, run_set, IsCovered, IsRuns, IsEndAbove, IsStart}
+use Rattle.tk_dots.specs.Runs.{Joined}
 use Rattle.tk_dots.proofs.PlaceLaws.{tied, tied_same, dot_is}
-use Rattle.tk_dots.proofs.RunLaws.{none_is, some_same, covers, has_dot, covered_is}
+use Rattle.tk_dots.proofs.RunLaws.{covers, has_dot, covered_is}
+use Rattle.std.proofs.lemmas.Option.{same_Some as some_same, none-some as none_is}
 
 module _ (m n : Runs) (runs : IsRuns m) (d : Dot) (s end : ℕ) (free : IsCovered m d → ⊥) (low : IsStart m d s) (high : IsEndAbove m d end)
     (updates : Joined m d s end n) where
@@ -52,7 +55,8 @@ module _ (m n : Runs) (runs : IsRuns m) (d : Dot) (s end : ℕ) (free : IsCovere
   ]
 
   -- a run that is there and begins elsewhere stays
-  stays : (r k last : ℕ) → get dot_cmp m (dot_of r k) ≡ Some last → (r ≡ d.region → (k ≢ s) × (k ≢ d.serial + 1)) → get dot_cmp n (dot_of r k) ≡ Some last
+  stays : (r k last : ℕ) → get dot_cmp m (dot_of r k) ≡ Some last
+      → (r ≡ d.region → (k ≢ s) × (k ≢ d.serial + 1)) → get dot_cmp n (dot_of r k) ≡ Some last
   stays r k last at off =
       updates (dot_of r k)
       ∙ cond-false _ _ _ (false_from_ne_true _ (λ h.
@@ -90,7 +94,8 @@ module _ (m n : Runs) (runs : IsRuns m) (d : Dot) (s end : ℕ) (free : IsCovere
       kept : (q.region ≡ d.region → (x.first ≢ s) × (x.first ≢ d.serial + 1)) → IsCovered n q
       kept off = record { first = x.first; has = record { last = x.has.last; here = stays q.region x.first x.has.last x.has.here off; low = x.has.low; high = x.has.high } }
 
-      here : q.region ≡ d.region → (k : ℕ) → x.first ≡ k → get dot_cmp m (dot_of d.region k) ≡ Some x.has.last
+      here : q.region ≡ d.region → (k : ℕ) → x.first ≡ k
+          → get dot_cmp m (dot_of d.region k) ≡ Some x.has.last
       here region k e = ap (get dot_cmp m) (dot_is (dot_of d.region k) (dot_of q.region x.first) (sym region) (sym e)) ∙ x.has.here
 
       at_first : x.first ≡ s → q.region ≡ d.region → q.serial ≤ end
@@ -140,7 +145,8 @@ module _ (m n : Runs) (runs : IsRuns m) (d : Dot) (s end : ℕ) (free : IsCovere
       ]
 
   -- what begins behind the new run's start begins behind its end, with a gap
-  behind : (k other : ℕ) → get dot_cmp m (dot_of d.region k) ≡ Some other → s < k → k ≢ d.serial + 1 → end + 1 < k
+  behind : (k other : ℕ) → get dot_cmp m (dot_of d.region k) ≡ Some other → s < k → k ≢ d.serial + 1
+      → end + 1 < k
   behind k other at more off = elim high [
     | inl none ↦ (let e = none.0 in let late = late_than in omega (arith, e, late, off))
     | inr old ↦ runs.apart d.region (d.serial + 1) k end other old.1 at (let late = late_than in omega (arith, late, off))

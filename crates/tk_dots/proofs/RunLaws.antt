@@ -2,8 +2,11 @@
 --   covers, has_dot         a dot is in the set exactly if a run has it
 --   below_free, below_has   what the run below a dot says of it
 --   stretch_is              how far dots follow one another
-use Rattle.std.proofs.Common.{◌≡◌, ◌≢◌, ℕ, zero, suc, ◌+◌, ◌-◌, ◌<◌, ◌≤◌, ◌==◌, ◌||◌, Bool, true, false, nat_le, List, [], ◌∷◌, Some, None, IsSome, is_some, refl, sym, ap, subst, ◌∙◌, inl, inr, ◌⊎◌, arith}
-use Rattle.std.proofs.lemmas.Bool.{cases_Bool, cases_lt, cond-true, cond-false, or_cases, or_left, or_right, false_from_ne_true}
+use Rattle.std.proofs.Common.{◌≡◌, ◌≢◌, ℕ, zero, suc, ◌+◌, ◌-◌, ◌<◌, ◌≤◌, ◌==◌, ◌||◌, Bool, true}
+use Rattle.std.proofs.Common.{false, nat_le, List, [], ◌∷◌, Some, None, IsSome, is_some, refl, sym}
+use Rattle.std.proofs.Common.{ap, subst, ◌∙◌, inl, inr, ◌⊎◌, arith}
+use Rattle.std.proofs.lemmas.Bool.{cases_Bool, cases_lt, cond-true, cond-false, or_cases, or_left}
+use Rattle.std.proofs.lemmas.Bool.{or_right, false_from_ne_true}
 use Rattle.std.proofs.lemmas.Bool.Decides.{nat_tests}
 use Rattle.std.proofs.lemmas.List.Elements.{All-head, All-tail}
 use Rattle.std.proofs.lemmas.Map.Views.{All-found}
@@ -19,14 +22,10 @@ use Rattle.tk_handle.specs.declared.dot.Dot.{Dot}
 use Rattle.tk_handle.specs.Dot.{dot_cmp, dot_cmp_total, dot_cmp-IsAntisymmetric}
 use Rattle.tk_handle.specs.Ranges.{greatest_serial}
 use mathlib.Core.Bool.{false≢true}
-use Rattle.tk_dots.specs.Runs.{Runs, DotSet, dot_of, with_run, run_set, IsCovered, IsRuns, IsRunBelow, IsEndAbove, IsStartAt, IsStretch}
+use Rattle.tk_dots.specs.Runs.{Runs, DotSet, dot_of, with_run, run_set, IsCovered, IsRuns}
+use Rattle.tk_dots.specs.Runs.{IsRunBelow, IsEndAbove, IsStartAt, IsStretch}
 use Rattle.tk_dots.proofs.PlaceLaws.{tied, tied_same, dot_is}
-
-pub none_is : {A : Type 0} (x : A) → None ≡ Some x → ⊥
-none_is x h = cc
-
-pub some_same : {A : Type 0} (x y : A) → Some x ≡ Some y → x ≡ y
-some_same x y h = cc
+use Rattle.std.proofs.lemmas.Option.{none-some as none_is, same_Some as some_same}
 
 pub nat_test : (x y a b : ℕ) → x ≡ a → y ≡ b → (x == y) ≡ true → a ≡ b
 nat_test x y a b e f h = grind (arith, nat_tests)
@@ -50,12 +49,14 @@ within_run r first (suc n) s q h = elim (or_cases (eq_by_cmp dot_cmp q (dot_of r
   ]
 ]
 
-run_keeps : (r first n : ℕ) (s : DotSet) (q : Dot) → set.contains s q ≡ true → set.contains (with_run r first n s) q ≡ true
+run_keeps : (r first n : ℕ) (s : DotSet) (q : Dot) → set.contains s q ≡ true
+    → set.contains (with_run r first n s) q ≡ true
 unfolding with_run
 run_keeps r first zero s q h = h
 run_keeps r first (suc n) s q h = set.contains-insert dot_cmp_total (with_run r first n s) (dot_of r (first + n)) q ∙ or_right _ _ (run_keeps r first n s q h)
 
-run_has : (r first n : ℕ) (s : DotSet) (q : Dot) → q.region ≡ r → first ≤ q.serial → q.serial < first + n → set.contains (with_run r first n s) q ≡ true
+run_has : (r first n : ℕ) (s : DotSet) (q : Dot) → q.region ≡ r → first ≤ q.serial
+    → q.serial < first + n → set.contains (with_run r first n s) q ≡ true
 unfolding with_run
 run_has r first zero s q region low high = absurd (omega (arith, low, high))
 run_has r first (suc n) s q region low high = set.contains-insert dot_cmp_total (with_run r first n s) (dot_of r (first + n)) q ∙ elim (cases_lt q.serial (first + n)) [
@@ -65,7 +66,8 @@ run_has r first (suc n) s q region low high = set.contains-insert dot_cmp_total 
 
 -- ---- the dots of all runs
 
-covered_in : (m : Runs) (es : List (Dot × ℕ)) → All (λ e. get dot_cmp m e.0 ≡ Some e.1) es → (q : Dot) → set.contains (run_set es) q ≡ true → IsCovered m q
+covered_in : (m : Runs) (es : List (Dot × ℕ)) → All (λ e. get dot_cmp m e.0 ≡ Some e.1) es
+    → (q : Dot) → set.contains (run_set es) q ≡ true → IsCovered m q
 covered_in m [] all q h = absurd (false≢true (sym (set.contains-empty dot_cmp q) ∙ h))
 covered_in m (e ∷ es) all q h = elim (within_run e.0.region e.0.serial (e.1 + 1 - e.0.serial) (run_set es) q h) [
   | inl here ↦ record {
@@ -80,7 +82,9 @@ covered_in m (e ∷ es) all q h = elim (within_run e.0.region e.0.serial (e.1 + 
   | inr more ↦ covered_in m es (All-tail (λ e. get dot_cmp m e.0 ≡ Some e.1) e es all) q more
 ]
 
-has_in : (es : List (Dot × ℕ)) (k : Dot) (last : ℕ) → lookup (is_at (dot_cmp k)) es ≡ Some last → (q : Dot) → q.region ≡ k.region → k.serial ≤ q.serial → q.serial ≤ last → set.contains (run_set es) q ≡ true
+has_in : (es : List (Dot × ℕ)) (k : Dot) (last : ℕ) → lookup (is_at (dot_cmp k)) es ≡ Some last
+    → (q : Dot) → q.region ≡ k.region → k.serial ≤ q.serial → q.serial ≤ last
+    → set.contains (run_set es) q ≡ true
 has_in [] k last at q region low high = absurd (none_is last at)
 has_in (e ∷ es) k last at q region low high = elim (cases_Bool (is_at (dot_cmp k) e.0)) [
   | inl same ↦
@@ -92,7 +96,8 @@ has_in (e ∷ es) k last at q region low high = elim (cases_Bool (is_at (dot_cmp
 ]
 
 -- a dot of the set is one of a run
-pub covers : (m : Runs) → IsOrdered dot_cmp m → (q : Dot) → set.contains (run_set m.entries) q ≡ true → IsCovered m q
+pub covers : (m : Runs) → IsOrdered dot_cmp m → (q : Dot)
+    → set.contains (run_set m.entries) q ≡ true → IsCovered m q
 covers m ordered q h = covered_in m m.entries (All-found dot_cmp_total m ordered) q h
 
 -- a dot of a run is one of the set
@@ -100,14 +105,17 @@ pub has_dot : (m : Runs) (q : Dot) → IsCovered m q → set.contains (run_set m
 has_dot m q x = has_in m.entries (dot_of q.region x.first) x.has.last x.has.here q refl x.has.low x.has.high
 
 -- the test of a dot, from both ways
-pub covered_is : (m : Runs) → IsOrdered dot_cmp m → (q : Dot) (t : Bool) → (t ≡ true → IsCovered m q) → (t ≡ false → IsCovered m q → ⊥) → t ≡ set.contains (run_set m.entries) q
+pub covered_is : (m : Runs) → IsOrdered dot_cmp m → (q : Dot) (t : Bool)
+    → (t ≡ true → IsCovered m q) → (t ≡ false → IsCovered m q → ⊥)
+    → t ≡ set.contains (run_set m.entries) q
 covered_is m ordered q t some none = elim (cases_Bool t) [
   | inl is ↦ is ∙ sym (has_dot m q (some is))
   | inr is ↦ is ∙ sym (false_from_ne_true _ (λ h. none is (covers m ordered q h)))
 ]
 
 -- each dot of the set has a serial in range
-pub dots_high : (m : Runs) → IsRuns m → (q : Dot) → set.contains (run_set m.entries) q ≡ true → q.serial ≤ greatest_serial
+pub dots_high : (m : Runs) → IsRuns m → (q : Dot) → set.contains (run_set m.entries) q ≡ true
+    → q.serial ≤ greatest_serial
 dots_high m runs q h =
     let x = covers m runs.ordered q h in
     let high = x.has.high in
@@ -138,18 +146,21 @@ insert_held s d h = set.same_set dot_cmp_total dot_cmp-IsAntisymmetric s (set.in
     ]
 
 -- the end of the run right above a dot
-pub end_some : (m : Runs) → IsRuns m → (d next : Dot) (last : ℕ) → next ≡ dot_of d.region (d.serial + 1) → get dot_cmp m next ≡ Some last → IsEndAbove m d last
+pub end_some : (m : Runs) → IsRuns m → (d next : Dot) (last : ℕ)
+    → next ≡ dot_of d.region (d.serial + 1) → get dot_cmp m next ≡ Some last → IsEndAbove m d last
 end_some m runs d next last is at =
     let rises : d.serial + 1 ≤ last = subst (λ (k : Dot). k.serial ≤ last) is (runs.rises next last at) in
     inr (omega (arith, rises), ap (get dot_cmp m) (sym is) ∙ at)
 
-pub end_none : (m : Runs) (d next : Dot) (n : ℕ) → n ≡ d.serial → next ≡ dot_of d.region (d.serial + 1) → get dot_cmp m next ≡ None → IsEndAbove m d n
+pub end_none : (m : Runs) (d next : Dot) (n : ℕ) → n ≡ d.serial
+    → next ≡ dot_of d.region (d.serial + 1) → get dot_cmp m next ≡ None → IsEndAbove m d n
 end_none m d next n e is none = inl (e, ap (get dot_cmp m) (sym is) ∙ none)
 
 -- ---- the run below a dot
 
 -- the last key up to a dot, if it is of the dot's region, is the run below
-pub below_is : (m : Runs) (d k : Dot) (last : ℕ) → IsInRange dot_cmp Unbounded (Included d) k → get dot_cmp m k ≡ Some last
+pub below_is : (m : Runs) (d k : Dot) (last : ℕ) → IsInRange dot_cmp Unbounded (Included d) k
+    → get dot_cmp m k ≡ Some last
     → ((q : Dot) → IsInRange dot_cmp Unbounded (Included d) q → IsSome (get dot_cmp m q) → is_lt (dot_cmp k q) ≡ false)
     → k.region ≡ d.region → IsRunBelow m d (Some (k, last))
 below_is m d k last within here top region = (
@@ -165,7 +176,8 @@ below_is m d k last within here top region = (
     up_to : (d : Dot) (n : ℕ) → n ≤ d.serial → IsLeBy dot_cmp (dot_of d.region n) d
     up_to d n le = grind (arith, nat_tests)
 
-    not_above : (k q : Dot) → k.region ≡ q.region → is_lt (dot_cmp k q) ≡ false → q.serial ≤ k.serial
+    not_above : (k q : Dot) → k.region ≡ q.region → is_lt (dot_cmp k q) ≡ false
+        → q.serial ≤ k.serial
     not_above k q region h = grind (arith, nat_tests)
 
 -- the last key up to a dot, if it is of another region, shows that there is no run below
@@ -178,10 +190,13 @@ below_other m d k within top other n last le at =
     up_to : (d : Dot) (n : ℕ) → n ≤ d.serial → IsLeBy dot_cmp (dot_of d.region n) d
     up_to d n le = grind (arith, nat_tests)
 
-    same_region : (k q d : Dot) → q.region ≡ d.region → IsLeBy dot_cmp k d → is_lt (dot_cmp k q) ≡ false → k.region ≡ d.region
+    same_region : (k q d : Dot) → q.region ≡ d.region → IsLeBy dot_cmp k d
+        → is_lt (dot_cmp k q) ≡ false → k.region ≡ d.region
     same_region k q d region le h = grind (arith, nat_tests)
 
-pub below_none : (m : Runs) (d : Dot) → ((q : Dot) → IsInRange dot_cmp Unbounded (Included d) q → get dot_cmp m q ≡ None) → IsRunBelow m d None
+pub below_none : (m : Runs) (d : Dot)
+    → ((q : Dot) → IsInRange dot_cmp Unbounded (Included d) q → get dot_cmp m q ≡ None)
+    → IsRunBelow m d None
 below_none m d none n last le at = none_is last (sym (none (dot_of d.region n) (tt, up_to d n le)) ∙ at)
   where
     up_to : (d : Dot) (n : ℕ) → n ≤ d.serial → IsLeBy dot_cmp (dot_of d.region n) d
@@ -213,7 +228,8 @@ module _ (m : Runs) (runs : IsRuns m) (d : Dot) where
   ]
 
   -- the test of the dot by the run below
-  pub below_test : (p : Dot × ℕ) → IsRunBelow m d (Some p) → (n : ℕ) → n ≡ d.serial → nat_le n p.1 ≡ set.contains (run_set m.entries) d
+  pub below_test : (p : Dot × ℕ) → IsRunBelow m d (Some p) → (n : ℕ) → n ≡ d.serial
+      → nat_le n p.1 ≡ set.contains (run_set m.entries) d
   below_test p below n is = covered_is m runs.ordered d (nat_le n p.1)
       (λ h. below_has p below (late n p.1 is h))
       (λ h. below_free p below (early n p.1 is h))
@@ -228,7 +244,8 @@ module _ (m : Runs) (runs : IsRuns m) (d : Dot) where
   none_test none = covered_is m runs.ordered d false (λ h. absurd (false≢true h)) (λ _. none_below none)
 
   -- what the run below leaves between itself and the dot
-  pub below_gap : (p : Dot × ℕ) → IsRunBelow m d (Some p) → p.1 + 1 ≢ d.serial → (k last : ℕ) → k ≤ d.serial → get dot_cmp m (dot_of d.region k) ≡ Some last → last + 1 ≢ d.serial
+  pub below_gap : (p : Dot × ℕ) → IsRunBelow m d (Some p) → p.1 + 1 ≢ d.serial → (k last : ℕ)
+      → k ≤ d.serial → get dot_cmp m (dot_of d.region k) ≡ Some last → last + 1 ≢ d.serial
   below_gap p below other k last le at = elim (cases_lt k p.0.serial) [
     | inl lt ↦
         let gap : last + 1 < p.0.serial = runs.apart d.region k p.0.serial last p.1 at below.2 lt in
@@ -245,7 +262,8 @@ module _ (m : Runs) (runs : IsRuns m) (d : Dot) where
   pub start_none : IsRunBelow m d None → 0 < d.serial → IsStartAt m d (Some d)
   start_none none some = (none_below none, refl, inl (refl, λ k last le at. absurd (none k last le at)), some)
 
-  pub start_below : (p : Dot × ℕ) → IsRunBelow m d (Some p) → p.1 + 1 ≡ d.serial → IsStartAt m d (Some p.0)
+  pub start_below : (p : Dot × ℕ) → IsRunBelow m d (Some p) → p.1 + 1 ≡ d.serial
+      → IsStartAt m d (Some p.0)
   start_below p below e = (
     below_free p below (omega (arith, e)),
     below.0,
@@ -253,11 +271,13 @@ module _ (m : Runs) (runs : IsRuns m) (d : Dot) where
     runs.some (dot_of d.region p.0.serial) p.1 below.2,
   )
 
-  pub start_here : (p : Dot × ℕ) → IsRunBelow m d (Some p) → p.1 < d.serial → p.1 + 1 ≢ d.serial → 0 < d.serial → IsStartAt m d (Some d)
+  pub start_here : (p : Dot × ℕ) → IsRunBelow m d (Some p) → p.1 < d.serial → p.1 + 1 ≢ d.serial
+      → 0 < d.serial → IsStartAt m d (Some d)
   start_here p below early apart some = (below_free p below early, refl, inl (refl, below_gap p below apart), some)
 
   -- the dots from one on that follow one another end with its run
-  pub stretch_is : (p : Dot × ℕ) → IsRunBelow m d (Some p) → d.serial ≤ p.1 → IsStretch (run_set m.entries) d (Some p.1)
+  pub stretch_is : (p : Dot × ℕ) → IsRunBelow m d (Some p) → d.serial ≤ p.1
+      → IsStretch (run_set m.entries) d (Some p.1)
   stretch_is p below late = (
     late,
     λ n from to. has_dot m (dot_of d.region n) (record { first = p.0.serial; has = record { last = p.1; here = below.2; low = (let low = below.1 in omega (arith, low, from)); high = to } }),

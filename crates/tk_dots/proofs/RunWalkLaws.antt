@@ -1,7 +1,9 @@
 -- Walks over the dots of runs. Key results:
 --   next_right, next_first   the least dot above a dot
 --   last_in, last_none       the greatest serial of a region
-use Rattle.std.proofs.Common.{◌≡◌, ◌≢◌, ℕ, ◌+◌, ◌-◌, ◌<◌, ◌≤◌, true, false, slice_get, IfSome, List, [], ◌∷◌, Option, Some, None, IsSome, is_some, refl, sym, ap, subst, ◌∙◌, inl, inr, arith}
+use Rattle.std.proofs.Common.{◌≡◌, ◌≢◌, ℕ, ◌+◌, ◌<◌, ◌≤◌, true, false, slice_get, IfSome, List}
+use Rattle.std.proofs.Common.{[], ◌∷◌, Option, Some, None, IsSome, is_some, refl, sym, ap, subst}
+use Rattle.std.proofs.Common.{◌∙◌, inl, inr, arith}
 use Rattle.std.proofs.lemmas.Bool.{cases_Bool, cases_lt, false_from_ne_true}
 use Rattle.std.proofs.lemmas.Bool.Decides.{nat_tests}
 use Rattle.std.specs.Ordering.{is_lt}
@@ -13,16 +15,17 @@ use Rattle.tk_handle.specs.declared.dot.Dot.{Dot}
 use Rattle.tk_handle.specs.Dot.{dot_cmp}
 use Rattle.tk_handle.specs.Ranges.{greatest_serial}
 use mathlib.Core.Bool.{false≢true}
-use Rattle.tk_dots.specs.Runs.{Runs, DotSet, dot_of, run_set, IsCovered, IsRuns, IsFirstAbove, IsRightAbove, IsNextIn, IsLastIn}
-use Rattle.tk_dots.proofs.OrderLaws.{is_less, le_not_lt}
+use Rattle.tk_dots.specs.Runs.{Runs, DotSet, dot_of, run_set, IsCovered, IsRuns, IsFirstAbove}
+use Rattle.tk_dots.specs.Runs.{IsRightAbove, IsNextIn, IsLastIn}
+use Rattle.tk_dots.proofs.OrderLaws.{le_not_lt}
 use Rattle.tk_dots.proofs.PlaceLaws.{dot_is}
-use Rattle.tk_dots.proofs.RunLaws.{some_same, covers, has_dot}
-
-none_some : {A : Type 0} (o : Option A) → o ≡ None → IsSome o → ⊥
-none_some o none some = false≢true (sym (ap is_some none) ∙ some)
+use Rattle.tk_dots.proofs.RunLaws.{covers, has_dot}
+use Rattle.tk_handle.proofs.TestLaws.{not_none as none_some, less as is_less}
+use Rattle.std.proofs.lemmas.Option.{same_Some as some_same}
 
 -- a dot that is not below another, where a third is not above it, is not below that either
-not_lower : (q k f : Dot) → k.region ≡ q.region → k.serial ≤ q.serial → is_lt (dot_cmp k f) ≡ false → is_lt (dot_cmp q f) ≡ false
+not_lower : (q k f : Dot) → k.region ≡ q.region → k.serial ≤ q.serial → is_lt (dot_cmp k f) ≡ false
+    → is_lt (dot_cmp q f) ≡ false
 not_lower q k f region le h = grind (arith, nat_tests)
 
 module _ (m : Runs) (runs : IsRuns m) where
@@ -40,7 +43,9 @@ module _ (m : Runs) (runs : IsRuns m) where
   begins q x = ap is_some x.has.here
 
   -- a run that has a dot above another, and begins no later than that, has the dot right above it
-  over_next : (d q : Dot) → is_lt (dot_cmp d q) ≡ true → (x : IsCovered m q) → is_lt (dot_cmp d (dot_of q.region x.first)) ≡ false → set.contains S (dot_of d.region (d.serial + 1)) ≡ true
+  over_next : (d q : Dot) → is_lt (dot_cmp d q) ≡ true → (x : IsCovered m q)
+      → is_lt (dot_cmp d (dot_of q.region x.first)) ≡ false
+      → set.contains S (dot_of d.region (d.serial + 1)) ≡ true
   over_next d q above x early =
       let region : q.region ≡ d.region = one_region d q (dot_of q.region x.first) refl above early in
       let more : d.serial < q.serial = later d q (dot_of q.region x.first) refl above early in
@@ -56,17 +61,21 @@ module _ (m : Runs) (runs : IsRuns m) where
         };
       })
     where
-      one_region : (d q k : Dot) → k.region ≡ q.region → is_lt (dot_cmp d q) ≡ true → is_lt (dot_cmp d k) ≡ false → q.region ≡ d.region
+      one_region : (d q k : Dot) → k.region ≡ q.region → is_lt (dot_cmp d q) ≡ true
+          → is_lt (dot_cmp d k) ≡ false → q.region ≡ d.region
       one_region d q k e h i = grind (arith, nat_tests)
 
-      later : (d q k : Dot) → k.region ≡ q.region → is_lt (dot_cmp d q) ≡ true → is_lt (dot_cmp d k) ≡ false → d.serial < q.serial
+      later : (d q k : Dot) → k.region ≡ q.region → is_lt (dot_cmp d q) ≡ true
+          → is_lt (dot_cmp d k) ≡ false → d.serial < q.serial
       later d q k e h i = grind (arith, nat_tests)
 
-      no_later : (d q k : Dot) → k.region ≡ q.region → is_lt (dot_cmp d q) ≡ true → is_lt (dot_cmp d k) ≡ false → k.serial ≤ d.serial
+      no_later : (d q k : Dot) → k.region ≡ q.region → is_lt (dot_cmp d q) ≡ true
+          → is_lt (dot_cmp d k) ≡ false → k.serial ≤ d.serial
       no_later d q k e h i = grind (arith, nat_tests)
 
   -- where the dot right above is not in the set, the next begins a run
-  pub next_first : (after : Option Dot) → ((d : Dot) → after ≡ Some d → IsRightAbove S d None) → (r : Option Dot) → IsFirstAbove m after r → IsNextIn S after r
+  pub next_first : (after : Option Dot) → ((d : Dot) → after ≡ Some d → IsRightAbove S d None)
+      → (r : Option Dot) → IsFirstAbove m after r → IsNextIn S after r
   next_first None right None none = λ q above. false_from_ne_true _ (λ h. (let x = covers m runs.ordered q h in none_some _ (none (dot_of q.region x.first) tt) (begins q x)))
   next_first None right (Some f) first = (
     first_in f first.1,
@@ -96,16 +105,19 @@ module _ (m : Runs) (runs : IsRuns m) where
       up : (d q : Dot) → q.region ≡ d.region → q.serial ≡ d.serial + 1 → is_lt (dot_cmp d q) ≡ true
       up d q e f = grind (arith, nat_tests)
 
-      least : (d q p : Dot) → q.region ≡ d.region → q.serial ≡ d.serial + 1 → is_lt (dot_cmp d p) ≡ true → is_lt (dot_cmp p q) ≡ false
+      least : (d q p : Dot) → q.region ≡ d.region → q.serial ≡ d.serial + 1
+          → is_lt (dot_cmp d p) ≡ true → is_lt (dot_cmp p q) ≡ false
       least d q p e f above = grind (arith, nat_tests)
 
   -- ---- the greatest serial of a region
 
   module _ (r : ℕ) (first last : Dot) (lo : first ≡ dot_of r 1) (hi : last ≡ dot_of r greatest_serial) where
-    region_of : (e : Dot) → IsLeBy dot_cmp (dot_of r 1) e → IsLeBy dot_cmp e (dot_of r greatest_serial) → e.region ≡ r
+    region_of : (e : Dot) → IsLeBy dot_cmp (dot_of r 1) e
+        → IsLeBy dot_cmp e (dot_of r greatest_serial) → e.region ≡ r
     region_of e low high = grind (arith, nat_tests)
 
-    within : (n : ℕ) → 0 < n → n ≤ greatest_serial → IsLeBy dot_cmp first (dot_of r n) × IsLeBy dot_cmp (dot_of r n) last
+    within : (n : ℕ) → 0 < n → n ≤ greatest_serial
+        → IsLeBy dot_cmp first (dot_of r n) × IsLeBy dot_cmp (dot_of r n) last
     within n some high = (
       subst (λ (x : Dot). IsLeBy dot_cmp x (dot_of r n)) (sym lo) (from n some),
       subst (λ (x : Dot). IsLeBy dot_cmp (dot_of r n) x) (sym hi) (to n high),
@@ -118,14 +130,16 @@ module _ (m : Runs) (runs : IsRuns m) where
         to n h = grind (arith, nat_tests)
 
     -- each run of the region begins between the two dots
-    run_within : (k end : ℕ) → get dot_cmp m (dot_of r k) ≡ Some end → IsLeBy dot_cmp first (dot_of r k) × IsLeBy dot_cmp (dot_of r k) last
+    run_within : (k end : ℕ) → get dot_cmp m (dot_of r k) ≡ Some end
+        → IsLeBy dot_cmp first (dot_of r k) × IsLeBy dot_cmp (dot_of r k) last
     run_within k end at =
         let some = runs.some (dot_of r k) end at in
         let rises = runs.rises (dot_of r k) end at in
         let high = runs.ranged (dot_of r k) end at in
         within k some (omega (arith, rises, high))
 
-    pub last_in : (k : Dot) (end : ℕ) → IsLeBy dot_cmp first k × IsLeBy dot_cmp k last → get dot_cmp m k ≡ Some end
+    pub last_in : (k : Dot) (end : ℕ) → IsLeBy dot_cmp first k × IsLeBy dot_cmp k last
+        → get dot_cmp m k ≡ Some end
         → ((q : Dot) → IsLeBy dot_cmp first q × IsLeBy dot_cmp q last → IsSome (get dot_cmp m q) → is_lt (dot_cmp k q) ≡ false) → IsLastIn S r end
     last_in k end inside at top =
         let region : k.region ≡ r = region_of k (subst (λ (x : Dot). IsLeBy dot_cmp x k) lo inside.0) (subst (λ (x : Dot). IsLeBy dot_cmp k x) hi inside.1) in
@@ -135,10 +149,12 @@ module _ (m : Runs) (runs : IsRuns m) where
           greatest = λ n h. (let x = covers m runs.ordered (dot_of r n) h in most n x (no_higher k (dot_of r x.first) region (top (dot_of r x.first) (run_within x.first x.has.last x.has.here) (ap is_some x.has.here))) here);
         }
       where
-        no_higher : (k q : Dot) → k.region ≡ q.region → is_lt (dot_cmp k q) ≡ false → q.serial ≤ k.serial
+        no_higher : (k q : Dot) → k.region ≡ q.region → is_lt (dot_cmp k q) ≡ false
+            → q.serial ≤ k.serial
         no_higher k q e h = grind (arith, nat_tests)
 
-        most : (n : ℕ) (x : IsCovered m (dot_of r n)) → x.first ≤ k.serial → get dot_cmp m (dot_of r k.serial) ≡ Some end → n ≤ end
+        most : (n : ℕ) (x : IsCovered m (dot_of r n)) → x.first ≤ k.serial
+            → get dot_cmp m (dot_of r k.serial) ≡ Some end → n ≤ end
         most n x le here = elim (cases_lt x.first k.serial) [
           | inl lt ↦
               let gap : x.has.last + 1 < k.serial = runs.apart r x.first k.serial x.has.last end x.has.here here lt in
@@ -152,14 +168,17 @@ module _ (m : Runs) (runs : IsRuns m) where
               omega (arith, one, high)
         ]
 
-    pub last_none : ((q : Dot) → IsLeBy dot_cmp first q × IsLeBy dot_cmp q last → get dot_cmp m q ≡ None) → IsLastIn S r 0
+    pub last_none : ((q : Dot) → IsLeBy dot_cmp first q × IsLeBy dot_cmp q last → get dot_cmp m q ≡ None)
+        → IsLastIn S r 0
     last_none none = record {
       there = λ some. absurd (omega (arith, some));
       greatest = λ n h. (let x = covers m runs.ordered (dot_of r n) h in absurd (none_some _ (none (dot_of r x.first) (run_within x.first x.has.last x.has.here)) (ap is_some x.has.here)));
     }
 
 -- the first key of a range above a dot
-pub first_excluded : (m : Runs) (a : Dot) (part rest : List (Dot × ℕ)) (k : Dot) (v : ℕ) → IsRangeOf dot_cmp (Excluded a) Unbounded m part → part ≡ (k, v) ∷ rest → IsFirstAbove m (Some a) (Some k)
+pub first_excluded : (m : Runs) (a : Dot) (part rest : List (Dot × ℕ)) (k : Dot) (v : ℕ)
+    → IsRangeOf dot_cmp (Excluded a) Unbounded m part → part ≡ (k, v) ∷ rest
+    → IsFirstAbove m (Some a) (Some k)
 first_excluded m a part rest k v range steps =
     let there : IfSome (slice_get ((k, v) ∷ rest) 0) (IsEntryInRange dot_cmp (Excluded a) Unbounded m) = subst (λ (l : List (Dot × ℕ)). IfSome (slice_get l 0) (IsEntryInRange dot_cmp (Excluded a) Unbounded m)) steps range.1 in (
       ap is_lt there.0.0,
@@ -167,7 +186,9 @@ first_excluded m a part rest k v range steps =
       λ q above held. le_not_lt k q (subst (λ (l : List (Dot × ℕ)). IfSome (slice_get l 0) (λ e. IsLeBy dot_cmp e.0 q)) steps (range.2 q (is_less (dot_cmp a q) above, tt) held)),
     )
 
-pub first_all : (m : Runs) (part rest : List (Dot × ℕ)) (k : Dot) (v : ℕ) → IsRangeOf dot_cmp Unbounded Unbounded m part → part ≡ (k, v) ∷ rest → IsFirstAbove m None (Some k)
+pub first_all : (m : Runs) (part rest : List (Dot × ℕ)) (k : Dot) (v : ℕ)
+    → IsRangeOf dot_cmp Unbounded Unbounded m part → part ≡ (k, v) ∷ rest
+    → IsFirstAbove m None (Some k)
 first_all m part rest k v range steps =
     let there : IfSome (slice_get ((k, v) ∷ rest) 0) (IsEntryInRange dot_cmp Unbounded Unbounded m) = subst (λ (l : List (Dot × ℕ)). IfSome (slice_get l 0) (IsEntryInRange dot_cmp Unbounded Unbounded m)) steps range.1 in (
       tt,
@@ -175,8 +196,10 @@ first_all m part rest k v range steps =
       λ q above held. le_not_lt k q (subst (λ (l : List (Dot × ℕ)). IfSome (slice_get l 0) (λ e. IsLeBy dot_cmp e.0 q)) steps (range.2 q (tt, tt) held)),
     )
 
-pub first_excluded_none : (m : Runs) (a : Dot) (part : List (Dot × ℕ)) → IsRangeOf dot_cmp (Excluded a) Unbounded m part → part ≡ [] → IsFirstAbove m (Some a) None
+pub first_excluded_none : (m : Runs) (a : Dot) (part : List (Dot × ℕ))
+    → IsRangeOf dot_cmp (Excluded a) Unbounded m part → part ≡ [] → IsFirstAbove m (Some a) None
 first_excluded_none m a part range none k above = range.5 none k (is_less (dot_cmp a k) above, tt)
 
-pub first_all_none : (m : Runs) (part : List (Dot × ℕ)) → IsRangeOf dot_cmp Unbounded Unbounded m part → part ≡ [] → IsFirstAbove m None None
+pub first_all_none : (m : Runs) (part : List (Dot × ℕ))
+    → IsRangeOf dot_cmp Unbounded Unbounded m part → part ≡ [] → IsFirstAbove m None None
 first_all_none m part range none k above = range.5 none k (tt, tt)

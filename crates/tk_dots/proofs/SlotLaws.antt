@@ -1,19 +1,23 @@
 -- The places of one page after a write.
-use Rattle.std.proofs.Common.{◌≡◌, ◌≢◌, ℕ, ◌+◌, ◌-◌, ◌<◌, ◌≤◌, ◌==◌, Bool, true, false, cond, length, List, [], ◌∷◌, ◌++◌, Option, Some, None, IsSome, is_some, refl, sym, ap, subst, ◌∙◌, inl, inr, arith, get_or, set, zero, suc, length-append}
-use Rattle.std.proofs.lemmas.List.{get_or_past, get_or_push, get_or_append_left, get_or-set_same, get_or-set_other}
+use Rattle.std.proofs.Common.{◌≡◌, ◌≢◌, ℕ, ◌+◌, ◌-◌, ◌==◌, true, false, cond}
+use Rattle.std.proofs.Common.{length, List, [], ◌∷◌, ◌++◌, Option, Some, None}
+use Rattle.std.proofs.Common.{refl, sym, ◌∙◌, inl, inr, arith, get_or, zero, suc}
+use Rattle.std.proofs.Common.{length-append, eqb-true as nat_same}
+use Rattle.std.proofs.lemmas.List.{get_or_past, get_or_push, get_or_append_left}
 use Rattle.std.proofs.lemmas.Bool.{cases_Bool, cond-true, cond-false, cases_lt}
-use Rattle.std.proofs.lemmas.Bool.Decides.{nat_tests}
-use Rattle.tk_dots.proofs.CellLaws.{nat_same, nat_is}
+use Rattle.tk_dots.proofs.CellLaws.{nat_is}
 use mathlib.Core.Bool.{false≢true}
 
 module _ {X : Type 0} where
-  pub push_none : (xs : List (Option X)) (j : ℕ) → get_or (xs ++ None ∷ []) j None ≡ get_or xs j None
+  pub push_none : (xs : List (Option X)) (j : ℕ)
+      → get_or (xs ++ None ∷ []) j None ≡ get_or xs j None
   push_none [] zero = refl
   push_none [] (suc j) = refl
   push_none (x ∷ xs) zero = refl
   push_none (x ∷ xs) (suc j) = push_none xs j
 
-  pub push_some : (xs : List (Option X)) (x : X) (n j : ℕ) → length xs ≡ n → get_or (xs ++ Some x ∷ []) j None ≡ cond (j == n) (Some x) (get_or xs j None)
+  pub push_some : (xs : List (Option X)) (x : X) (n j : ℕ) → length xs ≡ n
+      → get_or (xs ++ Some x ∷ []) j None ≡ cond (j == n) (Some x) (get_or xs j None)
   push_some xs x n j len = elim (cases_Bool (j == n)) [
     | inl same ↦ get_or_push xs (Some x) None j (len ∙ sym (nat_same j n same)) ∙ sym (cond-true _ _ _ same)
     | inr apart ↦ elim (cases_lt j n) [

@@ -156,7 +156,7 @@ impl<V> DotMap<V> {
     {
         let (Some(first), Some(last)) = (Dot::new(region, 1), Dot::new(region, Serial::GREATEST))
         else {
-            unreachable!()
+            unreachable!("both serials are in range")
         };
         match self
             .pages

@@ -57,7 +57,7 @@ pub(crate) fn put_in<V: Drop>(
     }
     match pages.get_mut(&page) {
         Some(slots) => put(slots, at, value),
-        None => unreachable!(),
+        None => unreachable!("the page is there"),
     }
 }
 

@@ -15,7 +15,7 @@ pub(crate) fn page_of(dot: Dot) -> Dot
 {
     match Dot::new(dot.region(), dot.serial() / SPAN + 1) {
         Some(page) => page,
-        None => unreachable!(),
+        None => unreachable!("the number of a page is a serial"),
     }
 }
 

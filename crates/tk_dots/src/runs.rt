@@ -209,7 +209,7 @@ impl DotRuns {
     {
         let (Some(first), Some(last)) = (Dot::new(region, 1), Dot::new(region, Serial::GREATEST))
         else {
-            unreachable!()
+            unreachable!("both serials are in range")
         };
         match self
             .runs

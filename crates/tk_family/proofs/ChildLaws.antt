@@ -4,8 +4,11 @@
 --   users-has, has-users                 the span has exactly the children that use the token
 --   users-distinct                       each once
 --   first_listed, none_listed            the first of them
-use Rattle.std.proofs.Common.{◌≡◌, ◌≢◌, ◌⊎◌, inl, inr, Bool, true, false, cond, ◌&&◌, not, List, [], ◌∷◌, Option, Some, None, length, take, map, filter, refl, sym, ap, subst, ◌∙◌}
-use Rattle.std.proofs.lemmas.Bool.{true≢false, cases_Bool, cond-true, cond-false, or_cases, or_left, or_right, and_parts, and_from, false_from_ne_true}
+use Rattle.std.proofs.Common.{◌≡◌, ◌≢◌, ◌⊎◌, inl, inr, Bool, true, false, cond, ◌&&◌, not, List, []}
+use Rattle.std.proofs.Common.{◌∷◌, Option, Some, None, length, take, map, filter, refl, sym, ap}
+use Rattle.std.proofs.Common.{subst, ◌∙◌}
+use Rattle.std.proofs.lemmas.Bool.{true≢false, cases_Bool, cond-true, cond-false, or_cases, or_left}
+use Rattle.std.proofs.lemmas.Bool.{or_right, and_parts, and_from, false_from_ne_true}
 use Rattle.std.proofs.lemmas.Cmp.{on_total, then_total, tied_itself}
 use Rattle.std.proofs.lemmas.Map.Lookups.{exact_unsigned}
 use Rattle.std.proofs.lemmas.Map.Keys.{IsDistinct-cons}
@@ -27,10 +30,12 @@ use Rattle.tk_handle.specs.Kind.{kind_number}
 use Rattle.tk_handle.specs.TokenId.{token_cmp}
 use Rattle.tk_handle.proofs.SpanLaws.{not_past, between, from_first, to_last}
 use Rattle.tk_family.specs.declared.children.Child.{Child}
-use Rattle.tk_family.specs.Children.{child_cmp, child_key, is_child, Others, others_in, users_in, first_user, token_at, IsSame, TakesUser, Promotes}
+use Rattle.tk_family.specs.Children.{child_cmp, child_key, is_child, Others, others_in, users_in}
+use Rattle.tk_family.specs.Children.{first_user, token_at, IsSame, TakesUser, Promotes}
 use Rattle.tk_family.specs.Dots.{dot_eq, has}
 use Rattle.tk_family.proofs.DotLaws.{dot_eq-true, dot_eq-same, has-cons, has-here, has-there}
 use Rattle.tk_family.proofs.Viewing.{exact_tokens}
+use Rattle.tk_handle.proofs.TestLaws.{equal_of}
 
 -- ---- entries
 
@@ -42,16 +47,12 @@ both_tied Less s = refl
 both_tied Equal s = refl
 both_tied Greater s = refl
 
-equal_of : (o : Ordering) → is_eq o ≡ true → o ≡ Equal
-equal_of Less h = absurd (true≢false (sym h))
-equal_of Equal h = refl
-equal_of Greater h = absurd (true≢false (sym h))
-
 child_by : (a b : Child) → a.parent ≡ b.parent → a.kind ≡ b.kind → a.child ≡ b.child → a ≡ b
 child_by a b h i j = λ x. record { parent = h x; kind = i x; child = j x }
 
 -- entries that tie have equal parts
-tied_parts : (a b : Child) → eq_by_cmp child_cmp a b ≡ true → (is_eq (dot_cmp a.parent b.parent) ≡ true) × (is_eq (nat_cmp a.kind b.kind) ≡ true) × (is_eq (dot_cmp a.child b.child) ≡ true)
+tied_parts : (a b : Child) → eq_by_cmp child_cmp a b ≡ true
+    → (is_eq (dot_cmp a.parent b.parent) ≡ true) × (is_eq (nat_cmp a.kind b.kind) ≡ true) × (is_eq (dot_cmp a.child b.child) ≡ true)
 tied_parts a b h =
     let p = and_parts _ _ (sym (both_tied (dot_cmp a.parent b.parent) (ordering_then (nat_cmp a.kind b.kind) (dot_cmp a.child b.child))) ∙ h) in
     let q = and_parts _ _ (sym (both_tied (nat_cmp a.kind b.kind) (dot_cmp a.child b.child)) ∙ p.1) in
@@ -91,7 +92,9 @@ child_order k a b =
     ∙ ap (λ o. ordering_then o (dot_cmp a b)) (tied_itself nat_cmp_total (kind_number k.kind))
 
 -- the entries between the ends of the span
-pub span_is : (s : BTreeSet Child) (k : TokenId) (a b : Child) → a ≡ child_key k least_dot → b ≡ child_key k greatest_dot → keys_between child_cmp (Included a) (Included b) s ≡ users_in s k
+pub span_is : (s : BTreeSet Child) (k : TokenId) (a b : Child) → a ≡ child_key k least_dot
+    → b ≡ child_key k greatest_dot
+    → keys_between child_cmp (Included a) (Included b) s ≡ users_in s k
 span_is s k a b first last =
     ap (λ (x : Child). keys_between child_cmp (Included x) (Included b) s) first
     ∙ ap (λ (x : Child). keys_between child_cmp (Included (child_key k least_dot)) (Included x) s) last
@@ -125,14 +128,16 @@ abbrev among : Child → List Child → Bool
 among k ks = list_any (is_at (child_cmp k)) ks
 
 -- an entry of the list has the dot
-from_dots : (cs : List Child) (e : Dot) → has (dots_of cs) e ≡ true → (x : Child) × (among x cs ≡ true) × (x.child ≡ e)
+from_dots : (cs : List Child) (e : Dot) → has (dots_of cs) e ≡ true
+    → (x : Child) × (among x cs ≡ true) × (x.child ≡ e)
 from_dots [] e h = absurd (true≢false (sym h))
 from_dots (x ∷ xs) e h = elim (has-cons x.child (dots_of xs) e h) [
   | inl same ↦ (x, or_left (is_at (child_cmp x) x) (among x xs) (ap is_eq (tied_itself children_total x)), sym same)
   | inr more ↦ let r : (y : Child) × (among y xs ≡ true) × (y.child ≡ e) = from_dots xs e more in (r.0, or_right (is_at (child_cmp r.0) x) (among r.0 xs) r.1, r.2)
 ]
 
-kept_parts : (c : Child → Bool) (k : Child) (ks : List Child) → among k (filter c ks) ≡ true → (among k ks ≡ true) × (c k ≡ true)
+kept_parts : (c : Child → Bool) (k : Child) (ks : List Child) → among k (filter c ks) ≡ true
+    → (among k ks ≡ true) × (c k ≡ true)
 kept_parts c k [] h = absurd (true≢false (sym h))
 kept_parts c k (x ∷ xs) h = elim (cases_Bool (c x)) [
   | inl kept ↦ elim (or_cases (is_at (child_cmp k) x) (among k (filter c xs)) (sym (ap (among k) (cond-true (c x) (x ∷ filter c xs) (filter c xs) kept)) ∙ h)) [
@@ -142,7 +147,8 @@ kept_parts c k (x ∷ xs) h = elim (cases_Bool (c x)) [
   | inr left ↦ let r : (among k xs ≡ true) × (c k ≡ true) = kept_parts c k xs (sym (ap (among k) (cond-false (c x) (x ∷ filter c xs) (filter c xs) left)) ∙ h) in (or_right (is_at (child_cmp k) x) (among k xs) r.0, r.1)
 ]
 
-kept_dot : (c : Child → Bool) (k : Child) (ks : List Child) → among k ks ≡ true → c k ≡ true → has (dots_of (filter c ks)) k.child ≡ true
+kept_dot : (c : Child → Bool) (k : Child) (ks : List Child) → among k ks ≡ true → c k ≡ true
+    → has (dots_of (filter c ks)) k.child ≡ true
 kept_dot c k [] at kept = absurd (true≢false (sym at))
 kept_dot c k (x ∷ xs) at kept = elim (or_cases (is_at (child_cmp k) x) (among k xs) at) [
   | inl tie ↦
@@ -160,27 +166,32 @@ kept_dot c k (x ∷ xs) at kept = elim (or_cases (is_at (child_cmp k) x) (among 
 ]
 
 -- the span has exactly the children that use the token
-pub users-has : (s : BTreeSet Child) (k : TokenId) (e : Dot) → others_in s k e ≡ true → IsDot e → has (dots_of (users_in s k)) e ≡ true
+pub users-has : (s : BTreeSet Child) (k : TokenId) (e : Dot) → others_in s k e ≡ true → IsDot e
+    → has (dots_of (users_in s k)) e ≡ true
 users-has s k e at ranged = kept_dot (in_range k) (child_key k e) s.keys at (in_span k e ranged)
 
-pub has-users : (s : BTreeSet Child) (k : TokenId) (e : Dot) → has (dots_of (users_in s k)) e ≡ true → others_in s k e ≡ true
+pub has-users : (s : BTreeSet Child) (k : TokenId) (e : Dot) → has (dots_of (users_in s k)) e ≡ true
+    → others_in s k e ≡ true
 has-users s k e h =
     let r : (x : Child) × (among x (users_in s k) ≡ true) × (x.child ≡ e) = from_dots (users_in s k) e h in
     let p : (among r.0 s.keys ≡ true) × (in_range k r.0 ≡ true) = kept_parts (in_range k) r.0 s.keys r.1 in
     ap (λ (y : Dot). others_in s k y) (sym r.2) ∙ (ap (λ (x : Child). among x s.keys) (sym (of_token k r.0 p.1)) ∙ p.0)
 
-above_key : (x : Child) (xs : List Child) → AllByRecursion (λ y. child_cmp x y ≡ Less) xs → (k : Child) → among k xs ≡ true → child_cmp x k ≡ Less
+above_key : (x : Child) (xs : List Child) → AllByRecursion (λ y. child_cmp x y ≡ Less) xs
+    → (k : Child) → among k xs ≡ true → child_cmp x k ≡ Less
 above_key x [] low k at = absurd (true≢false (sym at))
 above_key x (y ∷ ys) low k at = elim (or_cases (is_at (child_cmp k) y) (among k ys) at) [
   | inl tie ↦ ap (child_cmp x) (child_same k y tie) ∙ low.0
   | inr more ↦ above_key x ys low.1 k more
 ]
 
-fresh_all : (y : Dot) (ys : List Dot) → ((q : Dot) → has ys q ≡ true → y ≢ q) → AllByRecursion (λ z. dot_eq y z ≡ false) ys
+fresh_all : (y : Dot) (ys : List Dot) → ((q : Dot) → has ys q ≡ true → y ≢ q)
+    → AllByRecursion (λ z. dot_eq y z ≡ false) ys
 fresh_all y [] ne = tt
 fresh_all y (z ∷ zs) ne = (false_from_ne_true (dot_eq y z) (λ same. ne z (has-here z zs) (dot_eq-true y z same)), fresh_all y zs (λ q h. ne q (has-there z zs q h)))
 
-distinct_kept : (k : TokenId) (ks : List Child) → IsStrictlySortedBy child_cmp ks → IsDistinct dot_eq (dots_of (filter (in_range k) ks))
+distinct_kept : (k : TokenId) (ks : List Child) → IsStrictlySortedBy child_cmp ks
+    → IsDistinct dot_eq (dots_of (filter (in_range k) ks))
 unfolding IsStrictlySortedBy IsDistinct
 distinct_kept k [] sorted = tt
 distinct_kept k (x ∷ xs) sorted = elim (cases_Bool (in_range k x)) [
@@ -194,7 +205,8 @@ distinct_kept k (x ∷ xs) sorted = elim (cases_Bool (in_range k x)) [
   | inr left ↦ subst (λ (ys : List Child). IsDistinct dot_eq (dots_of ys)) (sym (cond-false (in_range k x) (x ∷ filter (in_range k) xs) (filter (in_range k) xs) left)) (distinct_kept k xs sorted.1)
 ]
 
-pub users-distinct : (s : BTreeSet Child) (k : TokenId) → IsOrdered child_cmp s → IsDistinct dot_eq (dots_of (users_in s k))
+pub users-distinct : (s : BTreeSet Child) (k : TokenId) → IsOrdered child_cmp s
+    → IsDistinct dot_eq (dots_of (users_in s k))
 users-distinct s k ordered = distinct_kept k s.keys ordered
 
 -- ---- the first child that uses a token
@@ -209,17 +221,24 @@ none_has : (cs : List Child) (e : Dot) → first_user cs ≡ None → has (dots_
 none_has [] e h = refl
 none_has (x ∷ xs) e h = absurd (let clash : Some x.child ≡ None = h in cc)
 
-pub first_listed : (s : BTreeSet Child) (k : TokenId) (e : Dot) → first_user (users_in s k) ≡ Some e → others_in s k e ≡ true
+pub first_listed : (s : BTreeSet Child) (k : TokenId) (e : Dot) → first_user (users_in s k) ≡ Some e
+    → others_in s k e ≡ true
 first_listed s k e h = has-users s k e (first_has (users_in s k) e h)
 
-pub none_listed : (s : BTreeSet Child) (k : TokenId) → ((e : Dot) → others_in s k e ≡ true → IsDot e) → first_user (users_in s k) ≡ None → (e : Dot) → others_in s k e ≡ false
+pub none_listed : (s : BTreeSet Child) (k : TokenId)
+    → ((e : Dot) → others_in s k e ≡ true → IsDot e) → first_user (users_in s k) ≡ None → (e : Dot)
+    → others_in s k e ≡ false
 none_listed s k ranged h e = false_from_ne_true (others_in s k e) (λ at. true≢false (sym (users-has s k e at (ranged e at)) ∙ none_has (users_in s k) e h))
 
-pub takes_none : (s : BTreeSet Child) (k : TokenId) (o : Option Dot) → ((e : Dot) → others_in s k e ≡ true → IsDot e) → o ≡ first_user (users_in s k) → o ≡ None → TakesUser (others_in s) (others_in s) k o
+pub takes_none : (s : BTreeSet Child) (k : TokenId) (o : Option Dot)
+    → ((e : Dot) → others_in s k e ≡ true → IsDot e) → o ≡ first_user (users_in s k) → o ≡ None
+    → TakesUser (others_in s) (others_in s) k o
 takes_none s k o ranged found none = subst (λ (x : Option Dot). TakesUser (others_in s) (others_in s) k x) (sym none) (none_listed s k ranged (sym found ∙ none), λ j e. refl)
 
 -- no child uses the code of p, and one that uses the refresh token, if there is one, is out of the set
-pub promotes_second : (E M N : Others) (p : Dot) (o : Option Dot) → ((e : Dot) → E (token_at p kind.Code) e ≡ false) → IsSame E M → TakesUser M N (token_at p kind.Refresh) o → Promotes E N p o
+pub promotes_second : (E M N : Others) (p : Dot) (o : Option Dot)
+    → ((e : Dot) → E (token_at p kind.Code) e ≡ false) → IsSame E M
+    → TakesUser M N (token_at p kind.Refresh) o → Promotes E N p o
 promotes_second E M N p None none same x = (none, λ e. sym (same (token_at p kind.Refresh) e) ∙ x.0 e, λ k e. x.1 k e ∙ same k e)
 promotes_second E M N p (Some c) none same x = (
   kind.Refresh,
@@ -229,8 +248,10 @@ promotes_second E M N p (Some c) none same x = (
 
 -- ---- counts up to two
 
-pub one_user : (cs rest : List Child) (x : Child) → cs ≡ x ∷ rest → rest ≡ [] → 1 ≡ length (take 2 cs)
+pub one_user : (cs rest : List Child) (x : Child) → cs ≡ x ∷ rest → rest ≡ []
+    → 1 ≡ length (take 2 cs)
 one_user cs rest x first none = sym (ap (λ (l : List Child). length (take 2 l)) (first ∙ ap (λ (l : List Child). x ∷ l) none))
 
-pub two_users : (cs rest more : List Child) (x y : Child) → cs ≡ x ∷ rest → rest ≡ y ∷ more → 2 ≡ length (take 2 cs)
+pub two_users : (cs rest more : List Child) (x y : Child) → cs ≡ x ∷ rest → rest ≡ y ∷ more
+    → 2 ≡ length (take 2 cs)
 two_users cs rest more x y first second = sym (ap (λ (l : List Child). length (take 2 l)) (first ∙ ap (λ (l : List Child). x ∷ l) second))

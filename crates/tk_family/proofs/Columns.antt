@@ -1,6 +1,9 @@
 -- The steps of `put`, and what they leave of each column.
-use Rattle.std.proofs.Common.{◌≡◌, ◌≢◌, ◌⊎◌, inl, inr, ℕ, ◌+◌, ◌<◌, ◌==◌, Bool, true, false, not, cond, Option, None, Some, List, [], ◌∷◌, ap, sym, ◌∙◌, refl, arith, subst, IsSome}
+use Rattle.std.proofs.Common.{◌≡◌, ◌≢◌, ◌⊎◌, inl, inr, ℕ, ◌+◌, ◌<◌, ◌==◌, Bool, true, false, cond}
+use Rattle.std.proofs.Common.{Option, None, Some, List, [], ◌∷◌, ap, sym, ◌∙◌, refl, arith, subst}
+use Rattle.std.proofs.Common.{IsSome}
 use Rattle.std.proofs.lemmas.Bool.{true≢false, cases_Bool, cond-true, cond-false, and_parts}
+use Rattle.std.proofs.lemmas.Bool.{not-true as false_if}
 use Rattle.std.proofs.lemmas.Bool.Decides.{nat_tests}
 use Rattle.tk_handle.specs.declared.dot.Dot.{Dot}
 use Rattle.tk_handle.specs.declared.kind.Kind.{Kind}
@@ -9,14 +12,17 @@ use Rattle.tk_family.specs.declared.link.Link.{Link}
 use Rattle.tk_family.specs.declared.link.Link.TheVariants.{Code, Redeems, Rotates}
 use Rattle.tk_family.specs.declared.row.Row.{Row}
 use Rattle.tk_family.specs.Dots.{dot_eq}
-use Rattle.tk_family.specs.Families.{Links, named_by, fits, use_of, IsPath, IsUnder, LinksWithin, IsUsed, rank_of}
+use Rattle.tk_family.specs.Families.{Links, named_by, fits, use_of, IsPath, IsUnder, LinksWithin}
+use Rattle.tk_family.specs.Families.{IsUsed, rank_of}
 use Rattle.tk_family.specs.Counts.{IsCounted}
-use Rattle.tk_family.specs.Rows.{Rows, link_in, code_in, count_in, first_in, marked_in, used_in, again_in, links_of}
+use Rattle.tk_family.specs.Rows.{Rows, link_in, code_in, count_in, first_in, marked_in, used_in}
+use Rattle.tk_family.specs.Rows.{again_in, links_of}
 use Rattle.tk_family.specs.Kept.{IsForest}
 use Rattle.tk_family.specs.declared.row.Uses.{Uses}
 use Rattle.tk_family.specs.declared.row.Uses.TheVariants.{Never, Once, Often}
 use Rattle.std.specs.Option.{is_none}
-use Rattle.tk_family.specs.Writes.{blank, or_blank, is_never, is_blank, is_blank_row, chain_by, chain_code}
+use Rattle.tk_family.specs.Writes.{blank, or_blank, is_never, is_blank, is_blank_row, chain_by}
+use Rattle.tk_family.specs.Writes.{chain_code}
 use Rattle.tk_family.specs.Walks.{fits_over}
 use Rattle.tk_family.specs.Puts.{NothingSeen}
 use Rattle.tk_family.proofs.DotLaws.{dot_eq-same, dot_eq-true}
@@ -27,7 +33,8 @@ use Rattle.tk_family.proofs.FamilyLaws.{IsUnder-within, IsTwice-within, IsParent
 -- ---- columns
 
 -- a column at a choice whose two sides agree in that column
-pub column : {X : Type 0} (π : Option Row → X) (b : Bool) (changed old : Option Row) → π changed ≡ π old → π (cond b changed old) ≡ π old
+pub column : {X : Type 0} (π : Option Row → X) (b : Bool) (changed old : Option Row)
+    → π changed ≡ π old → π (cond b changed old) ≡ π old
 column π true changed old same = same
 column π false changed old same = refl
 
@@ -41,18 +48,21 @@ pub record Alike (T N : Rows) : Type 0 where
   pub used : (q : Dot) (k : Kind) → used_in (N q) k ≡ used_in (T q) k
   pub again : (q : Dot) (k : Kind) → again_in (N q) k ≡ again_in (T q) k
 
-flag_blank : (k : Kind) (o : Option Row) → (marked_in (or_blank o) k ≡ marked_in o k) × (used_in (or_blank o) k ≡ used_in o k) × (again_in (or_blank o) k ≡ again_in o k)
+flag_blank : (k : Kind) (o : Option Row)
+    → (marked_in (or_blank o) k ≡ marked_in o k) × (used_in (or_blank o) k ≡ used_in o k) × (again_in (or_blank o) k ≡ again_in o k)
 flag_blank k (Some r) = (refl, refl, refl)
 flag_blank kind.Code None = (refl, refl, refl)
 flag_blank kind.Access None = (refl, refl, refl)
 flag_blank kind.Refresh None = (refl, refl, refl)
 
-same_blank : (o : Option Row) → (link_in (or_blank o) ≡ link_in o) × (code_in (or_blank o) ≡ code_in o) × (count_in (or_blank o) ≡ count_in o) × (first_in (or_blank o) ≡ first_in o)
+same_blank : (o : Option Row)
+    → (link_in (or_blank o) ≡ link_in o) × (code_in (or_blank o) ≡ code_in o) × (count_in (or_blank o) ≡ count_in o) × (first_in (or_blank o) ≡ first_in o)
 same_blank None = (refl, refl, refl, refl)
 same_blank (Some r) = (refl, refl, refl, refl)
 
 -- adding a blank row changes no column
-pub Alike-blank : (T N : Rows) (at : Dot) → ((q : Dot) → N q ≡ cond (dot_eq at q) (or_blank (T q)) (T q)) → Alike T N
+pub Alike-blank : (T N : Rows) (at : Dot)
+    → ((q : Dot) → N q ≡ cond (dot_eq at q) (or_blank (T q)) (T q)) → Alike T N
 Alike-blank T N at h = record {
   link = λ q. ap link_in (h q) ∙ column link_in (dot_eq at q) (or_blank (T q)) (T q) (same_blank (T q)).0;
   code = λ q. ap code_in (h q) ∙ column code_in (dot_eq at q) (or_blank (T q)) (T q) (same_blank (T q)).1;
@@ -107,10 +117,6 @@ never_if Never h = refl
 never_if Once h = absurd (true≢false (sym h))
 never_if Often h = absurd (true≢false (sym h))
 
-false_if : (b : Bool) → not b ≡ true → b ≡ false
-false_if true h = absurd (true≢false (sym h))
-false_if false h = refl
-
 zero_if : (n : ℕ) → (n == 0) ≡ true → n ≡ 0
 zero_if n h = grind (arith, nat_tests)
 
@@ -141,7 +147,8 @@ blank_or : (o : Option Row) → is_blank_row o ≡ true → (o ≡ None) ⊎ (o 
 blank_or None h = inl refl
 blank_or (Some row) h = inr (ap (λ (r : Row). Some r) (blank_is row h))
 
-pub Alike-dropped : (T N : Rows) (at : Dot) → is_blank_row (T at) ≡ true → ((q : Dot) → N q ≡ cond (dot_eq at q) None (T q)) → Alike T N
+pub Alike-dropped : (T N : Rows) (at : Dot) → is_blank_row (T at) ≡ true
+    → ((q : Dot) → N q ≡ cond (dot_eq at q) None (T q)) → Alike T N
 Alike-dropped T N at h rows = elim (blank_or (T at) h) [
   | inl none ↦ Alike-same T N (λ q. rows q ∙ (elim (cases_Bool (dot_eq at q)) [
     | inl same ↦ cond-true _ _ _ same ∙ sym (ap T (sym (dot_eq-true at q same)) ∙ none)
@@ -188,7 +195,9 @@ IsForest-alike T N t a = IsForest-kept T N t (record { link = a.link; code = a.c
 
 -- ---- the code of a new link
 
-pub IsPath-below : (f g : Links) (d : Dot) (l : Link) → Adds f g d l → (q : Dot) (ps : List Dot) (c : Dot) → IsPath g q ps c → rank_of (g q) < rank_of (g d) → IsUnder f q c
+pub IsPath-below : (f g : Links) (d : Dot) (l : Link) → Adds f g d l
+    → (q : Dot) (ps : List Dot) (c : Dot) → IsPath g q ps c → rank_of (g q) < rank_of (g d)
+    → IsUnder f q c
 IsPath-below f g d l a q [] c m low =
     let ne : q ≢ d = λ same. let e : rank_of (g q) ≡ rank_of (g d) = ap (λ (y : Dot). rank_of (g y)) same in absurd (omega arith) in
     alone f g d l a q c ne m
@@ -198,7 +207,8 @@ IsPath-below f g d l a q (p ∷ ps) c m low =
     let less : rank_of (g p) < rank_of (g d) = omega arith in
     below_under f g d l a q p c ne m.0.0 (IsPath-below f g d l a p ps c (m.0.1, m.1) less)
 
-fits_over-some : (l : Link) (o : Option Link) → fits_over l o ≡ true → (k : Link) × (o ≡ Some k) × (fits l k ≡ true)
+fits_over-some : (l : Link) (o : Option Link) → fits_over l o ≡ true
+    → (k : Link) × (o ≡ Some k) × (fits l k ≡ true)
 fits_over-some l None h = absurd (true≢false (sym h))
 fits_over-some l (Some k) h = (k, refl, h)
 
@@ -207,7 +217,8 @@ no_name Code h = refl
 no_name (Redeems c) h = absurd (cc)
 no_name (Rotates p g) h = absurd (cc)
 
-pub chain-some : (T : Rows) (g : Links) (d : Dot) (l : Link) (o : Option Dot) (c : Dot) → IsForest T → Adds (links_of T) g d l → named_by l ≡ o → chain_by T d l o ≡ Some c → IsUnder g d c
+pub chain-some : (T : Rows) (g : Links) (d : Dot) (l : Link) (o : Option Dot) (c : Dot) → IsForest T
+    → Adds (links_of T) g d l → named_by l ≡ o → chain_by T d l o ≡ Some c → IsUnder g d c
 chain-some T g d l None c t a names h =
     let code : l ≡ Code = no_name l names in
     let same : d ≡ c = cc in
@@ -225,7 +236,8 @@ chain-some T g d l (Some p) c t a names h = elim (cases_Bool (fits_over l (link_
 some_over : (l k : Link) (o : Option Link) → o ≡ Some k → fits l k ≡ true → fits_over l o ≡ true
 some_over l k o at fit = ap (fits_over l) at ∙ fit
 
-pub chain-path : (T : Rows) (g : Links) (d : Dot) (l : Link) (ps : List Dot) (c : Dot) → IsForest T → Adds (links_of T) g d l → IsPath g d ps c → chain_code T d l ≡ Some c
+pub chain-path : (T : Rows) (g : Links) (d : Dot) (l : Link) (ps : List Dot) (c : Dot) → IsForest T
+    → Adds (links_of T) g d l → IsPath g d ps c → chain_code T d l ≡ Some c
 chain-path T g d l [] c t a m =
     let both : Some l ≡ Some Code = sym a.here ∙ (ap g m.0 ∙ m.1) in
     let code : l ≡ Code = cc in
@@ -242,7 +254,8 @@ chain-path T g d l (p ∷ ps) c t a m =
     let u : IsUnder (links_of T) p c = IsPath-below (links_of T) g d l a p ps c (m.0.1, m.1) less in
     ap (chain_by T d l) names ∙ (cond-true _ _ _ (some_over l m.0.0.above (link_in (T p)) above fit) ∙ t.memo p c u)
 
-pub chain-none : (T : Rows) (g : Links) (d : Dot) (l : Link) → IsForest T → Adds (links_of T) g d l → chain_code T d l ≡ None → (c : Dot) → IsUnder g d c → ⊥
+pub chain-none : (T : Rows) (g : Links) (d : Dot) (l : Link) → IsForest T → Adds (links_of T) g d l
+    → chain_code T d l ≡ None → (c : Dot) → IsUnder g d c → ⊥
 chain-none T g d l t a none c u = let clash : Some c ≡ None = sym (chain-path T g d l u.path c t a u.leads) ∙ none in cc
 
 pub NothingSeen-then : (T M N : Rows) → NothingSeen T M → NothingSeen M N → NothingSeen T N
@@ -255,5 +268,6 @@ blank_there : (o : Option Row) → IsSome (or_blank o)
 blank_there None = refl
 blank_there (Some r) = refl
 
-pub present-blank : (T N : Rows) (at : Dot) → ((q : Dot) → N q ≡ cond (dot_eq at q) (or_blank (T q)) (T q)) → IsSome (N at)
+pub present-blank : (T N : Rows) (at : Dot)
+    → ((q : Dot) → N q ≡ cond (dot_eq at q) (or_blank (T q)) (T q)) → IsSome (N at)
 present-blank T N at h = subst (λ (o : Option Row). IsSome o) (sym (h at ∙ cond-true (dot_eq at at) (or_blank (T at)) (T at) (dot_eq-same at))) (blank_there (T at))

@@ -1,6 +1,9 @@
 -- The counts of the bad dots of a family.
 use Rattle.std.specs.FinMap as map
-use Rattle.std.proofs.Common.{◌≡◌, ◌≢◌, ◌⊎◌, inl, inr, ℕ, ◌+◌, ◌-◌, ◌≤◌, ◌||◌, Bool, true, false, not, cond, Option, None, Some, List, [], ◌∷◌, ◌++◌, length, filter, count_by, nat_lt, ap, sym, ◌∙◌, refl, arith, subst, length-append, IsSome}
+use Rattle.std.proofs.Common.{◌≡◌, ◌≢◌, ◌⊎◌, inl, inr, ℕ, ◌+◌, ◌-◌, ◌≤◌, ◌||◌, Bool, true, false}
+use Rattle.std.proofs.Common.{not, cond, Option, None, Some, List, [], ◌∷◌, ◌++◌, length, filter}
+use Rattle.std.proofs.Common.{count_by, nat_lt, ap, sym, ◌∙◌, refl, arith, subst, length-append}
+use Rattle.std.proofs.Common.{IsSome}
 use Rattle.std.proofs.lemmas.Bool.{true≢false, cases_Bool, cond-true, cond-false, lt-ltb}
 use Rattle.std.proofs.lemmas.List.Sums.{length-filter}
 use Rattle.std.proofs.lemmas.Map.Made.{length-le_from_is_member}
@@ -13,15 +16,20 @@ use Rattle.tk_family.specs.declared.link.Link.{Link}
 use Rattle.tk_family.specs.declared.row.Row.{Row}
 use Rattle.tk_family.specs.Counts.{IsCount, IsCounted, blamed_as, IsCountedAs}
 use Rattle.tk_family.specs.Dots.{dot_eq, has}
-use Rattle.tk_family.specs.Rows.{RowMap, Rows, table, link_in, code_in, count_in, marked_in, again_in, bad_at, bad_in, blamed_in, grant_kind}
+use Rattle.tk_family.specs.Rows.{RowMap, Rows, table, link_in, code_in, count_in, marked_in}
+use Rattle.tk_family.specs.Rows.{again_in, bad_at, bad_in, blamed_in, grant_kind}
 use Rattle.tk_family.specs.Writes.{bads}
-use Rattle.tk_family.proofs.DotLaws.{dots_equiv, dot_eq-same, dot_eq-apart, cases_dots, has-cons, has-here, has-there, has-append, has-left, has-right, IsDistinct-append}
+use Rattle.tk_family.proofs.DotLaws.{dots_equiv, dot_eq-same, dot_eq-apart, cases_dots, has-cons}
+use Rattle.tk_family.proofs.DotLaws.{has-here, has-there, has-append, has-left, has-right}
+use Rattle.tk_family.proofs.DotLaws.{IsDistinct-append}
 use Rattle.tk_family.proofs.EntryLaws.{entries_table}
 use Rattle.tk_family.proofs.Filters.{has-filter, filter-has, IsDistinct-filter, apart_all}
 
 -- ---- counts
 
-pub IsCount-alike : (f g : Dot → Option Dot) (c : Dot) (n : ℕ) → ((q : Dot) → f q ≡ Some c → g q ≡ Some c) → ((q : Dot) → g q ≡ Some c → f q ≡ Some c) → IsCount f c n → IsCount g c n
+pub IsCount-alike : (f g : Dot → Option Dot) (c : Dot) (n : ℕ)
+    → ((q : Dot) → f q ≡ Some c → g q ≡ Some c) → ((q : Dot) → g q ≡ Some c → f q ≡ Some c)
+    → IsCount f c n → IsCount g c n
 IsCount-alike f g c n there back x = record {
   list = x.list;
   sound = λ q q_in. there q (x.sound q q_in);
@@ -43,7 +51,9 @@ IsCount-one f c n m x y =
     omega arith
 
 -- a list of other dots, of which some are sent to c too
-IsCount-sum : (f g : Dot → Option Dot) (c : Dot) (n : ℕ) (p : Dot → Bool) (ys : List Dot) → IsDistinct dot_eq ys → ((q : Dot) → has ys q ≡ true → f q ≢ Some c) → ((q : Dot) → g q ≡ Some c → (f q ≡ Some c) ⊎ ((has ys q ≡ true) × (p q ≡ true)))
+IsCount-sum : (f g : Dot → Option Dot) (c : Dot) (n : ℕ) (p : Dot → Bool) (ys : List Dot)
+    → IsDistinct dot_eq ys → ((q : Dot) → has ys q ≡ true → f q ≢ Some c)
+    → ((q : Dot) → g q ≡ Some c → (f q ≡ Some c) ⊎ ((has ys q ≡ true) × (p q ≡ true)))
     → ((q : Dot) → f q ≡ Some c → g q ≡ Some c) → ((q : Dot) → has ys q ≡ true → p q ≡ true → g q ≡ Some c) → IsCount f c n → IsCount g c (n + count_by p ys)
 IsCount-sum f g c n p ys d apart claim old new x =
     let zs : List Dot = filter p ys in
@@ -66,7 +76,10 @@ IsCount-sum f g c n p ys d apart claim old new x =
     }
 
 -- the dots that pass a test
-IsCount-rest : (f g : Dot → Option Dot) (c : Dot) (n : ℕ) (p : Dot → Bool) → ((q : Dot) → g q ≡ Some c → (f q ≡ Some c) × (p q ≡ true)) → ((q : Dot) → f q ≡ Some c → p q ≡ true → g q ≡ Some c) → IsCount f c n → (m : ℕ) × IsCount g c m
+IsCount-rest : (f g : Dot → Option Dot) (c : Dot) (n : ℕ) (p : Dot → Bool)
+    → ((q : Dot) → g q ≡ Some c → (f q ≡ Some c) × (p q ≡ true))
+    → ((q : Dot) → f q ≡ Some c → p q ≡ true → g q ≡ Some c) → IsCount f c n
+    → (m : ℕ) × IsCount g c m
 IsCount-rest f g c n p back there x = (
   length (filter p x.list),
   record {
@@ -79,7 +92,8 @@ IsCount-rest f g c n p back there x = (
 )
 
 -- there are at least as many rows
-IsCount-room : (m : RowMap) (f : Dot → Option Dot) (c : Dot) (n : ℕ) → ((q : Dot) → f q ≡ Some c → IsSome (table m q)) → IsCount f c n → n ≤ map.len m
+IsCount-room : (m : RowMap) (f : Dot → Option Dot) (c : Dot) (n : ℕ)
+    → ((q : Dot) → f q ≡ Some c → IsSome (table m q)) → IsCount f c n → n ≤ map.len m
 IsCount-room m f c n row x =
     let few : length x.list ≤ length (map.entries m) = length-le_from_keys dots_equiv x.list (map.entries m) x.distinct (λ q h. subst IsSome (sym (entries_table m q)) (row q (x.sound q h))) in
     let all : map.len m ≡ length (map.entries m) = map.len-entries m in
@@ -89,13 +103,15 @@ IsCount-room m f c n row x =
 -- ---- one dot
 
 -- a dot that is sent to c neither before nor after
-IsCount-apart : (f g : Dot → Option Dot) (at c : Dot) (n : ℕ) → ((q : Dot) → q ≢ at → g q ≡ f q) → f at ≢ Some c → g at ≢ Some c → IsCount f c n → IsCount g c n
+IsCount-apart : (f g : Dot → Option Dot) (at c : Dot) (n : ℕ) → ((q : Dot) → q ≢ at → g q ≡ f q)
+    → f at ≢ Some c → g at ≢ Some c → IsCount f c n → IsCount g c n
 IsCount-apart f g at c n others not_f not_g x = IsCount-alike f g c n
     (λ q h. elim (cases_dots q at) [ inl same ↦ absurd (not_f (ap f (sym same) ∙ h)) | inr ne ↦ others q ne ∙ h ])
     (λ q h. elim (cases_dots q at) [ inl same ↦ absurd (not_g (ap g (sym same) ∙ h)) | inr ne ↦ sym (others q ne) ∙ h ]) x
 
 -- a dot that is sent to c now
-IsCount-more : (f g : Dot → Option Dot) (at c : Dot) (n : ℕ) → ((q : Dot) → q ≢ at → g q ≡ f q) → f at ≢ Some c → g at ≡ Some c → IsCount f c n → IsCount g c (n + 1)
+IsCount-more : (f g : Dot → Option Dot) (at c : Dot) (n : ℕ) → ((q : Dot) → q ≢ at → g q ≡ f q)
+    → f at ≢ Some c → g at ≡ Some c → IsCount f c n → IsCount g c (n + 1)
 IsCount-more f g at c n others not_f here x =
     let fresh : (q : Dot) → has x.list q ≡ true → q ≢ at = λ q h same. not_f (ap f (sym same) ∙ x.sound q h) in
     let none : has x.list at ≡ false = elim (cases_Bool (has x.list at)) [ inl h ↦ absurd (fresh at h refl) | inr h ↦ h ] in
@@ -111,7 +127,8 @@ IsCount-more f g at c n others not_f here x =
     }
 
 -- a dot that is not sent to c any more
-IsCount-less : (f g : Dot → Option Dot) (at c : Dot) (n : ℕ) → ((q : Dot) → q ≢ at → g q ≡ f q) → f at ≡ Some c → g at ≢ Some c → IsCount f c n → (1 ≤ n) × IsCount g c (n - 1)
+IsCount-less : (f g : Dot → Option Dot) (at c : Dot) (n : ℕ) → ((q : Dot) → q ≢ at → g q ≡ f q)
+    → f at ≡ Some c → g at ≢ Some c → IsCount f c n → (1 ≤ n) × IsCount g c (n - 1)
 IsCount-less f g at c n others here not_g x =
     let back : (q : Dot) → g q ≡ Some c → (f q ≡ Some c) × (not (dot_eq at q) ≡ true) = λ q h. elim (cases_dots q at) [
       | inl same ↦ absurd (not_g (ap g (sym same) ∙ h))
@@ -129,7 +146,10 @@ not_some : (o : Option Dot) (c : Dot) → o ≡ None → o ≢ Some c
 not_some o c none some = let clash : None ≡ Some c = sym none ∙ some in cc
 
 -- a dot that was sent to c or to none, and is sent to c or to none now
-pub IsCount-step : (f g : Dot → Option Dot) (at c : Dot) (was is : Bool) (n : ℕ) → ((q : Dot) → q ≢ at → g q ≡ f q) → f at ≡ cond was (Some c) None → g at ≡ cond is (Some c) None → IsCount f c n → (cond was 1 0 ≤ n) × IsCount g c ((n - cond was 1 0) + cond is 1 0)
+pub IsCount-step : (f g : Dot → Option Dot) (at c : Dot) (was is : Bool) (n : ℕ)
+    → ((q : Dot) → q ≢ at → g q ≡ f q) → f at ≡ cond was (Some c) None
+    → g at ≡ cond is (Some c) None → IsCount f c n
+    → (cond was 1 0 ≤ n) × IsCount g c ((n - cond was 1 0) + cond is 1 0)
 IsCount-step f g at c true true n others before after x =
     let less : (1 ≤ n) × IsCount (λ q. cond (dot_eq at q) None (f q)) c (n - 1) = IsCount-less f (λ q. cond (dot_eq at q) None (f q)) at c n (λ q ne. cond-false _ _ _ (dot_eq-apart at q (λ same. ne (sym same)))) before (not_some _ c (cond-true _ _ _ (dot_eq-same at))) x in (
       less.0,
@@ -147,21 +167,27 @@ IsCount-step f g at c false false n others before after x =
 
 -- ---- bad dots
 
-bad_at-same : (o : Option Link) (x y : Option Row) → ((k : Kind) → marked_in y k ≡ marked_in x k) → ((k : Kind) → again_in y k ≡ again_in x k) → bad_at o y ≡ bad_at o x
+bad_at-same : (o : Option Link) (x y : Option Row) → ((k : Kind) → marked_in y k ≡ marked_in x k)
+    → ((k : Kind) → again_in y k ≡ again_in x k) → bad_at o y ≡ bad_at o x
 bad_at-same None x y marked again = refl
 bad_at-same (Some l) x y marked again = ap (λ (b : Bool). b || again_in y (grant_kind l)) (marked (grant_kind l)) ∙ ap (λ (b : Bool). marked_in x (grant_kind l) || b) (again (grant_kind l))
 
 -- whether a token is bad depends on three columns
-pub bad-same : (x y : Option Row) → link_in y ≡ link_in x → ((k : Kind) → marked_in y k ≡ marked_in x k) → ((k : Kind) → again_in y k ≡ again_in x k) → bad_in y ≡ bad_in x
+pub bad-same : (x y : Option Row) → link_in y ≡ link_in x
+    → ((k : Kind) → marked_in y k ≡ marked_in x k) → ((k : Kind) → again_in y k ≡ again_in x k)
+    → bad_in y ≡ bad_in x
 bad-same x y link marked again = ap (λ (o : Option Link). bad_at o y) link ∙ bad_at-same (link_in x) x y marked again
 
-pub blamed-same : (x y : Option Row) → bad_in y ≡ bad_in x → code_in y ≡ code_in x → blamed_in y ≡ blamed_in x
+pub blamed-same : (x y : Option Row) → bad_in y ≡ bad_in x → code_in y ≡ code_in x
+    → blamed_in y ≡ blamed_in x
 blamed-same x y bad code = ap (λ (b : Bool). cond b (code_in y) None) bad ∙ ap (λ (o : Option Dot). cond (bad_in x) o None) code
 
-pub blamed-bad : (o : Option Row) (c : Dot) → bad_in o ≡ true → code_in o ≡ Some c → blamed_in o ≡ Some c
+pub blamed-bad : (o : Option Row) (c : Dot) → bad_in o ≡ true → code_in o ≡ Some c
+    → blamed_in o ≡ Some c
 blamed-bad o c bad code = cond-true (bad_in o) (code_in o) None bad ∙ code
 
-pub blamed-parts : (o : Option Row) (c : Dot) → blamed_in o ≡ Some c → (bad_in o ≡ true) × (code_in o ≡ Some c)
+pub blamed-parts : (o : Option Row) (c : Dot) → blamed_in o ≡ Some c
+    → (bad_in o ≡ true) × (code_in o ≡ Some c)
 blamed-parts o c h = elim (cases_Bool (bad_in o)) [
   | inl bad ↦ (bad, sym (cond-true (bad_in o) (code_in o) None bad) ∙ h)
   | inr good ↦ absurd (let clash : None ≡ Some c = sym (cond-false (bad_in o) (code_in o) None good) ∙ h in cc)
@@ -175,13 +201,16 @@ bad-row None h = absurd (true≢false (sym h))
 bad-row (Some r) h = refl
 
 -- the columns that the counts depend on are the same
-pub IsCounted-same : (T N : Rows) → ((q : Dot) → blamed_in (N q) ≡ blamed_in (T q)) → ((q : Dot) → count_in (N q) ≡ count_in (T q)) → IsCounted T → IsCounted N
+pub IsCounted-same : (T N : Rows) → ((q : Dot) → blamed_in (N q) ≡ blamed_in (T q))
+    → ((q : Dot) → count_in (N q) ≡ count_in (T q)) → IsCounted T → IsCounted N
 IsCounted-same T N blamed count x c = IsCount-is (λ q. blamed_in (N q)) c (count_in (T c)) (count_in (N c)) (count c)
     (IsCount-alike (λ q. blamed_in (T q)) (λ q. blamed_in (N q)) c (count_in (T c)) (λ q h. blamed q ∙ h) (λ q h. sym (blamed q) ∙ h) (x c))
 
 -- ---- a dot is counted anew
 
-pub IsCountedAs-from : (T M : Rows) (at : Dot) → IsCounted T → ((q : Dot) → code_in (M q) ≡ code_in (T q)) → ((q : Dot) → count_in (M q) ≡ count_in (T q)) → ((q : Dot) → q ≢ at → blamed_in (M q) ≡ blamed_in (T q)) → IsCountedAs M at (bad_in (T at))
+pub IsCountedAs-from : (T M : Rows) (at : Dot) → IsCounted T
+    → ((q : Dot) → code_in (M q) ≡ code_in (T q)) → ((q : Dot) → count_in (M q) ≡ count_in (T q))
+    → ((q : Dot) → q ≢ at → blamed_in (M q) ≡ blamed_in (T q)) → IsCountedAs M at (bad_in (T at))
 IsCountedAs-from T M at x code count blamed c =
     let f : Dot → Option Dot = blamed_as M at (bad_in (T at)) in
     let same : (q : Dot) → f q ≡ blamed_in (T q) = λ q. elim (cases_dots at q) [
@@ -190,17 +219,23 @@ IsCountedAs-from T M at x code count blamed c =
     ] in
     IsCount-is f c (count_in (T c)) (count_in (M c)) (count c) (IsCount-alike (λ q. blamed_in (T q)) f c (count_in (T c)) (λ q h. same q ∙ h) (λ q h. sym (same q) ∙ h) (x c))
 
-as_here : (M : Rows) (at : Dot) (was : Bool) → blamed_as M at was at ≡ cond was (code_in (M at)) None
+as_here : (M : Rows) (at : Dot) (was : Bool)
+    → blamed_as M at was at ≡ cond was (code_in (M at)) None
 as_here M at was = cond-true _ _ _ (dot_eq-same at)
 
-as_other : (M : Rows) (at : Dot) (was : Bool) (q : Dot) → q ≢ at → blamed_in (M q) ≡ blamed_as M at was q
+as_other : (M : Rows) (at : Dot) (was : Bool) (q : Dot) → q ≢ at
+    → blamed_in (M q) ≡ blamed_as M at was q
 as_other M at was q ne = sym (cond-false _ _ _ (dot_eq-apart at q (λ same. ne (sym same))))
 
-pub recount-step : (M : Rows) (at code : Dot) (was : Bool) → IsCountedAs M at was → code_in (M at) ≡ Some code → (cond was 1 0 ≤ count_in (M code)) × IsCount (λ q. blamed_in (M q)) code ((count_in (M code) - cond was 1 0) + cond (bad_in (M at)) 1 0)
+pub recount-step : (M : Rows) (at code : Dot) (was : Bool) → IsCountedAs M at was
+    → code_in (M at) ≡ Some code
+    → (cond was 1 0 ≤ count_in (M code)) × IsCount (λ q. blamed_in (M q)) code ((count_in (M code) - cond was 1 0) + cond (bad_in (M at)) 1 0)
 recount-step M at code was x said = IsCount-step (blamed_as M at was) (λ q. blamed_in (M q)) at code was (bad_in (M at)) (count_in (M code)) (as_other M at was)
     (as_here M at was ∙ ap (λ (o : Option Dot). cond was o None) said) (ap (λ (o : Option Dot). cond (bad_in (M at)) o None) said) (x code)
 
-pub recount-fits : (m : RowMap) (at code : Dot) (was : Bool) → IsCountedAs (table m) at was → code_in (table m at) ≡ Some code → (count_in (table m code) - cond was 1 0) + cond (bad_in (table m at)) 1 0 ≤ map.len m
+pub recount-fits : (m : RowMap) (at code : Dot) (was : Bool) → IsCountedAs (table m) at was
+    → code_in (table m at) ≡ Some code
+    → (count_in (table m code) - cond was 1 0) + cond (bad_in (table m at)) 1 0 ≤ map.len m
 recount-fits m at code was x said = IsCount-room m (λ q. blamed_in (table m q)) code _ (λ q h. bad-row (table m q) (blamed-parts (table m q) code h).0) (recount-step (table m) at code was x said).1
 
 some_or_none : (b : Bool) (o : Option Dot) (x c : Dot) → o ≡ Some x → x ≢ c → cond b o None ≢ Some c
@@ -208,7 +243,8 @@ some_or_none true o x c said ne h = let both : Some x ≡ Some c = sym said ∙ 
 some_or_none false o x c said ne h = let clash : None ≡ Some c = h in cc
 
 -- a code other than that of the dot has its count
-pub recount-others : (M : Rows) (at code : Dot) (was : Bool) (c : Dot) → IsCountedAs M at was → code_in (M at) ≡ Some code → code ≢ c → IsCount (λ q. blamed_in (M q)) c (count_in (M c))
+pub recount-others : (M : Rows) (at code : Dot) (was : Bool) (c : Dot) → IsCountedAs M at was
+    → code_in (M at) ≡ Some code → code ≢ c → IsCount (λ q. blamed_in (M q)) c (count_in (M c))
 recount-others M at code was c x said ne = IsCount-apart (blamed_as M at was) (λ q. blamed_in (M q)) at c (count_in (M c)) (as_other M at was)
     (λ h. some_or_none was (code_in (M at)) code c said ne (sym (as_here M at was) ∙ h)) (some_or_none (bad_in (M at)) (code_in (M at)) code c said ne) (x c)
 
@@ -217,7 +253,8 @@ none_either true o c none h = not_some o c none h
 none_either false o c none h = let clash : None ≡ Some c = h in cc
 
 -- if the dot is under no code, all codes have their counts
-pub recount-none : (M : Rows) (at : Dot) (was : Bool) → IsCountedAs M at was → code_in (M at) ≡ None → IsCounted M
+pub recount-none : (M : Rows) (at : Dot) (was : Bool) → IsCountedAs M at was → code_in (M at) ≡ None
+    → IsCounted M
 recount-none M at was x none c = IsCount-apart (blamed_as M at was) (λ q. blamed_in (M q)) at c (count_in (M c)) (as_other M at was)
     (λ h. none_either was (code_in (M at)) c none (sym (as_here M at was) ∙ h)) (none_either (bad_in (M at)) (code_in (M at)) c none) (x c)
 
@@ -235,7 +272,9 @@ if_some : (b : Bool) (c : Dot) → cond b (Some c) None ≡ Some c → b ≡ tru
 if_some true c h = refl
 if_some false c h = absurd (let clash : None ≡ Some c = h in cc)
 
-raise-count : (M : Rows) (c : Dot) (ys : List Dot) → IsCounted M → IsDistinct dot_eq ys → ((q : Dot) → has ys q ≡ true → code_in (M q) ≡ None) → IsCount (with_list M ys c) c (count_in (M c) + bads M ys)
+raise-count : (M : Rows) (c : Dot) (ys : List Dot) → IsCounted M → IsDistinct dot_eq ys
+    → ((q : Dot) → has ys q ≡ true → code_in (M q) ≡ None)
+    → IsCount (with_list M ys c) c (count_in (M c) + bads M ys)
 raise-count M c ys x d fresh = IsCount-sum (λ q. blamed_in (M q)) (with_list M ys c) c (count_in (M c)) (λ q. bad_in (M q)) ys d
     (λ q walked. not_some (blamed_in (M q)) c (blamed-none (M q) (fresh q walked)))
     (λ q h. elim (cases_Bool (has ys q)) [
@@ -248,7 +287,9 @@ raise-count M c ys x d fresh = IsCount-sum (λ q. blamed_in (M q)) (with_list M 
     ])
     (λ q walked bad. cond-true _ _ _ walked ∙ cond-true _ _ _ bad) (x c)
 
-pub raise-fits : (m : RowMap) (c : Dot) (ys : List Dot) → IsCounted (table m) → IsDistinct dot_eq ys → ((q : Dot) → has ys q ≡ true → code_in (table m q) ≡ None) → count_in (table m c) + bads (table m) ys ≤ map.len m
+pub raise-fits : (m : RowMap) (c : Dot) (ys : List Dot) → IsCounted (table m) → IsDistinct dot_eq ys
+    → ((q : Dot) → has ys q ≡ true → code_in (table m q) ≡ None)
+    → count_in (table m c) + bads (table m) ys ≤ map.len m
 raise-fits m c ys x d fresh = IsCount-room m (with_list (table m) ys c) c _
     (λ q h. elim (cases_Bool (has ys q)) [
       | inl walked ↦ bad-row (table m q) (if_some (bad_in (table m q)) c (sym (cond-true _ _ _ walked) ∙ h))
@@ -256,7 +297,10 @@ raise-fits m c ys x d fresh = IsCount-room m (with_list (table m) ys c) c _
     ]) (raise-count (table m) c ys x d fresh)
 
 -- the counts once a list is under c
-pub IsCounted-raised : (M A : Rows) (c0 : Dot) (ys : List Dot) → IsCounted M → IsDistinct dot_eq ys → ((q : Dot) → has ys q ≡ true → code_in (M q) ≡ None) → ((q : Dot) → bad_in (A q) ≡ bad_in (M q)) → ((q : Dot) → code_in (A q) ≡ cond (has ys q) (Some c0) (code_in (M q)))
+pub IsCounted-raised : (M A : Rows) (c0 : Dot) (ys : List Dot) → IsCounted M → IsDistinct dot_eq ys
+    → ((q : Dot) → has ys q ≡ true → code_in (M q) ≡ None)
+    → ((q : Dot) → bad_in (A q) ≡ bad_in (M q))
+    → ((q : Dot) → code_in (A q) ≡ cond (has ys q) (Some c0) (code_in (M q)))
     → count_in (A c0) ≡ count_in (M c0) + bads M ys → ((c : Dot) → c0 ≢ c → count_in (A c) ≡ count_in (M c)) → IsCounted A
 IsCounted-raised M A c0 ys x d fresh bad code here others c =
     let blamed : (q : Dot) → blamed_in (A q) ≡ with_list M ys c0 q = λ q. elim (cases_Bool (has ys q)) [
@@ -279,7 +323,9 @@ IsCounted-raised M A c0 ys x d fresh bad code here others c =
           ]) (x c))
     ]
 
-clear-count : (T : Rows) (c : Dot) (ys : List Dot) → IsCounted T → IsDistinct dot_eq ys → ((q : Dot) → has ys q ≡ true → code_in (T q) ≡ Some c) → (m : ℕ) × IsCount (without_list T ys) c m × (count_in (T c) ≡ m + bads T ys)
+clear-count : (T : Rows) (c : Dot) (ys : List Dot) → IsCounted T → IsDistinct dot_eq ys
+    → ((q : Dot) → has ys q ≡ true → code_in (T q) ≡ Some c)
+    → (m : ℕ) × IsCount (without_list T ys) c m × (count_in (T c) ≡ m + bads T ys)
 clear-count T c ys x d coded =
     let back : (q : Dot) → without_list T ys q ≡ Some c → (blamed_in (T q) ≡ Some c) × (not (has ys q) ≡ true) = λ q h. elim (cases_Bool (has ys q)) [
       | inl walked ↦ absurd (not_some (without_list T ys q) c (cond-true _ _ _ walked) h)
@@ -297,14 +343,18 @@ clear-count T c ys x d coded =
     (λ q walked bad. blamed-bad (T q) c bad (coded q walked)) r.1 in
     (r.0, r.1, IsCount-one (λ q. blamed_in (T q)) c (count_in (T c)) (r.0 + bads T ys) (x c) whole)
 
-pub clear-fits : (T : Rows) (c : Dot) (ys : List Dot) → IsCounted T → IsDistinct dot_eq ys → ((q : Dot) → has ys q ≡ true → code_in (T q) ≡ Some c) → bads T ys ≤ count_in (T c)
+pub clear-fits : (T : Rows) (c : Dot) (ys : List Dot) → IsCounted T → IsDistinct dot_eq ys
+    → ((q : Dot) → has ys q ≡ true → code_in (T q) ≡ Some c) → bads T ys ≤ count_in (T c)
 clear-fits T c ys x d coded =
     let r : (m : ℕ) × IsCount (without_list T ys) c m × (count_in (T c) ≡ m + bads T ys) = clear-count T c ys x d coded in
     let is : count_in (T c) ≡ r.0 + bads T ys = r.2 in
     omega arith
 
 -- the counts once a list is under no code
-pub IsCounted-cleared : (T A : Rows) (c0 : Dot) (ys : List Dot) → IsCounted T → IsDistinct dot_eq ys → ((q : Dot) → has ys q ≡ true → code_in (T q) ≡ Some c0) → ((q : Dot) → bad_in (A q) ≡ bad_in (T q)) → ((q : Dot) → code_in (A q) ≡ cond (has ys q) None (code_in (T q)))
+pub IsCounted-cleared : (T A : Rows) (c0 : Dot) (ys : List Dot) → IsCounted T → IsDistinct dot_eq ys
+    → ((q : Dot) → has ys q ≡ true → code_in (T q) ≡ Some c0)
+    → ((q : Dot) → bad_in (A q) ≡ bad_in (T q))
+    → ((q : Dot) → code_in (A q) ≡ cond (has ys q) None (code_in (T q)))
     → count_in (A c0) ≡ count_in (T c0) - bads T ys → ((c : Dot) → c0 ≢ c → count_in (A c) ≡ count_in (T c)) → IsCounted A
 IsCounted-cleared T A c0 ys x d coded bad code here others c =
     let blamed : (q : Dot) → blamed_in (A q) ≡ without_list T ys q = λ q. elim (cases_Bool (has ys q)) [
@@ -330,7 +380,9 @@ IsCounted-cleared T A c0 ys x d coded bad code here others c =
 
 -- ---- what a count says
 
-some_of : (f : Dot → Option Dot) (c : Dot) (n : ℕ) (list : List Dot) → n ≡ length list → nat_lt 0 n ≡ true → ((q : Dot) → has list q ≡ true → f q ≡ Some c) → (q : Dot) × (f q ≡ Some c)
+some_of : (f : Dot → Option Dot) (c : Dot) (n : ℕ) (list : List Dot) → n ≡ length list
+    → nat_lt 0 n ≡ true → ((q : Dot) → has list q ≡ true → f q ≡ Some c)
+    → (q : Dot) × (f q ≡ Some c)
 some_of f c n [] is h sound = absurd (true≢false (sym h ∙ ap (nat_lt 0) is))
 some_of f c n (x ∷ xs) is h sound = (x, sound x (has-here x xs))
 
@@ -338,8 +390,10 @@ long_if : (list : List Dot) (q : Dot) → has list q ≡ true → nat_lt 0 (leng
 long_if [] q h = absurd (true≢false (sym h))
 long_if (x ∷ xs) q h = lt-ltb 0 (length (x ∷ xs)) (omega arith)
 
-pub count-some : (f : Dot → Option Dot) (c : Dot) (n : ℕ) → IsCount f c n → nat_lt 0 n ≡ true → (q : Dot) × (f q ≡ Some c)
+pub count-some : (f : Dot → Option Dot) (c : Dot) (n : ℕ) → IsCount f c n → nat_lt 0 n ≡ true
+    → (q : Dot) × (f q ≡ Some c)
 count-some f c n x h = some_of f c n x.list x.count h x.sound
 
-pub some-count : (f : Dot → Option Dot) (c q : Dot) (n : ℕ) → IsCount f c n → f q ≡ Some c → nat_lt 0 n ≡ true
+pub some-count : (f : Dot → Option Dot) (c q : Dot) (n : ℕ) → IsCount f c n → f q ≡ Some c
+    → nat_lt 0 n ≡ true
 some-count f c q n x h = ap (nat_lt 0) x.count ∙ long_if x.list q (x.all q h)

@@ -1,6 +1,8 @@
 -- Laws of dots and of lists of dots.
-use Rattle.std.proofs.Common.{◌≡◌, ◌≢◌, ◌⊎◌, inl, inr, true, false, List, [], ◌∷◌, ◌++◌, ap, sym, ◌∙◌, refl, append_assoc, append-nil}
-use Rattle.std.proofs.lemmas.Bool.{true≢false, cases_Bool, false_from_ne_true, or_cases, or_left, or_right, or_from}
+use Rattle.std.proofs.Common.{◌≡◌, ◌≢◌, ◌⊎◌, inl, inr, true, false, List, [], ◌∷◌, ◌++◌, ap, sym}
+use Rattle.std.proofs.Common.{◌∙◌, refl, append_assoc, append-nil}
+use Rattle.std.proofs.lemmas.Bool.{true≢false, cases_Bool, false_from_ne_true, or_cases, or_left}
+use Rattle.std.proofs.lemmas.Bool.{or_right, or_from}
 use Rattle.std.proofs.lemmas.List.Folds.{list_any-append}
 use Rattle.std.proofs.lemmas.Map.Keys.{IsDistinct-head, IsDistinct-tail, IsDistinct-push}
 use Rattle.std.specs.List.{IsDistinct, AllByRecursion}
@@ -29,7 +31,8 @@ cases_dots a b = elim (cases_Bool (dot_eq a b)) [ inl same ↦ inl (dot_eq-true 
 pub dot_eq-apart : (a b : Dot) → a ≢ b → dot_eq a b ≡ false
 dot_eq-apart a b ne = false_from_ne_true (dot_eq a b) (λ same. ne (dot_eq-true a b same))
 
-pub has-cons : (x : Dot) (xs : List Dot) (q : Dot) → has (x ∷ xs) q ≡ true → (q ≡ x) ⊎ (has xs q ≡ true)
+pub has-cons : (x : Dot) (xs : List Dot) (q : Dot) → has (x ∷ xs) q ≡ true
+    → (q ≡ x) ⊎ (has xs q ≡ true)
 has-cons x xs q h = elim (or_cases (dot_eq q x) (has xs q) h) [ inl here ↦ inl (dot_eq-true q x here) | inr more ↦ inr more ]
 
 pub has-here : (x : Dot) (xs : List Dot) → has (x ∷ xs) x ≡ true
@@ -38,7 +41,8 @@ has-here x xs = or_left (dot_eq x x) (has xs x) (dot_eq-same x)
 pub has-there : (x : Dot) (xs : List Dot) (q : Dot) → has xs q ≡ true → has (x ∷ xs) q ≡ true
 has-there x xs q h = or_right (dot_eq q x) (has xs q) h
 
-pub has-append : (a b : List Dot) (q : Dot) → has (a ++ b) q ≡ true → (has a q ≡ true) ⊎ (has b q ≡ true)
+pub has-append : (a b : List Dot) (q : Dot) → has (a ++ b) q ≡ true
+    → (has a q ≡ true) ⊎ (has b q ≡ true)
 has-append a b q h = or_cases (has a q) (has b q) (sym (list_any-append (dot_eq q) a b) ∙ h)
 
 pub has-left : (a b : List Dot) (q : Dot) → has a q ≡ true → has (a ++ b) q ≡ true
@@ -47,14 +51,16 @@ has-left a b q h = list_any-append (dot_eq q) a b ∙ or_left (has a q) (has b q
 pub has-right : (a b : List Dot) (q : Dot) → has b q ≡ true → has (a ++ b) q ≡ true
 has-right a b q h = list_any-append (dot_eq q) a b ∙ or_right (has a q) (has b q) h
 
-pub list_none : (y : Dot) (ys : List Dot) → AllByRecursion (λ z. dot_eq y z ≡ false) ys → has ys y ≡ false
+pub list_none : (y : Dot) (ys : List Dot) → AllByRecursion (λ z. dot_eq y z ≡ false) ys
+    → has ys y ≡ false
 list_none y [] h = refl
 list_none y (z ∷ zs) h = or_from (dot_eq y z) (has zs y) h.0 (list_none y zs h.1)
 
 has-cons-same : (x : Dot) (b : List Dot) (z : Dot) → x ≡ z → has (x ∷ b) z ≡ true
 has-cons-same x b z same = or_left (dot_eq z x) (has b z) (ap (dot_eq z) same ∙ dot_eq-same z)
 
-pub IsDistinct-append : (a b : List Dot) → IsDistinct dot_eq a → IsDistinct dot_eq b → ((q : Dot) → has a q ≡ true → has b q ≡ true → ⊥) → IsDistinct dot_eq (a ++ b)
+pub IsDistinct-append : (a b : List Dot) → IsDistinct dot_eq a → IsDistinct dot_eq b
+    → ((q : Dot) → has a q ≡ true → has b q ≡ true → ⊥) → IsDistinct dot_eq (a ++ b)
 IsDistinct-append a [] da db apart = rw append-nil da
 IsDistinct-append a (y ∷ ys) da db apart =
     let fresh : has a y ≡ false = false_from_ne_true (has a y) (λ here. apart y here (has-here y ys)) in
@@ -71,7 +77,8 @@ IsDistinct-append a (y ∷ ys) da db apart =
     rw (← append_assoc a (y ∷ []) ys) (IsDistinct-append (a ++ y ∷ []) ys (IsDistinct-push dots_equiv a y da fresh) (IsDistinct-tail dot_eq y ys db) rest_apart)
 
 -- an element in the middle of a list of distinct dots is not among those before it
-pub IsDistinct-middle : (a : List Dot) (x : Dot) (b : List Dot) → IsDistinct dot_eq (a ++ x ∷ b) → has a x ≡ false
+pub IsDistinct-middle : (a : List Dot) (x : Dot) (b : List Dot) → IsDistinct dot_eq (a ++ x ∷ b)
+    → has a x ≡ false
 IsDistinct-middle [] x b d = refl
 IsDistinct-middle (z ∷ zs) x b d =
     let apart : has (zs ++ x ∷ b) z ≡ false = list_none z (zs ++ x ∷ b) (IsDistinct-head dot_eq z (zs ++ x ∷ b) d) in

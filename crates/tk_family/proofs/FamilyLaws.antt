@@ -1,10 +1,13 @@
 -- The laws of families, over links and marks: proofs of `specs/Laws.antt`.
-use Rattle.std.proofs.Common.{◌≡◌, inl, inr, ◌+◌, true, Option, None, Some, List, [], ◌∷◌, length, ap, sym, ◌∙◌, refl, arith}
+use Rattle.std.proofs.Common.{◌≡◌, inl, inr, ◌+◌, true, Option, None, Some, List, [], ◌∷◌, length}
+use Rattle.std.proofs.Common.{ap, sym, ◌∙◌, refl, arith}
 use Rattle.tk_handle.specs.declared.dot.Dot.{Dot}
 use Rattle.tk_handle.specs.declared.token_id.TokenId.{TokenId}
 use Rattle.tk_family.specs.declared.link.Link.{Link}
 use Rattle.tk_family.specs.declared.link.Link.TheVariants.{Code, Redeems, Rotates}
-use Rattle.tk_family.specs.Families.{Links, Marks, named_by, grant_at, fits, rank, rank_of, IsParent, IsPath, IsUnder, IsTrail, use_of, IsTwice, IsBad, IsDead, LinksWithin, MarksWithin}
+use Rattle.tk_family.specs.Families.{Links, Marks, named_by, grant_at, fits, rank, rank_of}
+use Rattle.tk_family.specs.Families.{IsParent, IsPath, IsUnder, IsTrail, use_of, IsTwice, IsBad}
+use Rattle.tk_family.specs.Families.{IsDead, LinksWithin, MarksWithin}
 
 -- a dot has at most one parent
 pub IsParent-one : (f : Links) (e p q : Dot) → IsParent f e p → IsParent f e q → p ≡ q
@@ -24,7 +27,8 @@ IsParent-code f e p code a =
     cc
 
 -- a dot is under at most one code
-pub IsPath-one : (f : Links) (d : Dot) (ps qs : List Dot) (b c : Dot) → IsPath f d ps b → IsPath f d qs c → b ≡ c
+pub IsPath-one : (f : Links) (d : Dot) (ps qs : List Dot) (b c : Dot) → IsPath f d ps b
+    → IsPath f d qs c → b ≡ c
 IsPath-one f d [] [] b c m n = sym m.0 ∙ n.0
 IsPath-one f d [] (q ∷ qs) b c m n = absurd (IsParent-code f d q (ap f m.0 ∙ m.1) n.0.0)
 IsPath-one f d (p ∷ ps) [] b c m n = absurd (IsParent-code f d p (ap f n.0 ∙ n.1) m.0.0)
@@ -47,7 +51,8 @@ fits-rank (Rotates p g) (Rotates d j) h = grind (arith)
 
 -- ---- what holds of some links holds of more
 
-pub IsParent-within : (f g : Links) → LinksWithin f g → (e p : Dot) → IsParent f e p → IsParent g e p
+pub IsParent-within : (f g : Links) → LinksWithin f g → (e p : Dot) → IsParent f e p
+    → IsParent g e p
 IsParent-within f g w e p a = record {
   link = a.link;
   above = a.above;
@@ -57,14 +62,16 @@ IsParent-within f g w e p a = record {
   fitting = a.fitting;
 }
 
-pub IsTrail-within : (f g : Links) → LinksWithin f g → (d : Dot) (ps : List Dot) (e : Dot) → IsTrail f d ps e → IsTrail g d ps e
+pub IsTrail-within : (f g : Links) → LinksWithin f g → (d : Dot) (ps : List Dot) (e : Dot)
+    → IsTrail f d ps e → IsTrail g d ps e
 IsTrail-within f g w d [] e m = m
 IsTrail-within f g w d (p ∷ ps) e m = (IsParent-within f g w d p m.0, IsTrail-within f g w p ps e m.1)
 
 pub IsUnder-within : (f g : Links) → LinksWithin f g → (d c : Dot) → IsUnder f d c → IsUnder g d c
 IsUnder-within f g w d c m = record { path = m.path; leads = (IsTrail-within f g w d m.path c m.leads.0, w c Code m.leads.1) }
 
-pub use_of-within : (f g : Links) → LinksWithin f g → (e : Dot) (o : Option Link) (k : TokenId) → f e ≡ o → use_of o ≡ Some k → use_of (g e) ≡ Some k
+pub use_of-within : (f g : Links) → LinksWithin f g → (e : Dot) (o : Option Link) (k : TokenId)
+    → f e ≡ o → use_of o ≡ Some k → use_of (g e) ≡ Some k
 use_of-within f g w e None k at h = absurd (cc)
 use_of-within f g w e (Some l) k at h = ap use_of (w e l at) ∙ h
 
@@ -77,7 +84,8 @@ IsTwice-within f g w k t = record {
   by_two = use_of-within f g w t.two (f t.two) k refl t.by_two;
 }
 
-pub IsBad-within : (f g : Links) (m n : Marks) → LinksWithin f g → MarksWithin m n → (d : Dot) → IsBad f m d → IsBad g n d
+pub IsBad-within : (f g : Links) (m n : Marks) → LinksWithin f g → MarksWithin m n → (d : Dot)
+    → IsBad f m d → IsBad g n d
 IsBad-within f g m n w v d b = record {
   link = b.link;
   here = w d b.link b.here;
@@ -85,7 +93,8 @@ IsBad-within f g m n w v d b = record {
 }
 
 -- a dead family stays dead
-pub IsDead-within : (f g : Links) (m n : Marks) → LinksWithin f g → MarksWithin m n → (c : Dot) → IsDead f m c → IsDead g n c
+pub IsDead-within : (f g : Links) (m n : Marks) → LinksWithin f g → MarksWithin m n → (c : Dot)
+    → IsDead f m c → IsDead g n c
 IsDead-within f g m n w v c x = record {
   member = x.member;
   under = IsUnder-within f g w x.member c x.under;
@@ -98,7 +107,8 @@ pub IsParent-rank : (f : Links) (e p : Dot) → IsParent f e p → rank_of (f e)
 IsParent-rank f e p a = ap rank_of a.here ∙ (fits-rank a.link a.above a.fitting ∙ ap (λ (o : Option Link). rank_of o + 1) (sym a.there))
 
 -- a walk is as long as the rank falls
-pub IsTrail-length : (f : Links) (d e : Dot) (ps : List Dot) → IsTrail f d ps e → length ps + rank_of (f e) ≡ rank_of (f d)
+pub IsTrail-length : (f : Links) (d e : Dot) (ps : List Dot) → IsTrail f d ps e
+    → length ps + rank_of (f e) ≡ rank_of (f d)
 IsTrail-length f d e [] m = let at : rank_of (f d) ≡ rank_of (f e) = ap (λ (q : Dot). rank_of (f q)) m in omega (arith, at)
 IsTrail-length f d e (p ∷ ps) m =
     let falls : rank_of (f d) ≡ rank_of (f p) + 1 = IsParent-rank f d p m.0 in
@@ -110,7 +120,8 @@ pub IsTrail-no_ring : (f : Links) (d p : Dot) (ps : List Dot) → ¬ IsTrail f d
 IsTrail-no_ring f d p ps m = let whole : length (p ∷ ps) + rank_of (f d) ≡ rank_of (f d) = IsTrail-length f d d (p ∷ ps) m in absurd (omega (arith, whole))
 
 -- a chain to a code has as many parents as the rank of its first dot
-pub IsPath-length : (f : Links) (d c : Dot) (ps : List Dot) → IsPath f d ps c → length ps ≡ rank_of (f d)
+pub IsPath-length : (f : Links) (d c : Dot) (ps : List Dot) → IsPath f d ps c
+    → length ps ≡ rank_of (f d)
 IsPath-length f d c ps m =
     let whole : length ps + rank_of (f c) ≡ rank_of (f d) = IsTrail-length f d c ps m.0 in
     let none : rank_of (f c) ≡ 0 = ap rank_of m.1 in

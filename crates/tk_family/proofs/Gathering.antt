@@ -1,9 +1,12 @@
 -- Gathering all that hangs below a dot, in a list that is its own queue (`Gathering`, the loop's
 -- invariant).
 use Rattle.std.specs.FinMap as map
-use Rattle.std.proofs.Common.{◌≡◌, ◌≢◌, inl, inr, ℕ, ◌+◌, ◌<◌, ◌≤◌, true, Option, None, Some, List, [], ◌∷◌, ◌++◌, length, take, drop, get_or, ap, sym, ◌∙◌, refl, arith, subst, append-nil, length-append, IsSome, rules}
+use Rattle.std.proofs.Common.{◌≡◌, ◌≢◌, inl, inr, ℕ, ◌+◌, ◌<◌, ◌≤◌, true, Option, None, Some, List}
+use Rattle.std.proofs.Common.{[], ◌∷◌, ◌++◌, length, take, drop, get_or, ap, sym, ◌∙◌, refl, arith}
+use Rattle.std.proofs.Common.{subst, append-nil, length-append, IsSome, rules}
 use Rattle.std.proofs.lemmas.Bool.{true≢false, cond-true, cond-false}
-use Rattle.std.proofs.lemmas.List.{take_more, drop_more, take-append-le, drop-append-le, take-append-drop, take_all, drop_all}
+use Rattle.std.proofs.lemmas.List.{take_more, drop_more, take-append-le, drop-append-le}
+use Rattle.std.proofs.lemmas.List.{take-append-drop, take_all, drop_all}
 use Rattle.std.proofs.lemmas.Map.Steps.{length-le_from_keys}
 use Rattle.std.proofs.lemmas.Map.Keys.{IsDistinct-IsPermutation}
 use Rattle.std.proofs.lemmas.List.Sorted.{list_any-IsPermutation}
@@ -31,7 +34,8 @@ with_link-other f d l q ne = cond-false (dot_eq d q) (Some l) (f q) (dot_eq-apar
 pub Adds-with_link : (f : Links) (d : Dot) (l : Link) → f d ≡ None → Adds f (with_link f d l) d l
 Adds-with_link f d l free = record { free = free; here = with_link-here f d l; others = with_link-other f d l }
 
-parent_from : (g : Links) (e x : Dot) (above : Link) (o : Option Link) → g e ≡ o → named_of o ≡ Some x → fits_at o above ≡ true → g x ≡ Some above → IsParent g e x
+parent_from : (g : Links) (e x : Dot) (above : Link) (o : Option Link) → g e ≡ o
+    → named_of o ≡ Some x → fits_at o above ≡ true → g x ≡ Some above → IsParent g e x
 parent_from g e x above None at names fitting there = absurd (cc)
 parent_from g e x above (Some k) at names fitting there = record { link = k; above = above; here = at; names = names; there = there; fitting = fitting }
 
@@ -40,7 +44,8 @@ some_named None x h = absurd (cc)
 some_named (Some k) x h = (k, refl)
 
 -- what has a name stands where it stood, if at d is no other link
-with_link-named : (f : Links) (d : Dot) (l : Link) (e x : Dot) → ((k : Link) → f d ≡ Some k → k ≡ l) → named_of (f e) ≡ Some x → with_link f d l e ≡ f e
+with_link-named : (f : Links) (d : Dot) (l : Link) (e x : Dot) → ((k : Link) → f d ≡ Some k → k ≡ l)
+    → named_of (f e) ≡ Some x → with_link f d l e ≡ f e
 with_link-named f d l e x other names = elim (cases_dots e d) [
   | inl same ↦
       let some : (k : Link) × (f e ≡ Some k) = some_named (f e) x names in
@@ -49,7 +54,9 @@ with_link-named f d l e x other names = elim (cases_dots e d) [
   | inr ne ↦ with_link-other f d l e ne
 ]
 
-pub AreChildren-from : (f : Links) (d : Dot) (l : Link) (x : Dot) (above : Link) (cs : List Dot) → ((k : Link) → f d ≡ Some k → k ≡ l) → with_link f d l x ≡ Some above → FitsAll f x above cs → AreChildren (with_link f d l) d x cs
+pub AreChildren-from : (f : Links) (d : Dot) (l : Link) (x : Dot) (above : Link) (cs : List Dot)
+    → ((k : Link) → f d ≡ Some k → k ≡ l) → with_link f d l x ≡ Some above → FitsAll f x above cs
+    → AreChildren (with_link f d l) d x cs
 AreChildren-from f d l x above cs other there fit = record {
   sound = λ e h. parent_from (with_link f d l) e x above (f e) (with_link-named f d l e x other (fit.names e h)) (fit.names e h) (fit.fitting e h) there;
   all = λ e ne par.
@@ -78,7 +85,8 @@ row_of : (o : Option Row) (k : Link) → link_in o ≡ Some k → IsSome o
 row_of None k h = absurd (cc)
 row_of (Some r) k h = search rules
 
-Walk-room : (m : RowMap) (d : Dot) (l : Link) (done rest : List Dot) → IsSome (table m d) → Walk (with_link (links_of (table m)) d l) d done rest → length (done ++ rest) ≤ map.len m
+Walk-room : (m : RowMap) (d : Dot) (l : Link) (done rest : List Dot) → IsSome (table m d)
+    → Walk (with_link (links_of (table m)) d l) d done rest → length (done ++ rest) ≤ map.len m
 Walk-room m d l done rest row w = subst (λ (n : ℕ). length (done ++ rest) ≤ n) (sym (map.len-entries m)) (length-le_from_keys dots_equiv (done ++ rest) (map.entries m) w.distinct (λ q h. subst IsSome (sym (entries_table m q)) (
     elim (cases_dots q d) [
       | inl same ↦ subst (λ (y : Dot). IsSome (table m y)) (sym same) row
@@ -88,15 +96,21 @@ Walk-room m d l done rest row w = subst (λ (n : ℕ). length (done ++ rest) ≤
       ]
     ])))
 
-pub Gathering-from : (m : RowMap) (d : Dot) (l : Link) (ys : List Dot) (i : ℕ) → IsSome (table m d) → i ≤ length ys → Walk (with_link (links_of (table m)) d l) d (take i ys) (drop i ys) → Gathering m d l ys i
+pub Gathering-from : (m : RowMap) (d : Dot) (l : Link) (ys : List Dot) (i : ℕ) → IsSome (table m d)
+    → i ≤ length ys → Walk (with_link (links_of (table m)) d l) d (take i ys) (drop i ys)
+    → Gathering m d l ys i
 Gathering-from m d l ys i row within w =
     let room : length (take i ys ++ drop i ys) ≤ map.len m = Walk-room m d l (take i ys) (drop i ys) row w in
     record { walk = w; within = within; room = subst (λ (zs : List Dot). length zs ≤ map.len m) (take-append-drop i ys) room }
 
-pub Gathering-starts : (m : RowMap) (d : Dot) (l : Link) → IsSome (table m d) → Gathering m d l (d ∷ []) 0
+pub Gathering-starts : (m : RowMap) (d : Dot) (l : Link) → IsSome (table m d)
+    → Gathering m d l (d ∷ []) 0
 Gathering-starts m d l row = Gathering-from m d l (d ∷ []) 0 row (omega arith) (Walk-starts (with_link (links_of (table m)) d l) d)
 
-pub Gathering-turns : (m : RowMap) (d : Dot) (l : Link) (ys cs zs : List Dot) (i : ℕ) (x : Dot) → IsSome (table m d) → i < length ys → x ≡ get_or ys i x → zs ≡ ys ++ cs → AreChildren (with_link (links_of (table m)) d l) d x cs → Gathering m d l ys i → Gathering m d l zs (i + 1)
+pub Gathering-turns : (m : RowMap) (d : Dot) (l : Link) (ys cs zs : List Dot) (i : ℕ) (x : Dot)
+    → IsSome (table m d) → i < length ys → x ≡ get_or ys i x → zs ≡ ys ++ cs
+    → AreChildren (with_link (links_of (table m)) d l) d x cs → Gathering m d l ys i
+    → Gathering m d l zs (i + 1)
 Gathering-turns m d l ys cs zs i x row below at after children g =
     let front : take (i + 1) ys ≡ take i ys ++ x ∷ [] = take_more ys i x below ∙ ap (λ (y : Dot). take i ys ++ y ∷ []) (sym at) in
     let split : drop i ys ≡ x ∷ drop (i + 1) ys = drop_more ys i x below ∙ ap (λ (y : Dot). y ∷ drop (i + 1) ys) (sym at) in
@@ -111,7 +125,9 @@ Gathering-turns m d l ys cs zs i x row below at after children g =
     (subst (λ (f : List Dot). Walk (with_link (links_of (table m)) d l) d f (drop (i + 1) ys ++ cs)) new_front turned))
 
 -- a list that has no room for the children of one of its dots has not room for all rows
-pub Gathering-short : (m : RowMap) (d : Dot) (l : Link) (ys : List Dot) (i room : ℕ) (x : Dot) (above : Link) → IsSome (table m d) → i < length ys → x ≡ get_or ys i x → ((k : Link) → links_of (table m) d ≡ Some k → k ≡ l)
+pub Gathering-short : (m : RowMap) (d : Dot) (l : Link) (ys : List Dot) (i room : ℕ) (x : Dot) (above : Link)
+    → IsSome (table m d) → i < length ys → x ≡ get_or ys i x
+    → ((k : Link) → links_of (table m) d ≡ Some k → k ≡ l)
     → with_link (links_of (table m)) d l x ≡ Some above → IsShort (links_of (table m)) x above ys room → Gathering m d l ys i → room < map.len m
 Gathering-short m d l ys i room x above row below at other there s g =
     let more : Gathering m d l (ys ++ s.children) (i + 1) =
@@ -120,7 +136,8 @@ Gathering-short m d l ys i room x above row below at other there s g =
     let short : room < length (ys ++ s.children) = s.short in
     omega arith
 
-pub Gathering-ends : (m : RowMap) (d : Dot) (l : Link) (ys : List Dot) (i : ℕ) → length ys ≤ i → Gathering m d l ys i → Gathers (links_of (table m)) d l ys
+pub Gathering-ends : (m : RowMap) (d : Dot) (l : Link) (ys : List Dot) (i : ℕ) → length ys ≤ i
+    → Gathering m d l ys i → Gathers (links_of (table m)) d l ys
 Gathering-ends m d l ys i above g =
     let all : take i ys ≡ ys = take_all i ys above in
     let none : drop i ys ≡ [] = drop_all i ys above in
@@ -135,7 +152,8 @@ Gathering-ends m d l ys i above g =
       distinct = subst (λ (zs : List Dot). IsDistinct dot_eq zs) whole w.distinct;
     }
 
-pub Gathers-permuted : (f : Links) (d : Dot) (l : Link) (ys zs : List Dot) → IsPermutation ys zs → Gathers f d l ys → Gathers f d l zs
+pub Gathers-permuted : (f : Links) (d : Dot) (l : Link) (ys zs : List Dot) → IsPermutation ys zs
+    → Gathers f d l ys → Gathers f d l zs
 Gathers-permuted f d l ys zs p g =
     let same : (q : Dot) → has ys q ≡ has zs q = λ q. list_any-IsPermutation (dot_eq q) ys zs p in
     record {

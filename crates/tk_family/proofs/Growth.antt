@@ -1,8 +1,10 @@
 -- What the rows of a forest keep is kept when a link is put and when a token is marked.
 --   Grown                  the dots that a link brought under a code
 --   PutRows                the rows after a link was put
-use Rattle.std.proofs.Common.{◌≡◌, ◌⊎◌, inl, inr, true, cond, Option, None, Some, List, [], ◌∷◌, ◌||◌, ◌&&◌, ap, sym, ◌∙◌, refl, subst}
-use Rattle.std.proofs.lemmas.Bool.{true≢false, cases_Bool, or_cases, or_left, or_right, cond-true, cond-false, and_parts, and_from}
+use Rattle.std.proofs.Common.{◌≡◌, ◌⊎◌, inl, inr, true, cond, Option, None, Some, List, [], ◌∷◌}
+use Rattle.std.proofs.Common.{◌||◌, ◌&&◌, ap, sym, ◌∙◌, refl, subst}
+use Rattle.std.proofs.lemmas.Bool.{true≢false, cases_Bool, or_cases, or_left, or_right, cond-true}
+use Rattle.std.proofs.lemmas.Bool.{cond-false, and_parts, and_from}
 use Rattle.tk_handle.specs.declared.dot.Dot.{Dot}
 use Rattle.tk_handle.specs.declared.kind.Kind.{Kind}
 use Rattle.tk_handle.specs.declared.kind.Kind.TheVariants as kind
@@ -12,10 +14,12 @@ use Rattle.tk_family.specs.Laws.{passing}
 use Rattle.tk_family.specs.declared.link.Link.{Link}
 use Rattle.tk_family.specs.declared.link.Link.TheVariants.{Code, Redeems, Rotates}
 use Rattle.tk_family.specs.Dots.{dot_eq, has}
-use Rattle.tk_family.specs.Families.{Links, used_by, grant_at, use_of, IsParent, IsPath, IsUnder, IsTwice, IsBad, IsDead, LinksWithin, IsUsed}
+use Rattle.tk_family.specs.Families.{Links, used_by, grant_at, use_of, IsParent, IsPath, IsUnder}
+use Rattle.tk_family.specs.Families.{IsTwice, IsBad, IsDead, LinksWithin, IsUsed}
 use Rattle.tk_family.specs.Uses.{uses_it}
 use Rattle.tk_family.specs.Counts.{IsCounted}
-use Rattle.tk_family.specs.Rows.{Rows, code_in, dead_in, used_in, again_in, bad_at, bad_in, blamed_in, links_of, marks_of}
+use Rattle.tk_family.specs.Rows.{Rows, code_in, dead_in, used_in, again_in, bad_at, bad_in}
+use Rattle.tk_family.specs.Rows.{blamed_in, links_of, marks_of}
 use Rattle.tk_family.specs.Kept.{IsForest}
 use Rattle.tk_family.proofs.DotLaws.{cases_dots, dot_eq-true, dot_eq-same}
 use Rattle.tk_family.proofs.Adding.{Adds, Within-adds, IsPath-adds, alone, below_under}
@@ -29,13 +33,17 @@ pub record Grown (f g : Links) (c0 : Dot) (ys : List Dot) : Type 0 where
   pub claim : (q c : Dot) → IsUnder g q c → (has ys q ≡ true) ⊎ IsUnder f q c
   pub sound : (q : Dot) → has ys q ≡ true → IsUnder g q c0
 
-pub Grown-walk : (f g : Links) (d : Dot) (l : Link) (c : Dot) (ys : List Dot) → Adds f g d l → (has ys d ≡ true) → ((x e : Dot) → has ys x ≡ true → IsParent g e x → has ys e ≡ true) → ((q : Dot) → has ys q ≡ true → IsUnder g q c) → Grown f g c ys
+pub Grown-walk : (f g : Links) (d : Dot) (l : Link) (c : Dot) (ys : List Dot) → Adds f g d l
+    → (has ys d ≡ true) → ((x e : Dot) → has ys x ≡ true → IsParent g e x → has ys e ≡ true)
+    → ((q : Dot) → has ys q ≡ true → IsUnder g q c) → Grown f g c ys
 Grown-walk f g d l c ys a root closed sound = record {
   claim = λ q b u. IsPath-adds f g d l (has ys) a root closed q u.path b u.leads;
   sound = sound;
 }
 
-pub IsPath-waits : (f g : Links) (d : Dot) (l : Link) → Adds f g d l → ((c : Dot) → IsUnder g d c → ⊥) → (q : Dot) (ps : List Dot) (c : Dot) → IsPath g q ps c → IsUnder f q c
+pub IsPath-waits : (f g : Links) (d : Dot) (l : Link) → Adds f g d l
+    → ((c : Dot) → IsUnder g d c → ⊥) → (q : Dot) (ps : List Dot) (c : Dot) → IsPath g q ps c
+    → IsUnder f q c
 IsPath-waits f g d l a none_under q [] c m = elim (cases_dots q d) [
   | inl same ↦ absurd (none_under c (subst (λ (x : Dot). IsUnder g x c) same (record { path = []; leads = m })))
   | inr ne ↦ alone f g d l a q c ne m
@@ -45,7 +53,8 @@ IsPath-waits f g d l a none_under q (p ∷ ps) c m = elim (cases_dots q d) [
   | inr ne ↦ below_under f g d l a q p c ne m.0.0 (IsPath-waits f g d l a none_under p ps c (m.0.1, m.1))
 ]
 
-pub Grown-waits : (f g : Links) (d : Dot) (l : Link) (c0 : Dot) → Adds f g d l → ((c : Dot) → IsUnder g d c → ⊥) → Grown f g c0 []
+pub Grown-waits : (f g : Links) (d : Dot) (l : Link) (c0 : Dot) → Adds f g d l
+    → ((c : Dot) → IsUnder g d c → ⊥) → Grown f g c0 []
 Grown-waits f g d l c0 a none_under = record {
   claim = λ q c u. inr (IsPath-waits f g d l a none_under q u.path c u.leads);
   sound = λ q h. absurd (true≢false (sym h));
@@ -57,13 +66,15 @@ Grown-waits f g d l c0 a none_under = record {
 some_use : (f : Links) (e : Dot) (k : TokenId) → use_of (f e) ≡ Some k → f e ≡ None → ⊥
 some_use f e k h none = let clash : None ≡ Some k = sym (ap use_of none) ∙ h in cc
 
-pub IsUsed-adds : (f g : Links) (d : Dot) (l : Link) → Adds f g d l → (k : TokenId) → IsUsed g k → (used_by l ≡ Some k) ⊎ IsUsed f k
+pub IsUsed-adds : (f g : Links) (d : Dot) (l : Link) → Adds f g d l → (k : TokenId) → IsUsed g k
+    → (used_by l ≡ Some k) ⊎ IsUsed f k
 IsUsed-adds f g d l a k u = elim (cases_dots u.user d) [
   | inl same ↦ inl (sym (ap use_of (ap g same ∙ a.here)) ∙ u.by)
   | inr ne ↦ inr (record { user = u.user; by = sym (ap use_of (a.others u.user ne)) ∙ u.by })
 ]
 
-pub IsTwice-adds : (f g : Links) (d : Dot) (l : Link) → Adds f g d l → (k : TokenId) → IsTwice g k → ((used_by l ≡ Some k) × IsUsed f k) ⊎ IsTwice f k
+pub IsTwice-adds : (f g : Links) (d : Dot) (l : Link) → Adds f g d l → (k : TokenId) → IsTwice g k
+    → ((used_by l ≡ Some k) × IsUsed f k) ⊎ IsTwice f k
 IsTwice-adds f g d l a k t = elim (cases_dots t.one d) [
   | inl first ↦ elim (cases_dots t.two d) [
     | inl second ↦ absurd (t.apart (first ∙ sym second))
@@ -75,7 +86,8 @@ IsTwice-adds f g d l a k t = elim (cases_dots t.one d) [
   ]
 ]
 
-pub IsTwice-new : (f g : Links) (d : Dot) (l : Link) → Adds f g d l → (k : TokenId) → used_by l ≡ Some k → IsUsed f k → IsTwice g k
+pub IsTwice-new : (f g : Links) (d : Dot) (l : Link) → Adds f g d l → (k : TokenId)
+    → used_by l ≡ Some k → IsUsed f k → IsTwice g k
 IsTwice-new f g d l a k uses u = record {
   one = d;
   two = u.user;
@@ -86,29 +98,39 @@ IsTwice-new f g d l a k uses u = record {
 
 -- ---- bad tokens
 
-pub bad-sound : (T : Rows) → ((k : TokenId) → again_in (T k.dot) k.kind ≡ true → IsTwice (links_of T) k) → (d : Dot) (o : Option Link) → links_of T d ≡ o → bad_at o (T d) ≡ true → IsBad (links_of T) (passing (marks_of T)) d
+pub bad-sound : (T : Rows)
+    → ((k : TokenId) → again_in (T k.dot) k.kind ≡ true → IsTwice (links_of T) k)
+    → (d : Dot) (o : Option Link) → links_of T d ≡ o → bad_at o (T d) ≡ true
+    → IsBad (links_of T) (passing (marks_of T)) d
 bad-sound T again d None at h = absurd (true≢false (sym h))
 bad-sound T again d (Some Code) at h = record { link = Code; here = at; why = elim (or_cases _ _ h) [ inl marked ↦ inl marked | inr twice ↦ inr (again (grant_at d Code) twice) ] }
 bad-sound T again d (Some (Redeems c)) at h = record { link = Redeems c; here = at; why = elim (or_cases _ _ h) [ inl marked ↦ inl marked | inr twice ↦ inr (again (grant_at d (Redeems c)) twice) ] }
 bad-sound T again d (Some (Rotates p n)) at h = record { link = Rotates p n; here = at; why = elim (or_cases _ _ h) [ inl marked ↦ inl marked | inr twice ↦ inr (again (grant_at d (Rotates p n)) twice) ] }
 
-bad-flags : (T : Rows) → ((k : TokenId) → IsTwice (links_of T) k → again_in (T k.dot) k.kind ≡ true) → (d : Dot) (l : Link) → (marks_of T (grant_at d l) ≡ true) ⊎ IsTwice (links_of T) (grant_at d l) → bad_at (Some l) (T d) ≡ true
+bad-flags : (T : Rows) → ((k : TokenId) → IsTwice (links_of T) k → again_in (T k.dot) k.kind ≡ true)
+    → (d : Dot) (l : Link)
+    → (marks_of T (grant_at d l) ≡ true) ⊎ IsTwice (links_of T) (grant_at d l)
+    → bad_at (Some l) (T d) ≡ true
 bad-flags T twice d Code why = elim why [ inl marked ↦ or_left _ _ marked | inr t ↦ or_right _ _ (twice (grant_at d Code) t) ]
 bad-flags T twice d (Redeems c) why = elim why [ inl marked ↦ or_left _ _ marked | inr t ↦ or_right _ _ (twice (grant_at d (Redeems c)) t) ]
 bad-flags T twice d (Rotates p n) why = elim why [ inl marked ↦ or_left _ _ marked | inr t ↦ or_right _ _ (twice (grant_at d (Rotates p n)) t) ]
 
-pub bad-complete : (T : Rows) → ((k : TokenId) → IsTwice (links_of T) k → again_in (T k.dot) k.kind ≡ true) → (d : Dot) → IsBad (links_of T) (passing (marks_of T)) d → bad_in (T d) ≡ true
+pub bad-complete : (T : Rows)
+    → ((k : TokenId) → IsTwice (links_of T) k → again_in (T k.dot) k.kind ≡ true) → (d : Dot)
+    → IsBad (links_of T) (passing (marks_of T)) d → bad_in (T d) ≡ true
 bad-complete T twice d b = ap (λ (o : Option Link). bad_at o (T d)) b.here ∙ bad-flags T twice d b.link b.why
 
 -- ---- dead families
 
-pub IsForest-dead : (T : Rows) → IsForest T → (c : Dot) → dead_in (T c) ≡ true → IsDead (links_of T) (passing (marks_of T)) c
+pub IsForest-dead : (T : Rows) → IsForest T → (c : Dot) → dead_in (T c) ≡ true
+    → IsDead (links_of T) (passing (marks_of T)) c
 IsForest-dead T t c h =
     let some : (q : Dot) × (blamed_in (T q) ≡ Some c) = count-some (λ q. blamed_in (T q)) c _ (t.bads c) h in
     let parts : (bad_in (T some.0) ≡ true) × (code_in (T some.0) ≡ Some c) = blamed-parts (T some.0) c some.1 in
     record { member = some.0; under = t.under some.0 c parts.1; bad = bad-sound T t.again some.0 (links_of T some.0) refl parts.0 }
 
-pub IsForest-tomb : (T : Rows) → IsForest T → (c : Dot) → IsDead (links_of T) (passing (marks_of T)) c → dead_in (T c) ≡ true
+pub IsForest-tomb : (T : Rows) → IsForest T → (c : Dot)
+    → IsDead (links_of T) (passing (marks_of T)) c → dead_in (T c) ≡ true
 IsForest-tomb T t c x = some-count (λ q. blamed_in (T q)) c x.member _ (t.bads c) (blamed-bad (T x.member) c (bad-complete T t.twice x.member x.bad) (t.memo x.member c x.under))
 
 -- ---- a link is put
@@ -151,10 +173,13 @@ pub record PutRows (T N : Rows) (d : Dot) (l : Link) (c0 : Dot) (ys : List Dot) 
   pub marks : (k : TokenId) → marks_of N k ≡ marks_of T k
   pub code : (q : Dot) → code_in (N q) ≡ cond (has ys q) (Some c0) (code_in (T q))
   pub used_is : (k : TokenId) → used_in (N k.dot) k.kind ≡ (used_in (T k.dot) k.kind || uses_it l k)
-  pub again_is : (k : TokenId) → again_in (N k.dot) k.kind ≡ (again_in (T k.dot) k.kind || (uses_it l k && used_in (T k.dot) k.kind))
+  pub again_is : (k : TokenId)
+      → again_in (N k.dot) k.kind ≡ (again_in (T k.dot) k.kind || (uses_it l k && used_in (T k.dot) k.kind))
   pub bads : IsCounted N
 
-put-again : (T N : Rows) (d : Dot) (l : Link) (c0 : Dot) (ys : List Dot) → IsForest T → PutRows T N d l c0 ys → (k : TokenId) → again_in (N k.dot) k.kind ≡ true → IsTwice (links_of N) k
+put-again : (T N : Rows) (d : Dot) (l : Link) (c0 : Dot) (ys : List Dot) → IsForest T
+    → PutRows T N d l c0 ys → (k : TokenId) → again_in (N k.dot) k.kind ≡ true
+    → IsTwice (links_of N) k
 put-again T N d l c0 ys t p k h = elim (or_cases (again_in (T k.dot) k.kind) (uses_it l k && used_in (T k.dot) k.kind) (sym (p.again_is k) ∙ h)) [
   | inl old ↦ IsTwice-within (links_of T) (links_of N) (Within-adds (links_of T) (links_of N) d l p.adds) k (t.again k old)
   | inr now ↦
@@ -162,13 +187,16 @@ put-again T N d l c0 ys t p k h = elim (or_cases (again_in (T k.dot) k.kind) (us
       IsTwice-new (links_of T) (links_of N) d l p.adds k (uses_it-true l k parts.0) (t.used k parts.1)
 ]
 
-put-twice : (T N : Rows) (d : Dot) (l : Link) (c0 : Dot) (ys : List Dot) → IsForest T → PutRows T N d l c0 ys → (k : TokenId) → IsTwice (links_of N) k → again_in (N k.dot) k.kind ≡ true
+put-twice : (T N : Rows) (d : Dot) (l : Link) (c0 : Dot) (ys : List Dot) → IsForest T
+    → PutRows T N d l c0 ys → (k : TokenId) → IsTwice (links_of N) k
+    → again_in (N k.dot) k.kind ≡ true
 put-twice T N d l c0 ys t p k h = p.again_is k ∙ (elim (IsTwice-adds (links_of T) (links_of N) d l p.adds k h) [
   | inl now ↦ or_right _ _ (and_from _ _ (used_by-uses l k now.0) (t.uses k now.1))
   | inr old ↦ or_left _ _ (t.twice k old)
 ])
 
-pub IsForest-put : (T N : Rows) (d : Dot) (l : Link) (c0 : Dot) (ys : List Dot) → IsForest T → PutRows T N d l c0 ys → IsForest N
+pub IsForest-put : (T N : Rows) (d : Dot) (l : Link) (c0 : Dot) (ys : List Dot) → IsForest T
+    → PutRows T N d l c0 ys → IsForest N
 IsForest-put T N d l c0 ys t p =
     let w : LinksWithin (links_of T) (links_of N) = Within-adds (links_of T) (links_of N) d l p.adds in
     record {

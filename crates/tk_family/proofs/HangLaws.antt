@@ -5,8 +5,10 @@
 --   Hangs-code        the link of a code is removed
 --   Hangs-promoted    the first child is gone, and another child, if there is one, is the first
 --   Hangs-dropped     another child is gone
-use Rattle.std.proofs.Common.{◌≡◌, ◌≢◌, ◌⊎◌, inl, inr, ◌&&◌, Bool, true, false, not, cond, Option, None, Some, List, ap, sym, ◌∙◌, refl, subst}
-use Rattle.std.proofs.lemmas.Bool.{true≢false, cases_Bool, cond-true, cond-false, and_parts, and_from, false_from_ne_true}
+use Rattle.std.proofs.Common.{◌≡◌, ◌≢◌, ◌⊎◌, inl, inr, ◌&&◌, Bool, true, false, not, cond, Option}
+use Rattle.std.proofs.Common.{None, Some, List, ap, sym, ◌∙◌, refl, subst}
+use Rattle.std.proofs.lemmas.Bool.{true≢false, cases_Bool, cond-true, cond-false, and_parts}
+use Rattle.std.proofs.lemmas.Bool.{and_from, false_from_ne_true, not-true as not_true}
 use Rattle.tk_handle.specs.declared.dot.Dot.{Dot}
 use Rattle.tk_handle.specs.declared.kind.Kind.TheVariants as kind
 use Rattle.tk_handle.specs.declared.token_id.TokenId.{TokenId}
@@ -27,7 +29,8 @@ use Rattle.tk_family.proofs.Adding.{Adds}
 use Rattle.tk_family.proofs.Gathering.{with_link-here, with_link-other}
 use Rattle.tk_family.proofs.Growth.{used_by-uses}
 use Rattle.tk_family.proofs.UseLaws.{uses_by-true, uses_named}
-use Rattle.tk_family.proofs.ChildLaws.{is_child-same, is_child-true, is_child-apart, is_child-other, cases_tokens}
+use Rattle.tk_family.proofs.ChildLaws.{is_child-same, is_child-true, is_child-apart, is_child-other}
+use Rattle.tk_family.proofs.ChildLaws.{cases_tokens}
 
 pub without-here : (f : Links) (d : Dot) → without f d d ≡ None
 without-here f d = cond-true (dot_eq d d) None (f d) (dot_eq-same d)
@@ -45,7 +48,9 @@ other o first k e = uses_by o k && not (has_dot first e)
 
 -- ---- nothing has changed
 
-pub Hangs-same : (f g : Links) (first then : Dot → Option Dot) (E N : Others) → ((q : Dot) → g q ≡ f q) → ((q : Dot) → then q ≡ first q) → IsSame E N → Hangs f first E → Hangs g then N
+pub Hangs-same : (f g : Links) (first then : Dot → Option Dot) (E N : Others)
+    → ((q : Dot) → g q ≡ f q) → ((q : Dot) → then q ≡ first q) → IsSame E N → Hangs f first E
+    → Hangs g then N
 Hangs-same f g first then E N links firsts same h = record {
   named = λ p e is. ap named_of (links e) ∙ h.named p e (sym (firsts p) ∙ is);
   none = λ p e is names. h.none p e (sym (firsts p) ∙ is) (sym (ap named_of (links e)) ∙ names);
@@ -54,11 +59,13 @@ Hangs-same f g first then E N links firsts same h = record {
 }
 
 -- blank rows may have been added
-pub Hangs-seen : (T N : Rows) (E M : Others) → NothingSeen T N → IsSame E M → Hangs (links_of T) (firsts_of T) E → Hangs (links_of N) (firsts_of N) M
+pub Hangs-seen : (T N : Rows) (E M : Others) → NothingSeen T N → IsSame E M
+    → Hangs (links_of T) (firsts_of T) E → Hangs (links_of N) (firsts_of N) M
 Hangs-seen T N E M seen same h = Hangs-same (links_of T) (links_of N) (firsts_of T) (firsts_of N) E M seen.links seen.first same h
 
 -- the link that names p uses a token of p
-pub named_token : (o : Option Link) (l : Link) (p : Dot) → o ≡ Some l → named_by l ≡ Some p → uses_by o (token_at p (used_kind l)) ≡ true
+pub named_token : (o : Option Link) (l : Link) (p : Dot) → o ≡ Some l → named_by l ≡ Some p
+    → uses_by o (token_at p (used_kind l)) ≡ true
 named_token o Code p at names = absurd (let clash : None ≡ Some p = names in cc)
 named_token o (Redeems c) p at names = let both : Some c ≡ Some p = names in let one : c ≡ p = cc in ap (λ (q : Option Link). uses_by q (token_at p kind.Code)) at ∙ and_from _ _ (ap (dot_eq c) (sym one) ∙ dot_eq-same c) refl
 named_token o (Rotates c n) p at names = let both : Some c ≡ Some p = names in let one : c ≡ p = cc in ap (λ (q : Option Link). uses_by q (token_at p kind.Refresh)) at ∙ and_from _ _ (ap (dot_eq c) (sym one) ∙ dot_eq-same c) refl
@@ -74,10 +81,12 @@ record Put (f g : Links) (first then : Dot → Option Dot) (E N : Others) (d : D
   pub after : (q : Dot) → then q ≡ cond (dot_eq t.dot q) (or_dot (first q) d) (first q)
   pub ranged : IsDot d
 
-not_put : (f g : Links) (d : Dot) (l : Link) → Adds f g d l → (e p : Dot) → named_of (f e) ≡ Some p → e ≢ d
+not_put : (f g : Links) (d : Dot) (l : Link) → Adds f g d l → (e p : Dot) → named_of (f e) ≡ Some p
+    → e ≢ d
 not_put f g d l a e p names same = let clash : None ≡ Some p = sym (ap named_of (ap f same ∙ a.free)) ∙ names in cc
 
-no_entry : (f g : Links) (d : Dot) (l : Link) → Adds f g d l → (first : Dot → Option Dot) (E : Others) → Hangs f first E → (k : TokenId) → E k d ≡ false
+no_entry : (f g : Links) (d : Dot) (l : Link) → Adds f g d l
+    → (first : Dot → Option Dot) (E : Others) → Hangs f first E → (k : TokenId) → E k d ≡ false
 no_entry f g d l a first E h k = h.rest k d ∙ ap (λ (o : Option Link). other o (first k.dot) k d) a.free
 
 -- the new link uses only t
@@ -85,7 +94,8 @@ uses_only : (l : Link) (t k : TokenId) → used_by l ≡ Some t → k ≢ t → 
 uses_only l t k uses ne = false_from_ne_true (uses_by (Some l) k) (λ h. let both : Some k ≡ Some t = sym (uses_by-true (Some l) k h) ∙ uses in let same : k ≡ t = cc in ne same)
 
 -- d becomes the first child
-put_first : (f g : Links) (first then : Dot → Option Dot) (E N : Others) (d : Dot) (l : Link) (t : TokenId) → Put f g first then E N d l t → first t.dot ≡ None → IsSame E N → Hangs g then N
+put_first : (f g : Links) (first then : Dot → Option Dot) (E N : Others) (d : Dot) (l : Link) (t : TokenId)
+    → Put f g first then E N d l t → first t.dot ≡ None → IsSame E N → Hangs g then N
 put_first f g first then E N d l t x none same =
     let a : Adds f g d l = x.adds in
     let h : Hangs f first E = x.before in
@@ -122,7 +132,9 @@ put_first f g first then E N d l t x none same =
     }
 
 -- d is another child
-put_other : (f g : Links) (first then : Dot → Option Dot) (E N : Others) (d : Dot) (l : Link) (t : TokenId) → Put f g first then E N d l t → (y : Dot) → first t.dot ≡ Some y → ((k : TokenId) (q : Dot) → N k q ≡ cond (is_child t d k q) true (E k q)) → Hangs g then N
+put_other : (f g : Links) (first then : Dot → Option Dot) (E N : Others) (d : Dot) (l : Link) (t : TokenId)
+    → Put f g first then E N d l t → (y : Dot) → first t.dot ≡ Some y
+    → ((k : TokenId) (q : Dot) → N k q ≡ cond (is_child t d k q) true (E k q)) → Hangs g then N
 put_other f g first then E N d l t x y some listed =
     let a : Adds f g d l = x.adds in
     let h : Hangs f first E = x.before in
@@ -160,11 +172,16 @@ put_other f g first then E N d l t x y some listed =
       ];
     }
 
-put_by : (f g : Links) (first then : Dot → Option Dot) (E N : Others) (d : Dot) (l : Link) (t : TokenId) → Put f g first then E N d l t → (o : Option Dot) → first t.dot ≡ o → ListsAt E N t d o → Hangs g then N
+put_by : (f g : Links) (first then : Dot → Option Dot) (E N : Others) (d : Dot) (l : Link) (t : TokenId)
+    → Put f g first then E N d l t → (o : Option Dot) → first t.dot ≡ o → ListsAt E N t d o
+    → Hangs g then N
 put_by f g first then E N d l t x None is lists = put_first f g first then E N d l t x is lists
 put_by f g first then E N d l t x (Some y) is lists = put_other f g first then E N d l t x y is lists
 
-pub Hangs-put : (f g : Links) (first then : Dot → Option Dot) (E N : Others) (d : Dot) (l : Link) → Adds f g d l → Hangs f first E → ((q : Dot) → then q ≡ cond (has_dot (named_by l) q) (or_dot (first q) d) (first q)) → ListsBy first E N d (used_by l) → IsDot d → Hangs g then N
+pub Hangs-put : (f g : Links) (first then : Dot → Option Dot) (E N : Others) (d : Dot) (l : Link)
+    → Adds f g d l → Hangs f first E
+    → ((q : Dot) → then q ≡ cond (has_dot (named_by l) q) (or_dot (first q) d) (first q))
+    → ListsBy first E N d (used_by l) → IsDot d → Hangs g then N
 Hangs-put f g first then E N d Code a h after lists ranged =
     record {
       named = λ p e is. (let was : named_of (f e) ≡ Some p = h.named p e (sym (after p) ∙ is) in ap named_of (a.others e (not_put f g d Code a e p was)) ∙ was);
@@ -186,7 +203,10 @@ Hangs-put f g first then E N d (Rotates c n) a h after lists ranged =
     put_by f g first then E N d (Rotates c n) t (record { before = h; adds = a; names = refl; uses = refl; after = after; ranged = ranged }) (first c) refl lists
 
 -- the contract of `put`
-pub Hangs-puts : (T N : Rows) (E M : Others) (d : Dot) (l : Link) (ys : List Dot) → links_of T d ≡ None → Puts T N d l ys → ((q : Dot) → first_in (N q) ≡ first_after T d l q) → Lists T E M d l → IsDot d → Hangs (links_of T) (firsts_of T) E → Hangs (links_of N) (firsts_of N) M
+pub Hangs-puts : (T N : Rows) (E M : Others) (d : Dot) (l : Link) (ys : List Dot)
+    → links_of T d ≡ None → Puts T N d l ys → ((q : Dot) → first_in (N q) ≡ first_after T d l q)
+    → Lists T E M d l → IsDot d → Hangs (links_of T) (firsts_of T) E
+    → Hangs (links_of N) (firsts_of N) M
 Hangs-puts T N E M d l ys free p first lists ranged h =
     let a : Adds (links_of T) (links_of N) d l = record { free = free; here = p.links d ∙ with_link-here (links_of T) d l; others = λ q ne. p.links q ∙ with_link-other (links_of T) d l q ne } in
     Hangs-put (links_of T) (links_of N) (firsts_of T) (firsts_of N) E M d l a h first lists ranged
@@ -194,7 +214,8 @@ Hangs-puts T N E M d l ys free p first lists ranged h =
 -- ---- a link is removed
 
 -- a code is no child
-pub Hangs-code : (f : Links) (first : Dot → Option Dot) (E : Others) (d : Dot) → f d ≡ Some Code → Hangs f first E → Hangs (without f d) first E
+pub Hangs-code : (f : Links) (first : Dot → Option Dot) (E : Others) (d : Dot) → f d ≡ Some Code
+    → Hangs f first E → Hangs (without f d) first E
 Hangs-code f first E d here h =
     let apart : (e p : Dot) → named_of (f e) ≡ Some p → e ≢ d = λ e p names same. (let clash : None ≡ Some p = sym (ap named_of (ap f same ∙ here)) ∙ names in cc) in
     record {
@@ -218,17 +239,21 @@ one_use o j k h i = let both : Some j ≡ Some k = sym (uses_by-true o j h) ∙ 
 record Left (f : Links) (first : Dot → Option Dot) (E N : Others) (d : Dot) (t : TokenId) (o : Option Dot) : Type 0 where
   pub named : (e : Dot) → o ≡ Some e → (named_of (f e) ≡ Some t.dot) × (e ≢ d)
   pub none : (e : Dot) → o ≡ None → e ≢ d → named_of (f e) ≢ Some t.dot
-  pub rest : (k : TokenId) (e : Dot) → e ≢ d → N k e ≡ other (f e) (with_first first t.dot o k.dot) k e
+  pub rest : (k : TokenId) (e : Dot) → e ≢ d
+      → N k e ≡ other (f e) (with_first first t.dot o k.dot) k e
   pub gone : (k : TokenId) → N k d ≡ false
   pub within : (k : TokenId) (e : Dot) → N k e ≡ true → E k e ≡ true
 
 pub first_here : (first : Dot → Option Dot) (p : Dot) (o : Option Dot) → with_first first p o p ≡ o
 first_here first p o = cond-true _ _ _ (dot_eq-same p)
 
-first_there : (first : Dot → Option Dot) (p : Dot) (o : Option Dot) (q : Dot) → q ≢ p → with_first first p o q ≡ first q
+first_there : (first : Dot → Option Dot) (p : Dot) (o : Option Dot) (q : Dot) → q ≢ p
+    → with_first first p o q ≡ first q
 first_there first p o q ne = cond-false _ _ _ (dot_eq-apart p q (λ same. ne (sym same)))
 
-Hangs-left : (f : Links) (first : Dot → Option Dot) (E N : Others) (d : Dot) (t : TokenId) (o : Option Dot) → Hangs f first E → uses_by (f d) t ≡ true → Left f first E N d t o → Hangs (without f d) (with_first first t.dot o) N
+Hangs-left : (f : Links) (first : Dot → Option Dot) (E N : Others) (d : Dot) (t : TokenId) (o : Option Dot)
+    → Hangs f first E → uses_by (f d) t ≡ true → Left f first E N d t o
+    → Hangs (without f d) (with_first first t.dot o) N
 Hangs-left f first E N d t o h uses x =
     let names_d : named_of (f d) ≡ Some t.dot = uses_named (f d) t uses in
     record {
@@ -258,14 +283,18 @@ Hangs-left f first E N d t o h uses x =
     }
 
 -- d has no entry, since it is the first child
-first_out : (f : Links) (first : Dot → Option Dot) (E : Others) (d : Dot) (t : TokenId) → Hangs f first E → uses_by (f d) t ≡ true → first t.dot ≡ Some d → (k : TokenId) → E k d ≡ false
+first_out : (f : Links) (first : Dot → Option Dot) (E : Others) (d : Dot) (t : TokenId)
+    → Hangs f first E → uses_by (f d) t ≡ true → first t.dot ≡ Some d → (k : TokenId)
+    → E k d ≡ false
 first_out f first E d t h uses is k = h.rest k d ∙ (elim (cases_tokens k t) [
   | inl one ↦ ap (λ (j : TokenId). other (f d) (first j.dot) k d) one ∙ (ap (λ (q : Option Dot). other (f d) q k d) is ∙ (ap (λ (b : Bool). uses_by (f d) k && not b) (dot_eq-same d) ∙ and_false (uses_by (f d) k)))
   | inr ne ↦ ap (λ (b : Bool). b && not (has_dot (first k.dot) d)) (false_from_ne_true (uses_by (f d) k) (λ also. ne (one_use (f d) k t also uses)))
 ])
 
 -- the entries of d's siblings
-sibling : (f : Links) (first : Dot → Option Dot) (E : Others) (d : Dot) (t : TokenId) → Hangs f first E → first t.dot ≡ Some d → (k : TokenId) → k.dot ≡ t.dot → (e : Dot) → e ≢ d → E k e ≡ (uses_by (f e) k && true)
+sibling : (f : Links) (first : Dot → Option Dot) (E : Others) (d : Dot) (t : TokenId)
+    → Hangs f first E → first t.dot ≡ Some d → (k : TokenId) → k.dot ≡ t.dot → (e : Dot) → e ≢ d
+    → E k e ≡ (uses_by (f e) k && true)
 sibling f first E d t h is k one e apart = h.rest k e ∙ (ap (λ (q : Option Dot). other (f e) q k e) (ap first one ∙ is) ∙ ap (λ (b : Bool). uses_by (f e) k && not b) (dot_eq-apart d e (λ same. apart (sym same))))
 
 less : (b x : Bool) → cond b false x ≡ true → x ≡ true
@@ -276,11 +305,9 @@ gone_too : (b x : Bool) → x ≡ false → cond b false x ≡ false
 gone_too true x h = refl
 gone_too false x h = h
 
-not_true : (b : Bool) → not b ≡ true → b ≡ false
-not_true true h = absurd (true≢false (sym h))
-not_true false h = refl
-
-Left-promoted : (f : Links) (first : Dot → Option Dot) (E N : Others) (d : Dot) (t : TokenId) (c : Dot) (j : TokenId) → Hangs f first E → uses_by (f d) t ≡ true → first t.dot ≡ Some d → j.dot ≡ t.dot → E j c ≡ true → Drops E N j c → Left f first E N d t (Some c)
+Left-promoted : (f : Links) (first : Dot → Option Dot) (E N : Others) (d : Dot) (t : TokenId) (c : Dot) (j : TokenId)
+    → Hangs f first E → uses_by (f d) t ≡ true → first t.dot ≡ Some d → j.dot ≡ t.dot → E j c ≡ true
+    → Drops E N j c → Left f first E N d t (Some c)
 Left-promoted f first E N d t c j h uses is at was drops =
     let parts = and_parts (uses_by (f c) j) (not (has_dot (first j.dot) c)) (sym (h.rest j c) ∙ was) in
     let apart_c : c ≢ d = λ same. true≢false (sym (ap (λ (q : Option Dot). has_dot q c) (ap first at ∙ is) ∙ (ap (dot_eq d) same ∙ dot_eq-same d)) ∙ not_true (has_dot (first j.dot) c) parts.1) in
@@ -309,13 +336,18 @@ Left-promoted f first E N d t c j h uses is at was drops =
     }
 
 -- a link that names p uses its code or its refresh token
-named_use : (o : Option Link) (p : Dot) → named_of o ≡ Some p → (uses_by o (token_at p kind.Code) ≡ true) ⊎ (uses_by o (token_at p kind.Refresh) ≡ true)
+named_use : (o : Option Link) (p : Dot) → named_of o ≡ Some p
+    → (uses_by o (token_at p kind.Code) ≡ true) ⊎ (uses_by o (token_at p kind.Refresh) ≡ true)
 named_use None p names = absurd (let clash : None ≡ Some p = names in cc)
 named_use (Some Code) p names = absurd (let clash : None ≡ Some p = names in cc)
 named_use (Some (Redeems c)) p names = let both : Some c ≡ Some p = names in let one : c ≡ p = cc in inl (and_from _ _ (ap (dot_eq c) (sym one) ∙ dot_eq-same c) refl)
 named_use (Some (Rotates c n)) p names = let both : Some c ≡ Some p = names in let one : c ≡ p = cc in inr (and_from _ _ (ap (dot_eq c) (sym one) ∙ dot_eq-same c) refl)
 
-Left-emptied : (f : Links) (first : Dot → Option Dot) (E N : Others) (d : Dot) (t : TokenId) → Hangs f first E → uses_by (f d) t ≡ true → first t.dot ≡ Some d → ((e : Dot) → E (token_at t.dot kind.Code) e ≡ false) → ((e : Dot) → E (token_at t.dot kind.Refresh) e ≡ false) → IsSame E N → Left f first E N d t None
+Left-emptied : (f : Links) (first : Dot → Option Dot) (E N : Others) (d : Dot) (t : TokenId)
+    → Hangs f first E → uses_by (f d) t ≡ true → first t.dot ≡ Some d
+    → ((e : Dot) → E (token_at t.dot kind.Code) e ≡ false)
+    → ((e : Dot) → E (token_at t.dot kind.Refresh) e ≡ false) → IsSame E N
+    → Left f first E N d t None
 Left-emptied f first E N d t h uses is no_code no_refresh same =
     let listed : (k : TokenId) → k.dot ≡ t.dot → (e : Dot) → e ≢ d → uses_by (f e) k ≡ true → E k e ≡ true = λ k one e apart used. sibling f first E d t h is k one e apart ∙ ap (λ (b : Bool). b && true) used in
     record {
@@ -337,12 +369,16 @@ has_some None d h = absurd (true≢false (sym h))
 has_some (Some e) d h = ap (λ (y : Dot). Some y) (dot_eq-true e d h)
 
 -- the first child is gone, and another child is the first, if there is another
-pub Hangs-promoted : (f : Links) (first : Dot → Option Dot) (E N : Others) (d : Dot) (t : TokenId) (o : Option Dot) → Hangs f first E → uses_by (f d) t ≡ true → has_dot (first t.dot) d ≡ true → Promotes E N t.dot o → Hangs (without f d) (with_first first t.dot o) N
+pub Hangs-promoted : (f : Links) (first : Dot → Option Dot) (E N : Others) (d : Dot) (t : TokenId) (o : Option Dot)
+    → Hangs f first E → uses_by (f d) t ≡ true → has_dot (first t.dot) d ≡ true
+    → Promotes E N t.dot o → Hangs (without f d) (with_first first t.dot o) N
 Hangs-promoted f first E N d t None h uses is x = Hangs-left f first E N d t None h uses (Left-emptied f first E N d t h uses (has_some (first t.dot) d is) x.0 x.1 x.2)
 Hangs-promoted f first E N d t (Some c) h uses is x = Hangs-left f first E N d t (Some c) h uses (Left-promoted f first E N d t c (token_at t.dot x.0) h uses (has_some (first t.dot) d is) refl x.1 x.2)
 
 -- another child than the first is gone
-pub Hangs-dropped : (f : Links) (first : Dot → Option Dot) (E N : Others) (d : Dot) (t : TokenId) → Hangs f first E → uses_by (f d) t ≡ true → has_dot (first t.dot) d ≡ false → Drops E N t d → Hangs (without f d) (with_first first t.dot (first t.dot)) N
+pub Hangs-dropped : (f : Links) (first : Dot → Option Dot) (E N : Others) (d : Dot) (t : TokenId)
+    → Hangs f first E → uses_by (f d) t ≡ true → has_dot (first t.dot) d ≡ false → Drops E N t d
+    → Hangs (without f d) (with_first first t.dot (first t.dot)) N
 Hangs-dropped f first E N d t h uses other_is drops = Hangs-left f first E N d t (first t.dot) h uses (record {
   named = λ e some. (h.named t.dot e some, λ same. true≢false (sym (ap (λ (q : Option Dot). has_dot q d) some ∙ (ap (λ (y : Dot). dot_eq y d) same ∙ dot_eq-same d)) ∙ other_is));
   none = λ e none apart names. h.none t.dot e none names;

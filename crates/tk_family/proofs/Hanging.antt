@@ -1,5 +1,7 @@
 -- Going through the children of a dot (`Pushing`, the loop's invariant).
-use Rattle.std.proofs.Common.{◌≡◌, inl, inr, ℕ, ◌+◌, ◌<◌, ◌≤◌, Bool, true, false, not, cond, Option, None, Some, List, [], ◌∷◌, ◌++◌, length, filter, ap, sym, ◌∙◌, refl, arith, subst, append_assoc, append-nil, length-append}
+use Rattle.std.proofs.Common.{◌≡◌, inl, inr, ℕ, ◌+◌, ◌<◌, ◌≤◌, Bool, true, false, not, cond, Option}
+use Rattle.std.proofs.Common.{None, Some, List, [], ◌∷◌, ◌++◌, length, filter, ap, sym, ◌∙◌, refl}
+use Rattle.std.proofs.Common.{arith, subst, append_assoc, append-nil, length-append}
 use Rattle.std.proofs.lemmas.Bool.{true≢false, cases_Bool, false_from_ne_true, and_parts, and_from}
 use Rattle.std.proofs.lemmas.Map.Keys.{IsDistinct-cons}
 use Rattle.std.specs.BTreeSet.{BTreeSet, IsOrdered}
@@ -18,7 +20,8 @@ use Rattle.tk_family.specs.Rows.{grant_kind, named_of}
 use Rattle.tk_family.specs.Takes.{IsShort}
 use Rattle.tk_family.specs.Uses.{uses_by}
 use Rattle.tk_family.proofs.DotLaws.{has-cons, has-here, has-there, dot_eq-same, dot_eq-true}
-use Rattle.tk_family.proofs.Filters.{has-filter, filter-has, apart_all, IsDistinct-filter, filter-push, joined, length-filter-kept}
+use Rattle.tk_family.proofs.Filters.{has-filter, filter-has, apart_all, IsDistinct-filter}
+use Rattle.tk_family.proofs.Filters.{filter-push, joined, length-filter-kept}
 use Rattle.tk_family.proofs.ChildLaws.{dots_of, users-has, has-users, users-distinct}
 use Rattle.tk_family.proofs.UseLaws.{uses_named}
 
@@ -31,7 +34,8 @@ pub record Candidates (f : Links) (x : Dot) (above : Link) (list : List Dot) : T
   pub distinct : IsDistinct dot_eq list
 
 -- a link that fits the link above uses the grant that this mints
-fits_uses : (o : Option Link) (x : Dot) (above : Link) → named_of o ≡ Some x → fits_at o above ≡ true → uses_by o (token_at x (grant_kind above)) ≡ true
+fits_uses : (o : Option Link) (x : Dot) (above : Link) → named_of o ≡ Some x
+    → fits_at o above ≡ true → uses_by o (token_at x (grant_kind above)) ≡ true
 fits_uses None x above names fit = absurd (true≢false (sym fit))
 fits_uses (Some Code) x above names fit = absurd (true≢false (sym fit))
 fits_uses (Some (Redeems c)) x Code names fit = let both : Some c ≡ Some x = names in let same : c ≡ x = cc in and_from _ _ (subst (λ (y : Dot). dot_eq c y ≡ true) same (dot_eq-same c)) refl
@@ -47,7 +51,9 @@ listed None = []
 listed (Some e) = e ∷ []
 
 -- the children of x that may fit: the first, and those in the set that use the grant
-pub Candidates-from : (f : Links) (first : Dot → Option Dot) (s : BTreeSet Child) (x : Dot) (above : Link) (o : Option Dot) → Hangs f first (others_in s) → IsOrdered child_cmp s → first x ≡ o → Candidates f x above (listed o ++ dots_of (users_in s (token_at x (grant_kind above))))
+pub Candidates-from : (f : Links) (first : Dot → Option Dot) (s : BTreeSet Child) (x : Dot) (above : Link) (o : Option Dot)
+    → Hangs f first (others_in s) → IsOrdered child_cmp s → first x ≡ o
+    → Candidates f x above (listed o ++ dots_of (users_in s (token_at x (grant_kind above))))
 Candidates-from f first s x above None h ordered is =
     let t : TokenId = token_at x (grant_kind above) in
     record {
@@ -86,10 +92,13 @@ pub record Pushing (f : Links) (x : Dot) (above : Link) (rest old now : List Dot
   pub names : Candidates f x above (seen ++ rest)
   pub after : now ≡ old ++ filter (λ e. fits_at (f e) above) seen
 
-pub Pushing-starts : (f : Links) (x : Dot) (above : Link) (rest old : List Dot) → Candidates f x above rest → Pushing f x above rest old old
+pub Pushing-starts : (f : Links) (x : Dot) (above : Link) (rest old : List Dot)
+    → Candidates f x above rest → Pushing f x above rest old old
 Pushing-starts f x above rest old names = record { seen = []; names = names; after = sym (append-nil old) }
 
-pub Pushing-turns : (f : Links) (x : Dot) (above : Link) (e : Dot) (rest old now then : List Dot) → Pushing f x above (e ∷ rest) old now → then ≡ cond (fits_at (f e) above) (now ++ e ∷ []) now → Pushing f x above rest old then
+pub Pushing-turns : (f : Links) (x : Dot) (above : Link) (e : Dot) (rest old now then : List Dot)
+    → Pushing f x above (e ∷ rest) old now → then ≡ cond (fits_at (f e) above) (now ++ e ∷ []) now
+    → Pushing f x above rest old then
 Pushing-turns f x above e rest old now then p h =
     let q : Dot → Bool = λ z. fits_at (f z) above in
     record {
@@ -98,7 +107,8 @@ Pushing-turns f x above e rest old now then p h =
       after = h ∙ (ap (λ (l : List Dot). cond (q e) (l ++ e ∷ []) l) p.after ∙ (joined (q e) old (filter q p.seen) e ∙ ap (λ (l : List Dot). old ++ l) (sym (filter-push q p.seen e))));
     }
 
-FitsAll-candidates : (f : Links) (x : Dot) (above : Link) (list : List Dot) → Candidates f x above list → FitsAll f x above (filter (λ z. fits_at (f z) above) list)
+FitsAll-candidates : (f : Links) (x : Dot) (above : Link) (list : List Dot)
+    → Candidates f x above list → FitsAll f x above (filter (λ z. fits_at (f z) above) list)
 FitsAll-candidates f x above list n =
     let q : Dot → Bool = λ z. fits_at (f z) above in
     record {
@@ -108,7 +118,8 @@ FitsAll-candidates f x above list n =
       distinct = IsDistinct-filter q list n.distinct;
     }
 
-pub Pushing-ends : (f : Links) (x : Dot) (above : Link) (old now : List Dot) → Pushing f x above [] old now → Pushes f x above old now
+pub Pushing-ends : (f : Links) (x : Dot) (above : Link) (old now : List Dot)
+    → Pushing f x above [] old now → Pushes f x above old now
 Pushing-ends f x above old now p = record {
   children = filter (λ z. fits_at (f z) above) p.seen;
   after = p.after;
@@ -117,7 +128,9 @@ Pushing-ends f x above old now p = record {
 
 -- ---- a list that has no room for the children
 
-pub Pushing-short : (f : Links) (x : Dot) (above : Link) (e : Dot) (rest old now : List Dot) (room : ℕ) → Pushing f x above (e ∷ rest) old now → fits_at (f e) above ≡ true → room ≤ length now → IsShort f x above old room
+pub Pushing-short : (f : Links) (x : Dot) (above : Link) (e : Dot) (rest old now : List Dot) (room : ℕ)
+    → Pushing f x above (e ∷ rest) old now → fits_at (f e) above ≡ true → room ≤ length now
+    → IsShort f x above old room
 Pushing-short f x above e rest old now room p kept full =
     let q : Dot → Bool = λ z. fits_at (f z) above in
     let all : List Dot = filter q (p.seen ++ e ∷ rest) in
@@ -129,10 +142,15 @@ Pushing-short f x above e rest old now room p kept full =
 -- ---- the start of the loop
 
 -- the first child and the entries of the span are the candidates
-pub Pushing-from : (f : Links) (first : Dot → Option Dot) (s : BTreeSet Child) (x : Dot) (above : Link) (o : Option Dot) (cs : List Child) (old : List Dot) → Hangs f first (others_in s) → IsOrdered child_cmp s → first x ≡ o → cs ≡ users_in s (token_at x (grant_kind above)) → Pushing f x above (listed o ++ dots_of cs) old old
+pub Pushing-from : (f : Links) (first : Dot → Option Dot) (s : BTreeSet Child) (x : Dot) (above : Link) (o : Option Dot) (cs : List Child) (old : List Dot)
+    → Hangs f first (others_in s) → IsOrdered child_cmp s → first x ≡ o
+    → cs ≡ users_in s (token_at x (grant_kind above))
+    → Pushing f x above (listed o ++ dots_of cs) old old
 Pushing-from f first s x above o cs old h ordered is span = Pushing-starts f x above (listed o ++ dots_of cs) old
     (subst (λ (l : List Child). Candidates f x above (listed o ++ dots_of l)) (sym span) (Candidates-from f first s x above o h ordered is))
 
 -- the first child is pushed
-pub Pushing-first : (f : Links) (x : Dot) (above : Link) (o : Option Dot) (e : Dot) (rest old then : List Dot) → o ≡ Some e → Pushing f x above (listed o ++ rest) old old → then ≡ cond (fits_at (f e) above) (old ++ e ∷ []) old → Pushing f x above rest old then
+pub Pushing-first : (f : Links) (x : Dot) (above : Link) (o : Option Dot) (e : Dot) (rest old then : List Dot)
+    → o ≡ Some e → Pushing f x above (listed o ++ rest) old old
+    → then ≡ cond (fits_at (f e) above) (old ++ e ∷ []) old → Pushing f x above rest old then
 Pushing-first f x above o e rest old then is p h = Pushing-turns f x above e rest old old then (subst (λ (q : Option Dot). Pushing f x above (listed q ++ rest) old old) is p) h

@@ -1,5 +1,6 @@
 -- Marking a token keeps what the rows keep.
-use Rattle.std.proofs.Common.{◌≡◌, ◌≢◌, ◌⊎◌, inl, inr, true, cond, Option, None, Some, ap, sym, ◌∙◌, refl, subst, IsSome}
+use Rattle.std.proofs.Common.{◌≡◌, ◌≢◌, ◌⊎◌, inl, inr, true, cond, Option, None, Some, ap, sym, ◌∙◌}
+use Rattle.std.proofs.Common.{refl, subst, IsSome}
 use Rattle.std.proofs.lemmas.Bool.{cases_Bool, cond-true, cond-false}
 use Rattle.tk_handle.specs.declared.dot.Dot.{Dot}
 use Rattle.tk_handle.specs.declared.kind.Kind.{Kind}
@@ -14,7 +15,8 @@ use Rattle.tk_family.specs.Dots.{dot_eq}
 use Rattle.tk_family.specs.Counts.{IsCounted, IsCountedAs, AlikeButCount}
 use Rattle.tk_family.specs.Families.{IsUnder}
 use Rattle.tk_family.specs.Tops.{IsTop}
-use Rattle.tk_family.specs.Rows.{Rows, link_in, code_in, count_in, first_in, marked_in, used_in, again_in, bad_in, blamed_in, links_of, marks_of}
+use Rattle.tk_family.specs.Rows.{Rows, link_in, code_in, count_in, first_in, marked_in, used_in}
+use Rattle.tk_family.specs.Rows.{again_in, bad_in, blamed_in, links_of, marks_of}
 use Rattle.tk_family.specs.Kept.{IsForest}
 use Rattle.tk_family.specs.Writes.{with_marked}
 use Rattle.tk_family.specs.Puts.{MarksOne, NothingSeen}
@@ -24,13 +26,15 @@ use Rattle.tk_family.proofs.Counting.{IsCountedAs-from}
 use Rattle.tk_family.proofs.Putting.{RowAt, row_at}
 use Rattle.tk_family.proofs.Assembly.{IsPath-code, row_with}
 
-marked_cols : (o : Option Row) (k : Kind) → (link_in (with_marked o k) ≡ link_in o) × (code_in (with_marked o k) ≡ code_in o) × (count_in (with_marked o k) ≡ count_in o) × (first_in (with_marked o k) ≡ first_in o)
+marked_cols : (o : Option Row) (k : Kind)
+    → (link_in (with_marked o k) ≡ link_in o) × (code_in (with_marked o k) ≡ code_in o) × (count_in (with_marked o k) ≡ count_in o) × (first_in (with_marked o k) ≡ first_in o)
 marked_cols None k = (refl, refl, refl, refl)
 marked_cols (Some r) kind.Code = (refl, refl, refl, refl)
 marked_cols (Some r) kind.Access = (refl, refl, refl, refl)
 marked_cols (Some r) kind.Refresh = (refl, refl, refl, refl)
 
-marked_flags : (o : Option Row) (k j : Kind) → (used_in (with_marked o k) j ≡ used_in o j) × (again_in (with_marked o k) j ≡ again_in o j)
+marked_flags : (o : Option Row) (k j : Kind)
+    → (used_in (with_marked o k) j ≡ used_in o j) × (again_in (with_marked o k) j ≡ again_in o j)
 marked_flags None k j = (refl, refl)
 marked_flags (Some r) kind.Code kind.Code = (refl, refl)
 marked_flags (Some r) kind.Code kind.Access = (refl, refl)
@@ -47,7 +51,8 @@ marked_here o kind.Code r = ap (λ (x : Option Row). marked_in (with_marked x ki
 marked_here o kind.Access r = ap (λ (x : Option Row). marked_in (with_marked x kind.Access) kind.Access) r.is
 marked_here o kind.Refresh r = ap (λ (x : Option Row). marked_in (with_marked x kind.Refresh) kind.Refresh) r.is
 
-marked_new : (o : Option Row) (k j : Kind) → marked_in (with_marked o k) j ≡ true → (j ≡ k) ⊎ (marked_in o j ≡ true)
+marked_new : (o : Option Row) (k j : Kind) → marked_in (with_marked o k) j ≡ true
+    → (j ≡ k) ⊎ (marked_in o j ≡ true)
 marked_new None k j h = inr h
 marked_new (Some r) kind.Code kind.Code h = inl refl
 marked_new (Some r) kind.Code kind.Access h = inr h
@@ -59,7 +64,8 @@ marked_new (Some r) kind.Refresh kind.Code h = inr h
 marked_new (Some r) kind.Refresh kind.Access h = inr h
 marked_new (Some r) kind.Refresh kind.Refresh h = inl refl
 
-marked_old : (o : Option Row) (k j : Kind) → marked_in o j ≡ true → marked_in (with_marked o k) j ≡ true
+marked_old : (o : Option Row) (k j : Kind) → marked_in o j ≡ true
+    → marked_in (with_marked o k) j ≡ true
 marked_old None k j h = h
 marked_old (Some r) kind.Code kind.Code h = refl
 marked_old (Some r) kind.Code kind.Access h = h
@@ -75,7 +81,8 @@ pub token_is : (j k : TokenId) → j.dot ≡ k.dot → j.kind ≡ k.kind → j �
 token_is j k d h = ap (λ (x : Dot). record { dot = x; kind = j.kind }) d ∙ ap (λ (y : Kind). record { dot = k.dot; kind = y }) h
 
 -- one mark more: the other columns are as they were
-pub AlikeButMarks-marked : (T S : Rows) (k : TokenId) → ((q : Dot) → S q ≡ cond (dot_eq k.dot q) (with_marked (T q) k.kind) (T q)) → AlikeButMarks T S
+pub AlikeButMarks-marked : (T S : Rows) (k : TokenId)
+    → ((q : Dot) → S q ≡ cond (dot_eq k.dot q) (with_marked (T q) k.kind) (T q)) → AlikeButMarks T S
 AlikeButMarks-marked T S k h = record {
   link = λ q. ap link_in (h q) ∙ column link_in (dot_eq k.dot q) (with_marked (T q) k.kind) (T q) (marked_cols (T q) k.kind).0;
   code = λ q. ap code_in (h q) ∙ column code_in (dot_eq k.dot q) (with_marked (T q) k.kind) (T q) (marked_cols (T q) k.kind).1;
@@ -85,16 +92,21 @@ AlikeButMarks-marked T S k h = record {
 }
 
 -- if the rows at other dots are the same, the counts are those with this dot as it was
-pub IsCountedAs-at : (T S : Rows) (at : Dot) → IsCounted T → AlikeButMarks T S → ((q : Dot) → count_in (S q) ≡ count_in (T q)) → ((q : Dot) → at ≢ q → S q ≡ T q) → IsCountedAs S at (bad_in (T at))
+pub IsCountedAs-at : (T S : Rows) (at : Dot) → IsCounted T → AlikeButMarks T S
+    → ((q : Dot) → count_in (S q) ≡ count_in (T q)) → ((q : Dot) → at ≢ q → S q ≡ T q)
+    → IsCountedAs S at (bad_in (T at))
 IsCountedAs-at T S at x a count others = IsCountedAs-from T S at x a.code count (λ q ne. ap blamed_in (others q (λ same. ne (sym same))))
 
-pub IsCountedAs-marked : (T S : Rows) (k : TokenId) → IsForest T → ((q : Dot) → S q ≡ cond (dot_eq k.dot q) (with_marked (T q) k.kind) (T q)) → IsCountedAs S k.dot (bad_in (T k.dot))
+pub IsCountedAs-marked : (T S : Rows) (k : TokenId) → IsForest T
+    → ((q : Dot) → S q ≡ cond (dot_eq k.dot q) (with_marked (T q) k.kind) (T q))
+    → IsCountedAs S k.dot (bad_in (T k.dot))
 IsCountedAs-marked T S k t h = IsCountedAs-at T S k.dot t.bads (AlikeButMarks-marked T S k h)
     (λ q. ap count_in (h q) ∙ column count_in (dot_eq k.dot q) (with_marked (T q) k.kind) (T q) (marked_cols (T q) k.kind).2)
     (λ q ne. h q ∙ cond-false _ _ _ (dot_eq-apart k.dot q ne))
 
 -- the code that a dot is under has a row
-pub code_row : (T S : Rows) (q c : Dot) → IsForest T → AlikeButMarks T S → code_in (S q) ≡ Some c → IsSome (S c)
+pub code_row : (T S : Rows) (q c : Dot) → IsForest T → AlikeButMarks T S → code_in (S q) ≡ Some c
+    → IsSome (S c)
 code_row T S q c t a h =
     let u : IsUnder (links_of T) q c = t.under q c (sym (a.code q) ∙ h) in
     let r : RowAt (S c) = row_with (S c) Code (a.link c ∙ IsPath-code (links_of T) q u.path c u.leads) in
@@ -109,7 +121,9 @@ AlikeButMarks-then T S N a b = record {
   again = λ q j. b.again q j ∙ a.again q j;
 }
 
-pub MarksOne-from : (T S N : Rows) (k : TokenId) → IsForest T → IsSome (T k.dot) → ((q : Dot) → S q ≡ cond (dot_eq k.dot q) (with_marked (T q) k.kind) (T q)) → AlikeButCount S N → IsCounted N → MarksOne T N k
+pub MarksOne-from : (T S N : Rows) (k : TokenId) → IsForest T → IsSome (T k.dot)
+    → ((q : Dot) → S q ≡ cond (dot_eq k.dot q) (with_marked (T q) k.kind) (T q)) → AlikeButCount S N
+    → IsCounted N → MarksOne T N k
 MarksOne-from T S N k t present marks alike counted =
     let a : AlikeButMarks T N = AlikeButMarks-then T S N (AlikeButMarks-marked T S k marks) alike in
     let here : S k.dot ≡ with_marked (T k.dot) k.kind = marks k.dot ∙ cond-true _ _ _ (dot_eq-same k.dot) in
@@ -144,5 +158,6 @@ MarksOne-seen T M N k seen p = record {
 
 -- ---- look-ups
 
-pub top-broken : (T : Rows) (q : Dot) (l : Link) → IsForest T → link_in (T q) ≡ Some l → code_in (T q) ≡ None → IsTop (links_of T) (passing (marks_of T)) q top.Broken
+pub top-broken : (T : Rows) (q : Dot) (l : Link) → IsForest T → link_in (T q) ≡ Some l
+    → code_in (T q) ≡ None → IsTop (links_of T) (passing (marks_of T)) q top.Broken
 top-broken T q l t at none = (λ clash. (let e : Some l ≡ None = sym at ∙ clash in cc), λ c u. (let e : Some c ≡ None = sym (t.memo q c u) ∙ none in cc))

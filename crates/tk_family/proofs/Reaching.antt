@@ -1,13 +1,15 @@
 -- The walk through all that hangs below a dot whose chain now reaches a code. The walk keeps a list
 -- that is its own queue (`Walk`, its invariant).
-use Rattle.std.proofs.Common.{◌≡◌, ◌≢◌, ◌⊎◌, inl, inr, ◌+◌, ◌≤◌, true, false, List, [], ◌∷◌, ◌++◌, ap, sym, ◌∙◌, arith, append_assoc, subst, rules}
+use Rattle.std.proofs.Common.{◌≡◌, ◌≢◌, ◌⊎◌, inl, inr, ◌+◌, ◌≤◌, true, false, List, [], ◌∷◌, ◌++◌}
+use Rattle.std.proofs.Common.{ap, sym, ◌∙◌, arith, append_assoc, subst, rules}
 use Rattle.std.proofs.lemmas.Bool.{true≢false}
 use Rattle.std.specs.List.{IsDistinct}
 use Rattle.tk_handle.specs.declared.dot.Dot.{Dot}
 use Rattle.tk_family.specs.Dots.{dot_eq, has}
 use Rattle.tk_family.specs.Families.{Links, IsParent, rank_of}
 use Rattle.tk_family.specs.Puts.{IsBelow}
-use Rattle.tk_family.proofs.DotLaws.{has-cons, has-here, has-append, has-left, has-right, IsDistinct-append, IsDistinct-middle}
+use Rattle.tk_family.proofs.DotLaws.{has-cons, has-here, has-append, has-left, has-right}
+use Rattle.tk_family.proofs.DotLaws.{IsDistinct-append, IsDistinct-middle}
 use Rattle.tk_family.proofs.FamilyLaws.{IsParent-one, IsParent-rank}
 
 -- a dot that the walk has reached is the first, or its parent is done
@@ -30,7 +32,8 @@ pub record AreChildren (g : Links) (d x : Dot) (cs : List Dot) : Type 0 where
   pub all : (e : Dot) → e ≢ d → IsParent g e x → has cs e ≡ true
   pub distinct : IsDistinct dot_eq cs
 
-regroup : (done rest cs : List Dot) (x : Dot) → (done ++ x ∷ []) ++ (rest ++ cs) ≡ (done ++ x ∷ rest) ++ cs
+regroup : (done rest cs : List Dot) (x : Dot)
+    → (done ++ x ∷ []) ++ (rest ++ cs) ≡ (done ++ x ∷ rest) ++ cs
 regroup done rest cs x = append_assoc done (x ∷ []) (rest ++ cs) ∙ sym (append_assoc done (x ∷ rest) cs)
 
 pub Walk-starts : (g : Links) (d : Dot) → Walk g d [] (d ∷ [])
@@ -45,7 +48,8 @@ Walk-starts g d = record {
 }
 
 -- one turn: the children of the next waiting dot are added at the end
-pub Walk-turns : (g : Links) (d : Dot) (done : List Dot) (x : Dot) (rest cs : List Dot) → Walk g d done (x ∷ rest) → AreChildren g d x cs → Walk g d (done ++ x ∷ []) (rest ++ cs)
+pub Walk-turns : (g : Links) (d : Dot) (done : List Dot) (x : Dot) (rest cs : List Dot)
+    → Walk g d done (x ∷ rest) → AreChildren g d x cs → Walk g d (done ++ x ∷ []) (rest ++ cs)
 Walk-turns g d done x rest cs w ch =
     let x_in : has (done ++ x ∷ rest) x ≡ true = has-right done (x ∷ rest) x (has-here x rest) in
     let from_old : (q : Dot) → has (done ++ x ∷ rest) q ≡ true → has ((done ++ x ∷ []) ++ (rest ++ cs)) q ≡ true = λ q h. rw (regroup done rest cs x) (has-left (done ++ x ∷ rest) cs q h) in

@@ -1,6 +1,8 @@
 -- What the rows of a forest keep is kept when a link is removed, and when a mark is.
-use Rattle.std.proofs.Common.{◌≡◌, ◌≢◌, inl, inr, ℕ, ◌-◌, Bool, true, false, cond, Option, None, Some, List, [], ap, sym, ◌∙◌, refl}
-use Rattle.std.proofs.lemmas.Bool.{true≢false, cases_Bool, cond-true, cond-false, false_from_ne_true}
+use Rattle.std.proofs.Common.{◌≡◌, ◌≢◌, inl, inr, ℕ, ◌-◌, Bool, true, false, cond, Option, None}
+use Rattle.std.proofs.Common.{Some, List, [], ap, sym, ◌∙◌, refl}
+use Rattle.std.proofs.lemmas.Bool.{true≢false, cases_Bool, cond-true, cond-false}
+use Rattle.std.proofs.lemmas.Bool.{false_from_ne_true}
 use Rattle.std.specs.List.{IsDistinct}
 use Rattle.tk_handle.specs.declared.dot.Dot.{Dot}
 use Rattle.tk_handle.specs.declared.kind.Kind.{Kind}
@@ -14,7 +16,8 @@ use Rattle.tk_family.specs.Dots.{dot_eq, has}
 use Rattle.tk_family.specs.Families.{Links, IsUnder, LinksWithin}
 use Rattle.tk_family.specs.Kept.{IsForest}
 use Rattle.tk_family.specs.Puts.{with_link, Gathers, NothingSeen}
-use Rattle.tk_family.specs.Rows.{Rows, link_in, code_in, count_in, first_in, marked_in, used_in, again_in, bad_in, blamed_in, links_of, marks_of}
+use Rattle.tk_family.specs.Rows.{Rows, link_in, code_in, count_in, first_in, marked_in, used_in}
+use Rattle.tk_family.specs.Rows.{again_in, bad_in, blamed_in, links_of, marks_of}
 use Rattle.tk_family.specs.Takes.{without, HasUses, Unlinks, Clears, Takes, Unmarks}
 use Rattle.tk_family.specs.Writes.{without_code, without_mark, bads, unsettled, cleared}
 use Rattle.tk_family.proofs.DotLaws.{dot_eq-true, dot_eq-same, dot_eq-apart, cases_dots}
@@ -44,7 +47,9 @@ link_again f d l at q = elim (cases_dots q d) [
   | inr ne ↦ with_link-other f d l q ne
 ]
 
-pub Below-whole : (T : Rows) (d : Dot) (l : Link) (c0 : Dot) (ys : List Dot) → IsForest T → links_of T d ≡ Some l → code_in (T d) ≡ Some c0 → Gathers (links_of T) d l ys → Below (without (links_of T) d) (links_of T) c0 ys
+pub Below-whole : (T : Rows) (d : Dot) (l : Link) (c0 : Dot) (ys : List Dot) → IsForest T
+    → links_of T d ≡ Some l → code_in (T d) ≡ Some c0 → Gathers (links_of T) d l ys
+    → Below (without (links_of T) d) (links_of T) c0 ys
 Below-whole T d l c0 ys t here code got =
     let f : Links = without (links_of T) d in
     let g : Links = links_of T in
@@ -60,14 +65,17 @@ Below-whole T d l c0 ys t here code got =
       free = λ q walked c below. trail_free f (with_link g d l) q d (got.below q walked).path up (without-here g d) (got.below q walked).leads c below.path below.leads;
     }
 
-pub Below-none : (T : Rows) (d : Dot) (l : Link) → IsForest T → links_of T d ≡ Some l → code_in (T d) ≡ None → Below (without (links_of T) d) (links_of T) d []
+pub Below-none : (T : Rows) (d : Dot) (l : Link) → IsForest T → links_of T d ≡ Some l
+    → code_in (T d) ≡ None → Below (without (links_of T) d) (links_of T) d []
 Below-none T d l t here none = record {
   grown = Grown-waits (without (links_of T) d) (links_of T) d l d (Adds-without (links_of T) d l here) (λ c under. (let clash : Some c ≡ None = sym (t.memo d c under) ∙ none in cc));
   free = λ q h. absurd (true≢false (sym h));
 }
 
 -- what was gathered below a dot is under the dot's code
-pub codes_below : (T : Rows) (d : Dot) (l : Link) (c0 : Dot) (ys : List Dot) → IsForest T → links_of T d ≡ Some l → code_in (T d) ≡ Some c0 → Gathers (links_of T) d l ys → (q : Dot) → has ys q ≡ true → code_in (T q) ≡ Some c0
+pub codes_below : (T : Rows) (d : Dot) (l : Link) (c0 : Dot) (ys : List Dot) → IsForest T
+    → links_of T d ≡ Some l → code_in (T d) ≡ Some c0 → Gathers (links_of T) d l ys → (q : Dot)
+    → has ys q ≡ true → code_in (T q) ≡ Some c0
 codes_below T d l c0 ys t here code got q walked = t.memo q c0 ((Below-whole T d l c0 ys t here code got).grown.sound q walked)
 
 -- ---- the codes below are cleared
@@ -81,11 +89,13 @@ pub record Cleared (T A : Rows) (ys : List Dot) : Type 0 where
   pub used : (q : Dot) (k : Kind) → used_in (A q) k ≡ used_in (T q) k
   pub again : (q : Dot) (k : Kind) → again_in (A q) k ≡ again_in (T q) k
 
-uncoded_cols : (o : Option Row) → (link_in (without_code o) ≡ link_in o) × (code_in (without_code o) ≡ None) × (count_in (without_code o) ≡ count_in o) × (first_in (without_code o) ≡ first_in o)
+uncoded_cols : (o : Option Row)
+    → (link_in (without_code o) ≡ link_in o) × (code_in (without_code o) ≡ None) × (count_in (without_code o) ≡ count_in o) × (first_in (without_code o) ≡ first_in o)
 uncoded_cols None = (refl, refl, refl, refl)
 uncoded_cols (Some r) = (refl, refl, refl, refl)
 
-uncoded_flags : (o : Option Row) (k : Kind) → (marked_in (without_code o) k ≡ marked_in o k) × (used_in (without_code o) k ≡ used_in o k) × (again_in (without_code o) k ≡ again_in o k)
+uncoded_flags : (o : Option Row) (k : Kind)
+    → (marked_in (without_code o) k ≡ marked_in o k) × (used_in (without_code o) k ≡ used_in o k) × (again_in (without_code o) k ≡ again_in o k)
 uncoded_flags None k = (refl, refl, refl)
 uncoded_flags (Some r) kind.Code = (refl, refl, refl)
 uncoded_flags (Some r) kind.Access = (refl, refl, refl)
@@ -114,7 +124,8 @@ Cleared-alike T S A ys x a = record {
   again = λ q k. a.again q k ∙ x.again q k;
 }
 
-pub Cleared-from : (T A : Rows) (c0 : Dot) (ys : List Dot) → ((q : Dot) → A q ≡ cleared T ys c0 q) → Cleared T A ys
+pub Cleared-from : (T A : Rows) (c0 : Dot) (ys : List Dot) → ((q : Dot) → A q ≡ cleared T ys c0 q)
+    → Cleared T A ys
 Cleared-from T A c0 ys h = Cleared-alike T (unsettled T ys) A ys (Cleared-unsettled T ys) (AlikeButCount-count (unsettled T ys) A c0 (count_in (T c0) - bads T ys) h)
 
 pub Cleared-none : (T : Rows) → Cleared T T []
@@ -125,7 +136,8 @@ uncoded_row o true r = record { row = record r.row { code = None }; is = ap with
 uncoded_row o false r = r
 
 -- the code counts the dots that are under it still
-pub IsCounted-clear : (T A : Rows) (d : Dot) (l : Link) (c0 : Dot) → IsForest T → links_of T d ≡ Some l → code_in (T d) ≡ Some c0 → Clears T A d l c0 → IsCounted A
+pub IsCounted-clear : (T A : Rows) (d : Dot) (l : Link) (c0 : Dot) → IsForest T
+    → links_of T d ≡ Some l → code_in (T d) ≡ Some c0 → Clears T A d l c0 → IsCounted A
 IsCounted-clear T A d l c0 t here code x =
     let ys : List Dot = x.list in
     let S : Rows = unsettled T ys in
@@ -138,22 +150,28 @@ IsCounted-clear T A d l c0 t here code x =
     (λ c ne. count-other S A c0 n x.rows c ne ∙ column count_in (has ys c) (without_code (T c)) (T c) (uncoded_cols (T c)).2)
 
 -- the uses are as they were
-pub HasUses-cleared : (T A : Rows) (ys : List Dot) → IsForest T → Cleared T A ys → HasUses (links_of A) A
+pub HasUses-cleared : (T A : Rows) (ys : List Dot) → IsForest T → Cleared T A ys
+    → HasUses (links_of A) A
 HasUses-cleared T A ys t x = HasUses-kept (links_of T) (links_of A) T A (HasUses-forest T t) (λ q. sym (x.link q)) (λ k. x.used k.dot k.kind) (λ k. x.again k.dot k.kind)
 
-none_passes : (b : Bool) (o : Option Dot) (c : Dot) → cond b None o ≡ Some c → (b ≡ false) × (o ≡ Some c)
+none_passes : (b : Bool) (o : Option Dot) (c : Dot) → cond b None o ≡ Some c
+    → (b ≡ false) × (o ≡ Some c)
 none_passes true o c h = absurd (let clash : None ≡ Some c = h in cc)
 none_passes false o c h = (refl, h)
 
 -- a code that a row has is a code
-pub codes_links : (T A : Rows) (ys : List Dot) → IsForest T → Cleared T A ys → (q c : Dot) → code_in (A q) ≡ Some c → links_of A c ≡ Some Code
+pub codes_links : (T A : Rows) (ys : List Dot) → IsForest T → Cleared T A ys → (q c : Dot)
+    → code_in (A q) ≡ Some c → links_of A c ≡ Some Code
 codes_links T A ys t x q c h =
     let u : IsUnder (links_of T) q c = t.under q c (none_passes (has ys q) (code_in (T q)) c (sym (x.code q) ∙ h)).1 in
     x.link c ∙ IsPath-code (links_of T) q u.path c u.leads
 
 -- ---- a link is removed
 
-pub IsForest-take : (T A N : Rows) (d : Dot) (l : Link) (c0 : Dot) (ys : List Dot) → IsForest T → links_of T d ≡ Some l → Below (without (links_of T) d) (links_of T) c0 ys → Cleared T A ys → Unlinks A N d → ((c : Dot) → c ≢ d → IsCount (λ q. blamed_in (N q)) c (count_in (N c))) → IsForest N
+pub IsForest-take : (T A N : Rows) (d : Dot) (l : Link) (c0 : Dot) (ys : List Dot) → IsForest T
+    → links_of T d ≡ Some l → Below (without (links_of T) d) (links_of T) c0 ys → Cleared T A ys
+    → Unlinks A N d → ((c : Dot) → c ≢ d → IsCount (λ q. blamed_in (N q)) c (count_in (N c)))
+    → IsForest N
 unfolding IsDistinct
 IsForest-take T A N d l c0 ys t here b x u counted =
     let f : Links = without (links_of T) d in
@@ -194,7 +212,10 @@ IsForest-take T A N d l c0 ys t here b x u counted =
       twice = u.uses.twice;
     }
 
-pub Takes-from : (T A N : Rows) (d : Dot) (l : Link) (c0 : Dot) (ys : List Dot) → IsForest T → links_of T d ≡ Some l → Below (without (links_of T) d) (links_of T) c0 ys → Cleared T A ys → Unlinks A N d → ((c : Dot) → c ≢ d → IsCount (λ q. blamed_in (N q)) c (count_in (N c))) → Takes T N d
+pub Takes-from : (T A N : Rows) (d : Dot) (l : Link) (c0 : Dot) (ys : List Dot) → IsForest T
+    → links_of T d ≡ Some l → Below (without (links_of T) d) (links_of T) c0 ys → Cleared T A ys
+    → Unlinks A N d → ((c : Dot) → c ≢ d → IsCount (λ q. blamed_in (N q)) c (count_in (N c)))
+    → Takes T N d
 Takes-from T A N d l c0 ys t here b x u counted = record {
   forest = IsForest-take T A N d l c0 ys t here b x u counted;
   links = λ q. u.links q ∙ ap (λ (o : Option Link). cond (dot_eq d q) None o) (x.link q);
@@ -212,7 +233,8 @@ pub record Ready (T A : Rows) (d : Dot) (l : Link) : Type 0 where
   pub cleared : Cleared T A list
   pub counted : IsCounted A
 
-pub Ready-whole : (T A : Rows) (d : Dot) (l : Link) (c0 : Dot) → IsForest T → links_of T d ≡ Some l → code_in (T d) ≡ Some c0 → Clears T A d l c0 → Ready T A d l
+pub Ready-whole : (T A : Rows) (d : Dot) (l : Link) (c0 : Dot) → IsForest T → links_of T d ≡ Some l
+    → code_in (T d) ≡ Some c0 → Clears T A d l c0 → Ready T A d l
 Ready-whole T A d l c0 t here code x = record {
   code = c0;
   list = x.list;
@@ -221,18 +243,21 @@ Ready-whole T A d l c0 t here code x = record {
   counted = IsCounted-clear T A d l c0 t here code x;
 }
 
-pub Ready-none : (T : Rows) (d : Dot) (l : Link) → IsForest T → links_of T d ≡ Some l → code_in (T d) ≡ None → Ready T T d l
+pub Ready-none : (T : Rows) (d : Dot) (l : Link) → IsForest T → links_of T d ≡ Some l
+    → code_in (T d) ≡ None → Ready T T d l
 Ready-none T d l t here code = record { code = d; list = []; below = Below-none T d l t here code; cleared = Cleared-none T; counted = t.bads }
 
 -- ---- a mark is removed
 
-unmarked_cols : (o : Option Row) (k : Kind) → (link_in (without_mark o k) ≡ link_in o) × (code_in (without_mark o k) ≡ code_in o) × (count_in (without_mark o k) ≡ count_in o) × (first_in (without_mark o k) ≡ first_in o)
+unmarked_cols : (o : Option Row) (k : Kind)
+    → (link_in (without_mark o k) ≡ link_in o) × (code_in (without_mark o k) ≡ code_in o) × (count_in (without_mark o k) ≡ count_in o) × (first_in (without_mark o k) ≡ first_in o)
 unmarked_cols None k = (refl, refl, refl, refl)
 unmarked_cols (Some r) kind.Code = (refl, refl, refl, refl)
 unmarked_cols (Some r) kind.Access = (refl, refl, refl, refl)
 unmarked_cols (Some r) kind.Refresh = (refl, refl, refl, refl)
 
-unmarked_flags : (o : Option Row) (k j : Kind) → (used_in (without_mark o k) j ≡ used_in o j) × (again_in (without_mark o k) j ≡ again_in o j)
+unmarked_flags : (o : Option Row) (k j : Kind)
+    → (used_in (without_mark o k) j ≡ used_in o j) × (again_in (without_mark o k) j ≡ again_in o j)
 unmarked_flags None k j = (refl, refl)
 unmarked_flags (Some r) kind.Code kind.Code = (refl, refl)
 unmarked_flags (Some r) kind.Code kind.Access = (refl, refl)
@@ -250,7 +275,8 @@ unmarked_gone (Some r) kind.Code = refl
 unmarked_gone (Some r) kind.Access = refl
 unmarked_gone (Some r) kind.Refresh = refl
 
-unmarked_kept : (o : Option Row) (k j : Kind) → j ≢ k → marked_in (without_mark o k) j ≡ marked_in o j
+unmarked_kept : (o : Option Row) (k j : Kind) → j ≢ k
+    → marked_in (without_mark o k) j ≡ marked_in o j
 unmarked_kept None k j ne = refl
 unmarked_kept (Some r) kind.Code kind.Code ne = absurd (ne refl)
 unmarked_kept (Some r) kind.Code kind.Access ne = refl
@@ -263,7 +289,9 @@ unmarked_kept (Some r) kind.Refresh kind.Access ne = refl
 unmarked_kept (Some r) kind.Refresh kind.Refresh ne = absurd (ne refl)
 
 -- the other columns are as they were
-pub AlikeButMarks-unmarked : (T S : Rows) (k : TokenId) → ((q : Dot) → S q ≡ cond (dot_eq k.dot q) (without_mark (T q) k.kind) (T q)) → AlikeButMarks T S
+pub AlikeButMarks-unmarked : (T S : Rows) (k : TokenId)
+    → ((q : Dot) → S q ≡ cond (dot_eq k.dot q) (without_mark (T q) k.kind) (T q))
+    → AlikeButMarks T S
 AlikeButMarks-unmarked T S k h = record {
   link = λ q. ap link_in (h q) ∙ column link_in (dot_eq k.dot q) (without_mark (T q) k.kind) (T q) (unmarked_cols (T q) k.kind).0;
   code = λ q. ap code_in (h q) ∙ column code_in (dot_eq k.dot q) (without_mark (T q) k.kind) (T q) (unmarked_cols (T q) k.kind).1;
@@ -272,12 +300,16 @@ AlikeButMarks-unmarked T S k h = record {
   again = λ q j. ap (λ (o : Option Row). again_in o j) (h q) ∙ column (λ (o : Option Row). again_in o j) (dot_eq k.dot q) (without_mark (T q) k.kind) (T q) (unmarked_flags (T q) k.kind j).1;
 }
 
-pub IsCountedAs-unmarked : (T S : Rows) (k : TokenId) → IsForest T → ((q : Dot) → S q ≡ cond (dot_eq k.dot q) (without_mark (T q) k.kind) (T q)) → IsCountedAs S k.dot (bad_in (T k.dot))
+pub IsCountedAs-unmarked : (T S : Rows) (k : TokenId) → IsForest T
+    → ((q : Dot) → S q ≡ cond (dot_eq k.dot q) (without_mark (T q) k.kind) (T q))
+    → IsCountedAs S k.dot (bad_in (T k.dot))
 IsCountedAs-unmarked T S k t h = IsCountedAs-at T S k.dot t.bads (AlikeButMarks-unmarked T S k h)
     (λ q. ap count_in (h q) ∙ column count_in (dot_eq k.dot q) (without_mark (T q) k.kind) (T q) (unmarked_cols (T q) k.kind).2)
     (λ q ne. h q ∙ cond-false _ _ _ (dot_eq-apart k.dot q ne))
 
-pub Unmarks-from : (T S N : Rows) (k : TokenId) → IsForest T → ((q : Dot) → S q ≡ cond (dot_eq k.dot q) (without_mark (T q) k.kind) (T q)) → AlikeButCount S N → IsCounted N → Unmarks T N k
+pub Unmarks-from : (T S N : Rows) (k : TokenId) → IsForest T
+    → ((q : Dot) → S q ≡ cond (dot_eq k.dot q) (without_mark (T q) k.kind) (T q))
+    → AlikeButCount S N → IsCounted N → Unmarks T N k
 Unmarks-from T S N k t h alike counted =
     let a : AlikeButMarks T N = AlikeButMarks-then T S N (AlikeButMarks-unmarked T S k h) alike in
     record {

@@ -1,7 +1,9 @@
 -- The rows once a dot is no child any more.
 --   KeptBut-unhung, firsts-unhung, HasUses-unhung   their columns
-use Rattle.std.proofs.Common.{◌≡◌, ◌≢◌, inl, inr, ◌||◌, true, cond, Option, None, Some, ap, sym, ◌∙◌, refl, subst}
-use Rattle.std.proofs.lemmas.Bool.{true≢false, cases_Bool, cond-true, cond-false, and_parts, or_left, or_right}
+use Rattle.std.proofs.Common.{◌≡◌, ◌≢◌, inl, inr, ◌||◌, true, cond, Option, None, Some, ap, sym}
+use Rattle.std.proofs.Common.{◌∙◌, refl, subst}
+use Rattle.std.proofs.lemmas.Bool.{true≢false, cases_Bool, cond-true, cond-false, and_parts}
+use Rattle.std.proofs.lemmas.Bool.{or_left, or_right}
 use Rattle.std.specs.BTreeSet.{BTreeSet}
 use Rattle.tk_handle.specs.declared.dot.Dot.{Dot}
 use Rattle.tk_handle.specs.declared.kind.Kind.{Kind}
@@ -14,7 +16,8 @@ use Rattle.tk_family.specs.declared.row.Row.{Row}
 use Rattle.tk_family.specs.declared.row.Uses.{Uses}
 use Rattle.tk_family.specs.Dots.{dot_eq}
 use Rattle.tk_family.specs.Families.{Links, use_of, IsUsed, IsTwice, LinksWithin}
-use Rattle.tk_family.specs.Rows.{Rows, link_in, code_in, count_in, first_in, marked_in, used_in, again_in, is_some_use, is_often, links_of, firsts_of}
+use Rattle.tk_family.specs.Rows.{Rows, link_in, code_in, count_in, first_in, marked_in, used_in}
+use Rattle.tk_family.specs.Rows.{again_in, is_some_use, is_often, links_of, firsts_of}
 use Rattle.tk_family.specs.Takes.{without, with_first, HasUses, KeptBut, counted}
 use Rattle.tk_family.specs.Uses.{uses_by}
 use Rattle.tk_family.specs.Writes.{with_users}
@@ -27,7 +30,9 @@ use Rattle.tk_family.proofs.Marking.{token_is}
 use Rattle.tk_family.proofs.Putting.{RowAt}
 use Rattle.tk_family.proofs.UseLaws.{uses_by-true}
 use Rattle.tk_family.proofs.ChildLaws.{cases_tokens}
-use Rattle.tk_family.proofs.Unhanging.{Adds-without, used-within, Recounts, counted_used, used_counted, counted_twice, twice_counted, users_cols, users_marked, users_first, users_here, users_apart}
+use Rattle.tk_family.proofs.Unhanging.{Adds-without, used-within, Recounts, counted_used}
+use Rattle.tk_family.proofs.Unhanging.{used_counted, counted_twice, twice_counted, users_cols}
+use Rattle.tk_family.proofs.Unhanging.{users_marked, users_first, users_here, users_apart}
 
 -- M is T, with another first child at t's dot and another number of uses of t
 abbrev pub IsRewritten : Rows → Rows → TokenId → Option Dot → Uses → Type 0
@@ -38,13 +43,15 @@ used_row : (x : Option Row) (k : Kind) → used_in x k ≡ true → RowAt x
 used_row None k h = absurd (true≢false (sym h))
 used_row (Some r) k h = record { row = r; is = refl }
 
-used_kind : (o : Option Link) (t : TokenId) → uses_by o t ≡ true → (is_code t.kind || is_refresh t.kind) ≡ true
+used_kind : (o : Option Link) (t : TokenId) → uses_by o t ≡ true
+    → (is_code t.kind || is_refresh t.kind) ≡ true
 used_kind None t h = absurd (true≢false (sym h))
 used_kind (Some Code) t h = absurd (true≢false (sym h))
 used_kind (Some (Redeems c)) t h = or_left (is_code t.kind) (is_refresh t.kind) (and_parts (dot_eq c t.dot) (is_code t.kind) h).1
 used_kind (Some (Rotates c g)) t h = or_right (is_code t.kind) (is_refresh t.kind) (and_parts (dot_eq c t.dot) (is_refresh t.kind) h).1
 
-pub KeptBut-unhung : (T M : Rows) (t : TokenId) (o : Option Dot) (u : Uses) → IsRewritten T M t o u → KeptBut T M t
+pub KeptBut-unhung : (T M : Rows) (t : TokenId) (o : Option Dot) (u : Uses) → IsRewritten T M t o u
+    → KeptBut T M t
 KeptBut-unhung T M t o u h =
     let differs : (k : TokenId) → k ≢ t → dot_eq t.dot k.dot ≡ true → k.kind ≢ t.kind = λ k ne same one. ne (token_is k t (sym (dot_eq-true t.dot k.dot same)) one) in
     record {
@@ -64,13 +71,17 @@ KeptBut-unhung T M t o u h =
     }
 
 -- t is used, so its dot has a row
-token_row : (T : Rows) (d : Dot) (t : TokenId) → HasUses (links_of T) T → uses_by (links_of T d) t ≡ true → RowAt (T t.dot)
+token_row : (T : Rows) (d : Dot) (t : TokenId) → HasUses (links_of T) T
+    → uses_by (links_of T d) t ≡ true → RowAt (T t.dot)
 token_row T d t known uses = used_row (T t.dot) t.kind (known.uses t (record { user = d; by = uses_by-true (links_of T d) t uses }))
 
-row_here : (T M : Rows) (t : TokenId) (o : Option Dot) (u : Uses) (r : RowAt (T t.dot)) → IsRewritten T M t o u → M t.dot ≡ with_users (Some r.row) o t.kind u
+row_here : (T M : Rows) (t : TokenId) (o : Option Dot) (u : Uses) (r : RowAt (T t.dot))
+    → IsRewritten T M t o u → M t.dot ≡ with_users (Some r.row) o t.kind u
 row_here T M t o u r h = h t.dot ∙ (cond-true _ _ _ (dot_eq-same t.dot) ∙ ap (λ (x : Option Row). with_users x o t.kind u) r.is)
 
-pub firsts-unhung : (T M : Rows) (d : Dot) (t : TokenId) (o : Option Dot) (u : Uses) → HasUses (links_of T) T → uses_by (links_of T d) t ≡ true → IsRewritten T M t o u → (q : Dot) → firsts_of M q ≡ with_first (firsts_of T) t.dot o q
+pub firsts-unhung : (T M : Rows) (d : Dot) (t : TokenId) (o : Option Dot) (u : Uses)
+    → HasUses (links_of T) T → uses_by (links_of T d) t ≡ true → IsRewritten T M t o u → (q : Dot)
+    → firsts_of M q ≡ with_first (firsts_of T) t.dot o q
 firsts-unhung T M d t o u known uses h q =
     let r : RowAt (T t.dot) = token_row T d t known uses in
     elim (cases_Bool (dot_eq t.dot q)) [
@@ -83,7 +94,9 @@ link_of : (o : Option Link) (t : TokenId) → uses_by o t ≡ true → (l : Link
 link_of None t h = absurd (true≢false (sym h))
 link_of (Some l) t h = (l, refl)
 
-pub HasUses-unhung : (T M : Rows) (s : BTreeSet Child) (d : Dot) (t : TokenId) (o : Option Dot) → HasUses (links_of T) T → Recounts (links_of T) (firsts_of T) s d t o → IsRewritten T M t o (counted (links_of T) o s t) → HasUses (without (links_of T) d) M
+pub HasUses-unhung : (T M : Rows) (s : BTreeSet Child) (d : Dot) (t : TokenId) (o : Option Dot)
+    → HasUses (links_of T) T → Recounts (links_of T) (firsts_of T) s d t o
+    → IsRewritten T M t o (counted (links_of T) o s t) → HasUses (without (links_of T) d) M
 HasUses-unhung T M s d t o known x h =
     let f : Links = links_of T in
     let u : Uses = counted f o s t in

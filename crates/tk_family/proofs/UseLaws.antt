@@ -20,7 +20,8 @@ use_of-uses None k h = absurd (cc)
 use_of-uses (Some l) k h = used_by-uses l k h
 
 -- a link uses only tokens of the dot that it names
-pub uses_it-apart : (l : Link) (p : Dot) (k : TokenId) → named_by l ≡ Some p → k.dot ≢ p → uses_it l k ≡ false
+pub uses_it-apart : (l : Link) (p : Dot) (k : TokenId) → named_by l ≡ Some p → k.dot ≢ p
+    → uses_it l k ≡ false
 uses_it-apart Code p k names ne = refl
 uses_it-apart (Redeems c) p k names ne =
     let both : Some c ≡ Some p = names in

@@ -1,5 +1,6 @@
 -- Rows and what contracts see of them have the same look-ups.
-use Rattle.std.proofs.Common.{◌≡◌, ◌||◌, ◌&&◌, not, Bool, true, false, cond, Option, None, Some, List, [], ◌∷◌, ap, sym, ◌∙◌, refl}
+use Rattle.std.proofs.Common.{◌≡◌, ◌||◌, ◌&&◌, not, Bool, true, false, cond, Option, None, Some}
+use Rattle.std.proofs.Common.{List, [], ◌∷◌, ap, sym, ◌∙◌, refl}
 use Rattle.std.proofs.lemmas.Bool.{true≢false, and_parts}
 use Rattle.std.specs.declared.cmp.Ordering.{Ordering}
 use Rattle.std.specs.declared.cmp.Ordering.TheVariants.{Less, Equal, Greater}
@@ -27,19 +28,23 @@ use Rattle.tk_family.proofs.DotLaws.{dots_equiv, dot_eq-true}
 use Rattle.tk_family.proofs.EntryLaws.{entries_table}
 use Rattle.tk_family.proofs.Marking.{token_is}
 
-get-seen_link : (m : map.FinMap dot_cmp Link) (d : Dot) (o : Option Link) (q : Dot) → map.get (seen_link m d o) q ≡ cond (dot_eq q d) o (map.get m q)
+get-seen_link : (m : map.FinMap dot_cmp Link) (d : Dot) (o : Option Link) (q : Dot)
+    → map.get (seen_link m d o) q ≡ cond (dot_eq q d) o (map.get m q)
 get-seen_link m d None q = map.get-remove dot_cmp_total m d q
 get-seen_link m d (Some l) q = map.get-insert dot_cmp_total m d l q
 
-link_cond : (b : Bool) (r : Row) (o : Option Row) → cond b r.link (link_in o) ≡ link_in (cond b (Some r) o)
+link_cond : (b : Bool) (r : Row) (o : Option Row)
+    → cond b r.link (link_in o) ≡ link_in (cond b (Some r) o)
 link_cond true r o = refl
 link_cond false r o = refl
 
-get-seen_links : (es : List (Dot × Row)) (q : Dot) → map.get (seen_links es) q ≡ link_in (lookup (dot_eq q) es)
+get-seen_links : (es : List (Dot × Row)) (q : Dot)
+    → map.get (seen_links es) q ≡ link_in (lookup (dot_eq q) es)
 get-seen_links [] q = map.get-empty dot_cmp q
 get-seen_links (e ∷ es) q = get-seen_link (seen_links es) e.0 e.1.link q ∙ (ap (cond (dot_eq q e.0) e.1.link) (get-seen_links es q) ∙ link_cond (dot_eq q e.0) e.1 (lookup (dot_eq q) es))
 
-pub get-links : (m : RowMap) (q : Dot) → map.get (seen_links (map.entries m)) q ≡ links_of (table m) q
+pub get-links : (m : RowMap) (q : Dot)
+    → map.get (seen_links (map.entries m)) q ≡ links_of (table m) q
 get-links m q = get-seen_links (map.entries m) q ∙ ap link_in (entries_table m q)
 
 -- ---- marks
@@ -60,7 +65,8 @@ remove_cond : (b c : Bool) → (not b && c) ≡ cond b false c
 remove_cond true c = refl
 remove_cond false c = refl
 
-contains-seen_mark : (s : set.FinSet token_cmp) (k : TokenId) (b : Bool) (j : TokenId) → set.contains (seen_mark s k b) j ≡ cond (eq_by_cmp token_cmp j k) b (set.contains s j)
+contains-seen_mark : (s : set.FinSet token_cmp) (k : TokenId) (b : Bool) (j : TokenId)
+    → set.contains (seen_mark s k b) j ≡ cond (eq_by_cmp token_cmp j k) b (set.contains s j)
 contains-seen_mark s k true j = set.contains-insert tokens_total s k j ∙ insert_cond (eq_by_cmp token_cmp j k) (set.contains s j)
 contains-seen_mark s k false j = set.contains-remove tokens_total s k j ∙ remove_cond (eq_by_cmp token_cmp j k) (set.contains s j)
 
@@ -75,7 +81,8 @@ three true r kind.Refresh old o h = refl
 none_marked : (k : Kind) → false ≡ marked_in None k
 none_marked k = refl
 
-contains-seen_marks : (es : List (Dot × Row)) (j : TokenId) → set.contains (seen_marks es) j ≡ marked_in (lookup (dot_eq j.dot) es) j.kind
+contains-seen_marks : (es : List (Dot × Row)) (j : TokenId)
+    → set.contains (seen_marks es) j ≡ marked_in (lookup (dot_eq j.dot) es) j.kind
 contains-seen_marks [] j = set.contains-empty token_cmp j ∙ none_marked j.kind
 contains-seen_marks (e ∷ es) j =
     let c : TokenId = record { dot = e.0; kind = kind.Code } in
@@ -92,7 +99,8 @@ contains-seen_marks (e ∷ es) j =
     ∙ (ap (λ (b : Bool). cond (dot_eq j.dot e.0 && is_eq (nat_cmp (kind_number j.kind) 3)) e.1.marked_refresh (cond (dot_eq j.dot e.0 && is_eq (nat_cmp (kind_number j.kind) 2)) e.1.marked_access (cond b e.1.marked_code (set.contains s0 j)))) (then_eq (dot_cmp j.dot e.0) (nat_cmp (kind_number j.kind) 1))
     ∙ three (dot_eq j.dot e.0) e.1 j.kind (set.contains s0 j) (lookup (dot_eq j.dot) es) (contains-seen_marks es j)))))
 
-pub contains-marks : (m : RowMap) (j : TokenId) → set.contains (seen_marks (map.entries m)) j ≡ marks_of (table m) j
+pub contains-marks : (m : RowMap) (j : TokenId)
+    → set.contains (seen_marks (map.entries m)) j ≡ marks_of (table m) j
 contains-marks m j = contains-seen_marks (map.entries m) j ∙ ap (λ (o : Option Row). marked_in o j.kind) (entries_table m j.dot)
 
 same_kind : (a b : Kind) → is_eq (nat_cmp (kind_number a) (kind_number b)) ≡ true → a ≡ b
@@ -112,21 +120,27 @@ exact_tokens a b h =
     token_is a b (dot_eq-true a.dot b.dot parts.0) (same_kind a.kind b.kind parts.1)
 
 -- rows with the same look-ups are seen as the same forest
-pub seen_same : (m n : RowMap) → ((q : Dot) → links_of (table n) q ≡ links_of (table m) q) → ((k : TokenId) → marks_of (table n) k ≡ marks_of (table m) k) → seen n ≡ seen m
+pub seen_same : (m n : RowMap) → ((q : Dot) → links_of (table n) q ≡ links_of (table m) q)
+    → ((k : TokenId) → marks_of (table n) k ≡ marks_of (table m) k) → seen n ≡ seen m
 seen_same m n links marks =
     let l : seen_links (map.entries n) ≡ seen_links (map.entries m) = map.same_map dot_cmp_total dot_cmp-IsAntisymmetric _ _ (λ q. get-links n q ∙ (links q ∙ sym (get-links m q))) in
     let s : seen_marks (map.entries n) ≡ seen_marks (map.entries m) = set.same_set tokens_total exact_tokens _ _ (λ k. contains-marks n k ∙ (marks k ∙ sym (contains-marks m k))) in
     ap (λ (x : map.FinMap dot_cmp Link). record { links = x; marks = seen_marks (map.entries n) }) l ∙ ap (λ (y : set.FinSet token_cmp). record { links = seen_links (map.entries m); marks = y }) s
 
-pub links_put : (m n : RowMap) (d : Dot) (l : Link) → ((q : Dot) → links_of (table n) q ≡ with_link (links_of (table m)) d l q) → seen_links (map.entries n) ≡ map.insert (seen_links (map.entries m)) d l
+pub links_put : (m n : RowMap) (d : Dot) (l : Link)
+    → ((q : Dot) → links_of (table n) q ≡ with_link (links_of (table m)) d l q)
+    → seen_links (map.entries n) ≡ map.insert (seen_links (map.entries m)) d l
 links_put m n d l h = map.same_map dot_cmp_total dot_cmp-IsAntisymmetric _ _ (λ q.
     get-links n q ∙ (h q ∙ (ap (λ (b : Bool). cond b (Some l) (links_of (table m) q)) (dots_equiv.symm d q)
     ∙ sym (map.get-insert dot_cmp_total (seen_links (map.entries m)) d l q ∙ ap (cond (dot_eq q d) (Some l)) (get-links m q)))))
 
-pub marks_same : (m n : RowMap) → ((k : TokenId) → marks_of (table n) k ≡ marks_of (table m) k) → seen_marks (map.entries n) ≡ seen_marks (map.entries m)
+pub marks_same : (m n : RowMap) → ((k : TokenId) → marks_of (table n) k ≡ marks_of (table m) k)
+    → seen_marks (map.entries n) ≡ seen_marks (map.entries m)
 marks_same m n marks = set.same_set tokens_total exact_tokens _ _ (λ k. contains-marks n k ∙ (marks k ∙ sym (contains-marks m k)))
 
-pub links_taken : (m n : RowMap) (d : Dot) → ((q : Dot) → links_of (table n) q ≡ without (links_of (table m)) d q) → seen_links (map.entries n) ≡ map.remove (seen_links (map.entries m)) d
+pub links_taken : (m n : RowMap) (d : Dot)
+    → ((q : Dot) → links_of (table n) q ≡ without (links_of (table m)) d q)
+    → seen_links (map.entries n) ≡ map.remove (seen_links (map.entries m)) d
 links_taken m n d h = map.same_map dot_cmp_total dot_cmp-IsAntisymmetric _ _ (λ q.
     get-links n q ∙ (h q ∙ (ap (λ (b : Bool). cond b None (links_of (table m) q)) (dots_equiv.symm d q)
     ∙ sym (map.get-remove dot_cmp_total (seen_links (map.entries m)) d q ∙ ap (cond (dot_eq q d) None) (get-links m q)))))

@@ -1,18 +1,23 @@
 -- The walk finds the code that a dot is under: proof of `walk_finds`.
-use Rattle.std.proofs.Common.{◌≡◌, inl, inr, ◌+◌, ◌≤◌, ℕ, zero, suc, true, false, Option, None, Some, List, [], ◌∷◌, ap, sym, ◌∙◌, refl, arith, option_and_then}
-use Rattle.std.proofs.lemmas.Bool.{true≢false, cases_Bool, cond-true, cond-false, false_from_ne_true}
+use Rattle.std.proofs.Common.{◌≡◌, inl, inr, ◌+◌, ◌≤◌, ℕ, zero, suc, true, false, Option, None}
+use Rattle.std.proofs.Common.{Some, List, [], ◌∷◌, ap, sym, ◌∙◌, refl, arith, option_and_then}
+use Rattle.std.proofs.lemmas.Bool.{true≢false, cases_Bool, cond-true, cond-false}
+use Rattle.std.proofs.lemmas.Bool.{false_from_ne_true}
 use Rattle.tk_handle.specs.declared.dot.Dot.{Dot}
 use Rattle.tk_family.specs.declared.link.Link.{Link}
 use Rattle.tk_family.specs.declared.link.Link.TheVariants.{Code, Redeems, Rotates}
 use Rattle.tk_family.specs.Families.{Links, named_by, fits, rank_of, IsParent, IsPath, IsUnder}
-use Rattle.tk_family.specs.Walks.{fits_over, is_code_link, parent_named, parent_by, parent_of, code_by, code_of}
+use Rattle.tk_family.specs.Walks.{fits_over, is_code_link, parent_named, parent_by, parent_of}
+use Rattle.tk_family.specs.Walks.{code_by, code_of}
 use Rattle.tk_family.proofs.FamilyLaws.{IsParent-rank, IsParent-code}
 
-over_some : (l : Link) (o : Option Link) → fits_over l o ≡ true → (k : Link) × (o ≡ Some k) × (fits l k ≡ true)
+over_some : (l : Link) (o : Option Link) → fits_over l o ≡ true
+    → (k : Link) × (o ≡ Some k) × (fits l k ≡ true)
 over_some l None h = absurd (true≢false (sym h))
 over_some l (Some k) h = (k, refl, h)
 
-named-sound : (f : Links) (d : Dot) (l : Link) (o : Option Dot) (p : Dot) → f d ≡ Some l → named_by l ≡ o → parent_named f l o ≡ Some p → IsParent f d p
+named-sound : (f : Links) (d : Dot) (l : Link) (o : Option Dot) (p : Dot) → f d ≡ Some l
+    → named_by l ≡ o → parent_named f l o ≡ Some p → IsParent f d p
 named-sound f d l None p at names h = absurd (cc)
 named-sound f d l (Some r) p at names h = elim (cases_Bool (fits_over l (f r))) [
   | inl fit ↦
@@ -23,7 +28,8 @@ named-sound f d l (Some r) p at names h = elim (cases_Bool (fits_over l (f r))) 
   | inr none ↦ absurd (let clash : None ≡ Some p = sym (cond-false _ _ _ none) ∙ h in cc)
 ]
 
-by-sound : (f : Links) (d : Dot) (o : Option Link) (p : Dot) → f d ≡ o → parent_by f o ≡ Some p → IsParent f d p
+by-sound : (f : Links) (d : Dot) (o : Option Link) (p : Dot) → f d ≡ o → parent_by f o ≡ Some p
+    → IsParent f d p
 by-sound f d None p at h = absurd (cc)
 by-sound f d (Some l) p at h = named-sound f d l (named_by l) p at refl h
 
@@ -42,7 +48,9 @@ is_code-sound (Some (Rotates d g)) h = absurd (true≢false (sym h))
 here-sound : (f : Links) (d c : Dot) → is_code_link (f d) ≡ true → Some d ≡ Some c → IsUnder f d c
 here-sound f d c is h = let same : d ≡ c = cc in record { path = []; leads = (same, ap f (sym same) ∙ is_code-sound (f d) is) }
 
-step-sound : (f : Links) (n : ℕ) (d c : Dot) (o : Option Dot) → ((q : Dot) → code_by f n q ≡ Some c → IsUnder f q c) → parent_of f d ≡ o → option_and_then (code_by f n) o ≡ Some c → IsUnder f d c
+step-sound : (f : Links) (n : ℕ) (d c : Dot) (o : Option Dot)
+    → ((q : Dot) → code_by f n q ≡ Some c → IsUnder f q c) → parent_of f d ≡ o
+    → option_and_then (code_by f n) o ≡ Some c → IsUnder f d c
 step-sound f n d c None rest at h = absurd (cc)
 step-sound f n d c (Some p) rest at h = let u : IsUnder f p c = rest p h in record { path = p ∷ u.path; leads = ((parent_of-sound f d p at, u.leads.0), u.leads.1) }
 
@@ -64,13 +72,15 @@ code_here f (suc n) d is = cond-true _ _ _ is
 not_code : (f : Links) (d p : Dot) → IsParent f d p → is_code_link (f d) ≡ true → ⊥
 not_code f d p a is = IsParent-code f d p (is_code-sound (f d) is) a
 
-code_more : (f : Links) (n : ℕ) (d p c : Dot) → IsParent f d p → 1 ≤ n → ((m : ℕ) → m + 1 ≡ n → code_by f m p ≡ Some c) → code_by f n d ≡ Some c
+code_more : (f : Links) (n : ℕ) (d p c : Dot) → IsParent f d p → 1 ≤ n
+    → ((m : ℕ) → m + 1 ≡ n → code_by f m p ≡ Some c) → code_by f n d ≡ Some c
 code_more f zero d p c a low rest = absurd (omega arith)
 code_more f (suc m) d p c a low rest =
     let none : is_code_link (f d) ≡ false = false_from_ne_true (is_code_link (f d)) (not_code f d p a) in
     cond-false _ _ _ none ∙ (ap (option_and_then (code_by f m)) (parent_of-complete f d p a) ∙ rest m (omega arith))
 
-pub code_by-complete : (f : Links) (n : ℕ) (d : Dot) (ps : List Dot) (c : Dot) → IsPath f d ps c → rank_of (f d) ≤ n → code_by f n d ≡ Some c
+pub code_by-complete : (f : Links) (n : ℕ) (d : Dot) (ps : List Dot) (c : Dot) → IsPath f d ps c
+    → rank_of (f d) ≤ n → code_by f n d ≡ Some c
 code_by-complete f n d [] c m low = code_here f n d (ap is_code_link (ap f m.0 ∙ m.1)) ∙ ap (λ (x : Dot). Some x) m.0
 code_by-complete f n d (p ∷ ps) c m low =
     let r : rank_of (f d) ≡ rank_of (f p) + 1 = IsParent-rank f d p m.0.0 in

@@ -1,16 +1,23 @@
 -- What the steps of a forest write into the rows.
 use Rattle.std.specs.FinMap as map
-use Rattle.std.proofs.Common.{◌≡◌, ◌≤◌, ◌-◌, ◌+◌, inl, inr, Bool, ℕ, arith, true, false, cond, Option, None, Some, List, [], ◌∷◌, ◌++◌, option_map, is_some, ap, sym, ◌∙◌, refl, subst}
-use Rattle.std.proofs.lemmas.Bool.{true≢false, cases_Bool, cond-true, cond-false, false_from_ne_true}
+use Rattle.std.proofs.Common.{◌≡◌, ◌≤◌, ◌-◌, ◌+◌, inl, inr, Bool, ℕ, arith, true, false, cond}
+use Rattle.std.proofs.Common.{Option, None, Some, List, [], ◌∷◌, ◌++◌, option_map, is_some, ap, sym}
+use Rattle.std.proofs.Common.{◌∙◌, refl, subst}
+use Rattle.std.proofs.lemmas.Bool.{true≢false, cases_Bool, cond-true, cond-false}
+use Rattle.std.proofs.lemmas.Bool.{false_from_ne_true}
 use Rattle.tk_handle.specs.declared.dot.Dot.{Dot}
 use Rattle.tk_family.specs.declared.row.Row.{Row}
 use Rattle.tk_family.specs.Dots.{dot_eq, has}
 use Rattle.tk_handle.specs.Dot.{dot_cmp_total, dot_cmp-IsAntisymmetric}
 use Rattle.tk_family.specs.Rows.{Rows, RowMap, table}
 use Rattle.tk_family.specs.Writes.{blank, or_blank, with_code, without_code, settled, unsettled}
-use Rattle.tk_family.proofs.DotLaws.{dots_equiv, dot_eq-true, dot_eq-same, has-append, has-left, has-right, has-cons, has-here}
+use Rattle.tk_family.proofs.DotLaws.{dots_equiv, dot_eq-true, dot_eq-same, has-append, has-left}
+use Rattle.tk_family.proofs.DotLaws.{has-right, has-cons, has-here}
 
-pub changed : (T N : Rows) (at : Dot) (r row : Row) (F : Option Row → Option Row) → T at ≡ Some r → F (Some r) ≡ Some row → ((q : Dot) → N q ≡ cond (dot_eq at q) (option_map (λ _. row) (T q)) (T q)) → (q : Dot) → N q ≡ cond (dot_eq at q) (F (T q)) (T q)
+pub changed : (T N : Rows) (at : Dot) (r row : Row) (F : Option Row → Option Row) → T at ≡ Some r
+    → F (Some r) ≡ Some row
+    → ((q : Dot) → N q ≡ cond (dot_eq at q) (option_map (λ _. row) (T q)) (T q)) → (q : Dot)
+    → N q ≡ cond (dot_eq at q) (F (T q)) (T q)
 changed T N at r row F here written new q = elim (cases_Bool (dot_eq at q)) [
   | inl same ↦
       let e : T q ≡ Some r = sym (ap T (dot_eq-true at q same)) ∙ here in
@@ -29,7 +36,8 @@ twice_cleared None = refl
 twice_cleared (Some r) = refl
 
 -- a row is written at each dot of a list, where to write it twice is to write it once
-listed-more : (F : Option Row → Option Row) → ((o : Option Row) → F (F o) ≡ F o) → (T M N : Rows) (list : List Dot) (x : Dot)
+listed-more : (F : Option Row → Option Row) → ((o : Option Row) → F (F o) ≡ F o)
+    → (T M N : Rows) (list : List Dot) (x : Dot)
     → ((q : Dot) → M q ≡ cond (has list q) (F (T q)) (T q)) → ((q : Dot) → N q ≡ cond (dot_eq x q) (F (M q)) (M q)) → (q : Dot) → N q ≡ cond (has (list ++ x ∷ []) q) (F (T q)) (T q)
 listed-more F twice T M N list x before now q = elim (cases_Bool (dot_eq x q)) [
   | inl same ↦
@@ -52,14 +60,21 @@ listed-more F twice T M N list x before now q = elim (cases_Bool (dot_eq x q)) [
   ])))
 ]
 
-pub settled-more : (T M N : Rows) (list : List Dot) (x c : Dot) → ((q : Dot) → M q ≡ settled T list c q) → ((q : Dot) → N q ≡ cond (dot_eq x q) (with_code (M q) c) (M q)) → (q : Dot) → N q ≡ settled T (list ++ x ∷ []) c q
+pub settled-more : (T M N : Rows) (list : List Dot) (x c : Dot)
+    → ((q : Dot) → M q ≡ settled T list c q)
+    → ((q : Dot) → N q ≡ cond (dot_eq x q) (with_code (M q) c) (M q)) → (q : Dot)
+    → N q ≡ settled T (list ++ x ∷ []) c q
 settled-more T M N list x c before now q = listed-more (λ o. with_code o c) (λ o. twice_coded o c) T M N list x before now q
 
-pub unsettled-more : (T M N : Rows) (list : List Dot) (x : Dot) → ((q : Dot) → M q ≡ unsettled T list q) → ((q : Dot) → N q ≡ cond (dot_eq x q) (without_code (M q)) (M q)) → (q : Dot) → N q ≡ unsettled T (list ++ x ∷ []) q
+pub unsettled-more : (T M N : Rows) (list : List Dot) (x : Dot)
+    → ((q : Dot) → M q ≡ unsettled T list q)
+    → ((q : Dot) → N q ≡ cond (dot_eq x q) (without_code (M q)) (M q)) → (q : Dot)
+    → N q ≡ unsettled T (list ++ x ∷ []) q
 unsettled-more T M N list x before now q = listed-more without_code twice_cleared T M N list x before now q
 
 -- a blank row is put at a dot that has none
-pub added : (m n : RowMap) (at : Dot) (r : Row) → n ≡ map.insert m at r → map.get m at ≡ None → r ≡ blank → (q : Dot) → table n q ≡ cond (dot_eq at q) (or_blank (table m q)) (table m q)
+pub added : (m n : RowMap) (at : Dot) (r : Row) → n ≡ map.insert m at r → map.get m at ≡ None
+    → r ≡ blank → (q : Dot) → table n q ≡ cond (dot_eq at q) (or_blank (table m q)) (table m q)
 added m n at r is none empty q =
     ap (λ (x : RowMap). map.get x q) is ∙ map.get-insert dot_cmp_total m at r q ∙ ap (λ (b : Bool). cond b (Some r) (map.get m q)) (dots_equiv.symm q at)
     ∙ elim (cases_Bool (dot_eq at q)) [
@@ -83,7 +98,9 @@ same_maps : (m n : RowMap) → ((q : Dot) → map.get n q ≡ map.get m q) → n
 same_maps m n h = map.same_map dot_cmp_total dot_cmp-IsAntisymmetric n m h
 
 -- a row in place of another makes no more rows
-pub same_len : (m n : RowMap) (at : Dot) (row : Row) → ((q : Dot) → map.get n q ≡ cond (dot_eq q at) (option_map (λ _. row) (map.get m q)) (map.get m q)) → map.len n ≡ map.len m
+pub same_len : (m n : RowMap) (at : Dot) (row : Row)
+    → ((q : Dot) → map.get n q ≡ cond (dot_eq q at) (option_map (λ _. row) (map.get m q)) (map.get m q))
+    → map.len n ≡ map.len m
 same_len m n at row h = elim (cases_Bool (map.contains_key m at)) [
   | inl there ↦
       let is : n ≡ map.insert m at row = same_maps (map.insert m at row) n (λ q. h q ∙ (elim (cases_Bool (dot_eq q at)) [
@@ -101,11 +118,13 @@ one_more : (b : Bool) (x y : ℕ) → x ≡ cond b y (y + 1) → x ≤ y + 1
 one_more true x y h = omega arith
 one_more false x y h = omega arith
 
-pub longer : (m n : RowMap) (at : Dot) (row : Row) → n ≡ map.insert m at row → map.len n ≤ map.len m + 1
+pub longer : (m n : RowMap) (at : Dot) (row : Row) → n ≡ map.insert m at row
+    → map.len n ≤ map.len m + 1
 longer m n at row is = one_more (map.contains_key m at) (map.len n) (map.len m) (ap map.len is ∙ map.len-insert dot_cmp_total m at row)
 
 -- a row is removed
-pub dropped : (m n : RowMap) (at : Dot) → n ≡ map.remove m at → (q : Dot) → table n q ≡ cond (dot_eq at q) None (table m q)
+pub dropped : (m n : RowMap) (at : Dot) → n ≡ map.remove m at → (q : Dot)
+    → table n q ≡ cond (dot_eq at q) None (table m q)
 dropped m n at is q = ap (λ (x : RowMap). map.get x q) is ∙ (map.get-remove dot_cmp_total m at q ∙ ap (λ (b : Bool). cond b None (map.get m q)) (dots_equiv.symm q at))
 
 less_one : (b : Bool) (x y : ℕ) → x ≡ cond b (y - 1) y → x ≤ y

@@ -1,7 +1,7 @@
 -- Whether a link uses a token (own).
 --   uses_it, uses_by      a link uses a token
 --   used_kind             the kind of the token that a link uses
-use Rattle.std.specs.Prelude.{Bool, true, false, ◌&&◌, Option, Some, None}
+use Rattle.std.specs.Prelude.{Bool, false, ◌&&◌, Option, Some, None}
 use Rattle.tk_handle.specs.declared.kind.Kind.{Kind}
 use Rattle.tk_handle.specs.declared.kind.Kind.TheVariants as kind
 use Rattle.tk_handle.specs.Kind.{is_code, is_refresh}

@@ -172,7 +172,7 @@ fn clear_below(
     room.clear();
     match gather_into(rows, others, dot, link, room) {
         Ok(()) => clear(rows, room.as_slice(), code),
-        Err(_) => unreachable!(),
+        Err(_) => unreachable!("there is room for each row"),
     }
 }
 
@@ -243,7 +243,7 @@ pub(crate) fn take_at(
             take_link(rows, others, room, dot, &link);
             drop_blanks(rows, dot, &link);
         }
-        None => unreachable!(),
+        None => unreachable!("the dot has a link"),
     }
 }
 

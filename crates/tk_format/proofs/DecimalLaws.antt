@@ -2,17 +2,24 @@
 --   decimals_in      `decimal_in` finds the number of a decimal, and nothing in any other text
 --   decimal_back     a number is found in its decimal
 --   no_decimal       a text in which `decimal_in` finds nothing is the decimal of no number
-use Rattle.std.proofs.Common.{◌≡◌, ◌≢◌, ℕ, zero, suc, ◌<◌, ◌^◌, Bool, true, false, ◌&&◌, nat_lt, cond, List, length, get_or, Option, Some, None, refl, sym, ap, ◌∙◌, subst, arith, decimal, IfNone, MatchOption, Result, Ok, Err}
+use Rattle.std.proofs.Common.{◌≡◌, ◌≢◌, ℕ, zero, suc, ◌<◌, ◌^◌, true, false, ◌&&◌, nat_lt, cond}
+use Rattle.std.proofs.Common.{List, length, get_or, Option, Some, None, refl, sym, ap, ◌∙◌, subst}
+use Rattle.std.proofs.Common.{arith, decimal, IfNone, MatchOption, Result, Ok, Err}
+use Rattle.std.proofs.Common.{lt-ltb as test_from_lt, ltb-true as lt_from_test}
 use Rattle.std.specs.Str.{IsUtf8, bytes_eq}
 use Rattle.std.specs.Str.Parse.{digits_value, ParsesUnsigned, AllDigits}
 use Rattle.std.specs.Result.{result_ok}
-use Rattle.std.proofs.lemmas.Bool.Decides.{nat_tests}
-use Rattle.std.proofs.lemmas.Fmt.{decimal-digits_value, digits_value-decimal, digits_decimal, first_decimal, decimal_nonempty, decimal_injective, IsAscii-decimal, decimal_digit}
+use Rattle.std.proofs.lemmas.Fmt.{decimal-digits_value, digits_value-decimal, digits_decimal}
+use Rattle.std.proofs.lemmas.Fmt.{first_decimal, decimal_nonempty, decimal_injective}
+use Rattle.std.proofs.lemmas.Fmt.{IsAscii-decimal, decimal_digit}
 use Rattle.std.proofs.lemmas.Slice.Eq.{bytes_eq-Decides}
 use Rattle.std.proofs.lemmas.Str.{IsUtf8-from_ascii}
-use Rattle.std.proofs.lemmas.Str.Parse.{IsNumeralModel, numerals_by_value, tells_digits, parse_plain, not_in_digits}
+use Rattle.std.proofs.lemmas.Str.Parse.{IsNumeralModel, numerals_by_value, tells_digits}
+use Rattle.std.proofs.lemmas.Str.Parse.{parse_plain, not_in_digits}
 use mathlib.Core.Bool.{false≢true}
 use Rattle.tk_format.specs.Decimals.{IsDecimalOf, IsNoDecimal, decimal_in}
+use Rattle.std.proofs.lemmas.Bool.{and_parts as both_true}
+use Rattle.std.proofs.lemmas.Option.{none-some as none_is_not_some}
 
 -- decimals meet the model of numerals of std's laws
 pub own : IsNumeralModel (AllDigits 10) (digits_value 10)
@@ -32,19 +39,6 @@ one_number text (Some m) (Some n) f g = ap Some (decimal_injective m n f.fits g.
 -- the number of a decimal is the value of its digits
 value_of : (text : List ℕ) (n : ℕ) → IsDecimalOf text n → digits_value 10 text ≡ n
 value_of text n h = ap (digits_value 10) h.spelled ∙ digits_value-decimal own n h.fits
-
--- both of two tests that hold together hold
-both_true : (a b : Bool) → (a && b) ≡ true → (a ≡ true) × (b ≡ true)
-both_true true b h = (refl, h)
-both_true false b h = absurd (false≢true h)
-
--- a test for less that holds gives the relation
-lt_from_test : (a b : ℕ) → nat_lt a b ≡ true → a < b
-lt_from_test a b h = grind (arith, nat_tests)
-
--- a relation less that holds gives the test
-test_from_lt : (a b : ℕ) → a < b → nat_lt a b ≡ true
-test_from_lt a b h = grind (arith, nat_tests)
 
 -- `decimal_in` gives the number of a decimal, and nothing for any other text
 pub decimals_in : (text : List ℕ) → ReadsDecimal text (decimal_in text)
@@ -78,10 +72,6 @@ decimal_found text n e = subst (ReadsDecimal text) e (decimals_in text)
 pub decimal_back : (n : ℕ) → n < 2 ^ 64 → decimal_in (decimal n) ≡ Some n
 decimal_back n fits = sym (is_decimal_in (decimal n) (Some n) (record { fits = fits; spelled = refl }))
 
--- nothing is not something
-none_is_not_some : {A : Type 0} (x : A) → ¬ (None ≡ Some x)
-none_is_not_some x h = cc
-
 -- a text in which `decimal_in` finds nothing is the decimal of no number below 2^64
 pub no_decimal : (text : List ℕ) (n : ℕ) → decimal_in text ≡ None → n < 2 ^ 64 → text ≢ decimal n
 no_decimal text n none fits same = none_is_not_some n (sym none ∙ ap decimal_in same ∙ decimal_back n fits)
@@ -90,7 +80,9 @@ no_decimal text n none fits same = none_is_not_some n (sym none ∙ ap decimal_i
 
 -- what parsing gives for a text with no plus in front and no zero before other digits is its
 -- decimal
-pub parsed : {E : Type 0} (text : List ℕ) (r : Result ℕ E) → ParsesUnsigned 64 10 text r → get_or text 0 0 ≢ 43 → (get_or text 0 0 ≡ 48 → length text ≡ 1) → ReadsDecimal text (result_ok r)
+pub parsed : {E : Type 0} (text : List ℕ) (r : Result ℕ E) → ParsesUnsigned 64 10 text r
+    → get_or text 0 0 ≢ 43 → (get_or text 0 0 ≡ 48 → length text ≡ 1)
+    → ReadsDecimal text (result_ok r)
 parsed {E} text (Ok n) h plus zero_alone =
     let p = parse_plain own {E = E} 64 text (Ok n) h plus in
     let same : decimal n ≡ text = ap decimal p.1 ∙ decimal-digits_value own text p.0.0 p.0.1 zero_alone p.0.2 in

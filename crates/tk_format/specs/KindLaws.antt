@@ -6,7 +6,8 @@ use Rattle.std.proofs.lemmas.Bool.{eqb-true, eq-eqb}
 use Rattle.std.proofs.lemmas.Option.{none-some}
 use Rattle.tk_format.specs.Format.{Format, via, Kinds, no_kind, spelled_by, FitsBy, kind, one_of}
 use Rattle.tk_format.specs.Exact.{done, none_of, IsBytes, IsExact, Takes, some_is}
-use Rattle.tk_format.specs.Laws.{IsBytes-rest, via_takes, via_again, case_takes}
+use Rattle.tk_format.specs.NumberLaws.{IsBytes-rest}
+use Rattle.tk_format.specs.CaseLaws.{via_takes, via_again, case_takes}
 
 -- the law of the empty list of kinds, in which no value has a spelling
 pub no_kind_exact : {B : Type 0} → IsExact (one_of (no_kind {B = B}))

@@ -2,7 +2,10 @@
 --   parted_back, parted_found   `parted_in` finds the dot of a text, and nothing in any other text
 --   reads_id                    a reader that agrees with `id_in` reads exactly the ids of dots
 --   parted_injective            two dots with one text are equal
-use Rattle.std.proofs.Common.{◌≡◌, ◌≢◌, ℕ, ◌+◌, ◌<◌, ◌≤◌, ◌^◌, true, false, ◌&&◌, ◌==◌, cond, List, [], ◌∷◌, ◌++◌, length, get_or, take, drop, Option, Some, None, IfSome, IfNone, suc, refl, sym, ap, subst, ◌∙◌, arith, decimal, inl, inr}
+use Rattle.std.proofs.Common.{◌≡◌, ◌≢◌, ℕ, ◌+◌, ◌<◌, ◌≤◌, ◌^◌, true, false, ◌&&◌, ◌==◌, cond, List}
+use Rattle.std.proofs.Common.{[], ◌∷◌, ◌++◌, length, get_or, take, drop, Option, Some, None, IfSome}
+use Rattle.std.proofs.Common.{IfNone, suc, refl, sym, ap, subst, ◌∙◌, arith, decimal, inl, inr}
+use Rattle.std.proofs.Common.{eqb-true as same_number, ne_eqb as other_than}
 use Rattle.std.specs.Int.{IsInRange}
 use Rattle.std.specs.List.{position_or_len, before_first, after_first}
 use Rattle.std.proofs.lemmas.Bool.{cases_lt}
@@ -17,7 +20,9 @@ use Rattle.tk_format.proofs.DecimalLaws.{own, decimal_back, decimal_found}
 use Rattle.tk_handle.specs.declared.dot.Dot.{Dot}
 use Rattle.tk_handle.specs.Dot.{IsDot}
 use Rattle.tk_handle.specs.Ranges.{is_region, is_serial, IsRegion, IsSerial}
-use Rattle.tk_handle.specs.DotText.{colon, dash, parted_text, id_text, IsPartedText, IsDotText, IsNoDotText, IsIdText, ReadsId, dot_at, parted_in, id_in}
+use Rattle.tk_handle.specs.DotText.{colon, dash, parted_text, id_text, IsPartedText, IsDotText}
+use Rattle.tk_handle.specs.DotText.{IsNoDotText, IsIdText, ReadsId, dot_at, parted_in, id_in}
+use Rattle.std.proofs.lemmas.Option.{none-some as none_is_not_some}
 
 -- ---- lists
 
@@ -43,17 +48,8 @@ longer xs ys c = grind (arith, common_steps)
 
 -- ---- numbers
 
-other_than : (b c : ℕ) → b ≢ c → (b == c) ≡ false
-other_than b c h = grind (arith, nat_tests)
-
 itself : (c : ℕ) → (c == c) ≡ true
 itself c = grind (arith, nat_tests)
-
-same_number : (b c : ℕ) → (b == c) ≡ true → b ≡ c
-same_number b c h = grind (arith, nat_tests)
-
-none_is_not_some : {A : Type 0} (x : A) → ¬ (None ≡ Some x)
-none_is_not_some x h = cc
 
 -- the numbers of a dot in range are below 2^64
 region_fits : (d : Dot) → IsDot d → d.region < 2 ^ 64
@@ -62,11 +58,13 @@ region_fits d h = omega arith
 serial_fits : (d : Dot) → IsDot d → d.serial < 2 ^ 64
 serial_fits d h = omega arith
 
-in_range : (r s : ℕ) → IsRegion r → IsSerial s → dot_at (Some r) (Some s) ≡ Some (record { region = r; serial = s })
+in_range : (r s : ℕ) → IsRegion r → IsSerial s
+    → dot_at (Some r) (Some s) ≡ Some (record { region = r; serial = s })
 in_range r s a b = grind (arith, nat_tests)
 
 -- the numbers of a dot that `dot_at` found, and their ranges
-numbers_of : (x y : Option ℕ) (d : Dot) → dot_at x y ≡ Some d → (x ≡ Some d.region) × (y ≡ Some d.serial) × IsDot d
+numbers_of : (x y : Option ℕ) (d : Dot) → dot_at x y ≡ Some d
+    → (x ≡ Some d.region) × (y ≡ Some d.serial) × IsDot d
 numbers_of None y d h = absurd (none_is_not_some d h)
 numbers_of (Some r) None d h = absurd (none_is_not_some d h)
 numbers_of (Some r) (Some s) d h =
@@ -94,7 +92,8 @@ module _ (mark : ℕ) (parts : ¬ (IsInRange 48 57 mark)) where
   no_mark n high = not_in_digits own (decimal n) mark (digits_decimal own n high) parts
 
   -- the first `mark` in the text of a dot is right behind the region's number
-  mark_at : (d : Dot) → IsDot d → position_or_len (λ b. b == mark) (parted_text mark d) ≡ length (decimal d.region)
+  mark_at : (d : Dot) → IsDot d
+      → position_or_len (λ b. b == mark) (parted_text mark d) ≡ length (decimal d.region)
   mark_at d h =
       let dr = decimal d.region in
       let ds = decimal d.serial in
@@ -104,10 +103,12 @@ module _ (mark : ℕ) (parts : ¬ (IsInRange 48 57 mark)) where
       (λ _. ap (λ b. b == mark) (get_or_seam dr ds mark) ∙ itself mark)
 
   -- the two numbers of a dot are the texts before and behind the first `mark`
-  pub before_mark : (d : Dot) → IsDot d → before_first (λ b. b == mark) (parted_text mark d) ≡ decimal d.region
+  pub before_mark : (d : Dot) → IsDot d
+      → before_first (λ b. b == mark) (parted_text mark d) ≡ decimal d.region
   before_mark d h = ap (λ n. take n (parted_text mark d)) (mark_at d h) ∙ take_left (decimal d.region) (mark ∷ decimal d.serial)
 
-  pub after_mark : (d : Dot) → IsDot d → after_first (λ b. b == mark) (parted_text mark d) ≡ decimal d.serial
+  pub after_mark : (d : Dot) → IsDot d
+      → after_first (λ b. b == mark) (parted_text mark d) ≡ decimal d.serial
   after_mark d h = ap (λ n. drop (n + 1) (parted_text mark d)) (mark_at d h) ∙ drop_right (decimal d.region) (decimal d.serial) mark
 
   pub parted_back : (d : Dot) → IsDot d → parted_in mark (parted_text mark d) ≡ Some d
@@ -119,14 +120,17 @@ module _ (mark : ℕ) (parts : ¬ (IsInRange 48 57 mark)) where
       ∙ in_range d.region d.serial h.0 h.1
 
   -- two dots with one text are equal
-  pub parted_injective : (a b : Dot) → IsDot a → IsDot b → parted_text mark a ≡ parted_text mark b → a ≡ b
+  pub parted_injective : (a b : Dot) → IsDot a → IsDot b → parted_text mark a ≡ parted_text mark b
+      → a ≡ b
   parted_injective a b one other same = some_injective (sym (parted_back a one) ∙ ap (parted_in mark) same ∙ parted_back b other)
     where
       some_injective : {x y : Dot} → Some x ≡ Some y → x ≡ y
       some_injective h = cc
 
 -- a text without the byte `mark` has no number behind that byte
-nothing_behind : (mark : ℕ) (text : List ℕ) (n : ℕ) → length text ≤ position_or_len (λ b. b == mark) text → decimal_in (after_first (λ b. b == mark) text) ≢ Some n
+nothing_behind : (mark : ℕ) (text : List ℕ) (n : ℕ)
+    → length text ≤ position_or_len (λ b. b == mark) text
+    → decimal_in (after_first (λ b. b == mark) text) ≢ Some n
 nothing_behind mark text n none e =
     let h = decimal_found (after_first (λ b. b == mark) text) n e in
     let long = decimal_nonempty n h.fits in
@@ -134,7 +138,8 @@ nothing_behind mark text n none e =
     let short = length-drop (position_or_len (λ b. b == mark) text + 1) text in
     omega (arith, long, same, short)
 
-pub parted_found : (mark : ℕ) (text : List ℕ) (d : Dot) → parted_in mark text ≡ Some d → IsPartedText mark text d
+pub parted_found : (mark : ℕ) (text : List ℕ) (d : Dot) → parted_in mark text ≡ Some d
+    → IsPartedText mark text d
 parted_found mark text d h =
     let n = numbers_of _ _ d h in
     elim (cases_lt (position_or_len (λ b. b == mark) text) (length text)) [
@@ -158,11 +163,13 @@ dash_parts : ¬ (IsInRange 48 57 dash)
 dash_parts h = absurd (omega (arith, h.0))
 
 -- a reader that agrees with `parted_in` reads exactly the texts of dots
-pub dot_found : (text : List ℕ) (r : Option Dot) → r ≡ parted_in colon text → IfSome r (IsDotText text)
+pub dot_found : (text : List ℕ) (r : Option Dot) → r ≡ parted_in colon text
+    → IfSome r (IsDotText text)
 dot_found text None e = tt
 dot_found text (Some d) e = parted_found colon text d (sym e)
 
-pub dot_none : (text : List ℕ) (r : Option Dot) → r ≡ parted_in colon text → IfNone r (IsNoDotText text)
+pub dot_none : (text : List ℕ) (r : Option Dot) → r ≡ parted_in colon text
+    → IfNone r (IsNoDotText text)
 dot_none text None e = λ d h. none_is_not_some d (e ∙ ap (parted_in colon) h.spelled ∙ parted_back colon colon_parts d h.range)
 dot_none text (Some d) e = tt
 
@@ -171,7 +178,8 @@ dot_none text (Some d) e = tt
 pub id_back : (letter : ℕ) (d : Dot) → IsDot d → id_in letter (id_text letter d) ≡ Some d
 id_back letter d h = ap (λ t. cond t (parted_in dash (parted_text dash d)) None) (itself letter) ∙ parted_back dash dash_parts d h
 
-pub id_found : (letter : ℕ) (text : List ℕ) (d : Dot) → id_in letter text ≡ Some d → IsIdText letter text d
+pub id_found : (letter : ℕ) (text : List ℕ) (d : Dot) → id_in letter text ≡ Some d
+    → IsIdText letter text d
 id_found letter [] d h = absurd (none_is_not_some d h)
 id_found letter (b ∷ rest) d h =
     elim (b == letter) as (λ t. (b == letter) ≡ t → cond t (parted_in dash rest) None ≡ Some d → IsIdText letter (b ∷ rest) d) [

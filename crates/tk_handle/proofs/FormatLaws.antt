@@ -2,7 +2,9 @@
 -- spelling is read as its value.
 use Rattle.std.proofs.Common.{◌≡◌, ℕ, eqb, cond, [], ◌∷◌, Some, None, refl, sym}
 use Rattle.tk_format.specs.Exact.{IsExact, some_is}
-use Rattle.tk_format.specs.Laws.{u16_exact, u64_exact, both_exact, only_exact, shaped_exact, repeated_exact, after_exact, coded_exact, case_takes}
+use Rattle.tk_format.specs.NumberLaws.{u16_exact, u64_exact}
+use Rattle.tk_format.specs.Laws.{both_exact, only_exact, shaped_exact, repeated_exact, after_exact}
+use Rattle.tk_format.specs.CaseLaws.{coded_exact, case_takes}
 use Rattle.tk_handle.specs.declared.kind.Kind.{Kind}
 use Rattle.tk_handle.specs.declared.kind.Kind.TheVariants.{Code, Access, Refresh}
 use Rattle.tk_handle.specs.DotBytes.{dot_field}

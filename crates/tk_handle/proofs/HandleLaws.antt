@@ -2,7 +2,9 @@
 --   handle_back              a handle's text is read as the handle
 --   text_found, text_none    a text that is read is the handle's; a text that is not read is no
 --                            handle's
-use Rattle.std.proofs.Common.{◌≡◌, ◌≢◌, ℕ, suc, ◌<◌, ◌^◌, lit<, List, [], ◌∷◌, ◌++◌, length, get_or, Option, Some, None, Result, Ok, refl, sym, ap, ◌∙◌, arith, IfSome, IfNone}
+use Rattle.std.proofs.Common.{◌≡◌, ◌≢◌, ℕ, suc, ◌<◌, ◌^◌, lit<, List, [], ◌∷◌, ◌++◌, length, get_or}
+use Rattle.std.proofs.Common.{Option, Some, None, Result, Ok, refl, sym, ap, ◌∙◌, arith, IfSome}
+use Rattle.std.proofs.Common.{IfNone}
 use Rattle.std.specs.Prelude.{if◌then◌else◌, ◌==◌}
 use Rattle.std.specs.List.{AllByRecursion, flat_map}
 use Rattle.std.specs.Int.{w16, w64, to_be_bytes}
@@ -35,7 +37,9 @@ three (a ∷ b ∷ c ∷ []) e = refl
 three (a ∷ b ∷ c ∷ d ∷ xs) e = absurd (omega arith)
 
 -- the bytes of a handle, as the code puts them together
-pub spelled : (h : Handle) (k : ℕ) (r s a b d : List ℕ) → length h.words ≡ 3 → k ≡ kind_number h.id.kind → r ≡ to_be_bytes w16 h.id.dot.region → s ≡ to_be_bytes w64 h.id.dot.serial
+pub spelled : (h : Handle) (k : ℕ) (r s a b d : List ℕ) → length h.words ≡ 3
+    → k ≡ kind_number h.id.kind → r ≡ to_be_bytes w16 h.id.dot.region
+    → s ≡ to_be_bytes w64 h.id.dot.serial
     → a ≡ to_be_bytes w64 (get_or h.words 0 0) → b ≡ to_be_bytes w64 (get_or h.words 1 0) → d ≡ to_be_bytes w64 (get_or h.words 2 0)
     → 1 ∷ k ∷ r ++ (s ++ (a ++ (b ++ d))) ≡ handle_bytes h
 unfolding number_spelling
@@ -68,7 +72,8 @@ IsBytes-handle_bytes h =
     (IsBytes-append (region ++ serial) words (IsBytes-append region serial (number_bytes w16 h.id.dot.region) (number_bytes w64 h.id.dot.serial)) (words_bytes h.words)))
 
 -- words below 2 ^ 64 have a spelling in eight bytes each
-pub words_fit : (xs : List ℕ) → ((i : ℕ) → get_or xs i 0 < 2 ^ 64) → AllByRecursion (number w64).Fits xs
+pub words_fit : (xs : List ℕ) → ((i : ℕ) → get_or xs i 0 < 2 ^ 64)
+    → AllByRecursion (number w64).Fits xs
 words_fit [] below = tt
 words_fit (x ∷ xs) below = (below 0, words_fit xs (λ i. below (suc i)))
 
@@ -88,17 +93,22 @@ handle_back h fits =
     ∙ whole_again handle handle_exact h fits
 
 -- bytes that are read as a handle are the bytes of that handle
-pub bytes_found : (bytes : List ℕ) (h : Handle) → IsBytes bytes → whole handle bytes ≡ Some h → handle.Fits h × (bytes ≡ handle_bytes h)
+pub bytes_found : (bytes : List ℕ) (h : Handle) → IsBytes bytes → whole handle bytes ≡ Some h
+    → handle.Fits h × (bytes ≡ handle_bytes h)
 bytes_found bytes h fits e = whole_takes handle handle_exact bytes h fits e
 
 -- a text whose decoded bytes are read as a handle is the text of that handle
-pub text_found : (text bytes : List ℕ) (r : Option Handle) → IsBytes text → decode_of url_safe_no_pad text ≡ Ok bytes → IfSome r (λ h. handle.Fits h × (bytes ≡ handle_bytes h)) → IfSome r (λ h. handle.Fits h × (text ≡ handle_text h))
+pub text_found : (text bytes : List ℕ) (r : Option Handle) → IsBytes text
+    → decode_of url_safe_no_pad text ≡ Ok bytes
+    → IfSome r (λ h. handle.Fits h × (bytes ≡ handle_bytes h))
+    → IfSome r (λ h. handle.Fits h × (text ≡ handle_text h))
 text_found text bytes None fits decoded found = tt
 text_found text bytes (Some h) fits decoded found =
     let encoded : text ≡ encode_of url_safe_no_pad bytes = decode_of_strict url_safe_no_pad text bytes (refl, refl) fits decoded in
     (found.0, encoded ∙ ap (encode_of url_safe_no_pad) found.1)
 
 -- a text that is read as no handle is the text of no handle
-pub text_none : (text : List ℕ) (r : Option Handle) → r ≡ handle_in text → IfNone r ((h : Handle) → handle.Fits h → text ≢ handle_text h)
+pub text_none : (text : List ℕ) (r : Option Handle) → r ≡ handle_in text
+    → IfNone r ((h : Handle) → handle.Fits h → text ≢ handle_text h)
 text_none text (Some h) e = tt
 text_none text None e = λ h fits same. none-some h (e ∙ ap handle_in same ∙ handle_back h fits)

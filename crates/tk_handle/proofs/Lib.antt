@@ -3,3 +3,4 @@ pub mod FormatLaws
 pub mod HandleLaws
 pub mod SortedEntriesLaws
 pub mod SpanLaws
+pub mod TestLaws

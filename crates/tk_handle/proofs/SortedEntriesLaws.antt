@@ -4,20 +4,24 @@
 --   get_at_place         the entry at the key's place is the map's
 --   sorted_at_gap        a new entry at its gap keeps the order
 --   sorted_at_place      a new value at its place keeps the order
-use Rattle.std.proofs.Common.{◌≡◌, ℕ, zero, suc, ◌<◌, ◌≤◌, Bool, true, false, cond, ◌&&◌, T, List, [], ◌∷◌, length, get_or, set, Some, None, Result, Ok, Err, refl, sym, ap, subst, ◌∙◌, arith, ◌⊎◌, inl, inr}
+use Rattle.std.proofs.Common.{◌≡◌, ℕ, zero, suc, ◌<◌, ◌≤◌, Bool, true, false, cond, ◌&&◌, T, List}
+use Rattle.std.proofs.Common.{[], ◌∷◌, length, get_or, set, Some, None, Result, Ok, Err, refl, sym}
+use Rattle.std.proofs.Common.{ap, subst, ◌∙◌, arith, ◌⊎◌, inl, inr}
 use Rattle.std.proofs.lemmas.Bool.{cases_lt}
 use Rattle.std.specs.List.{insert}
 use Rattle.std.specs.List.Sorted.{IsSearchInRange, IsBinarySearchResult, IsNonDecreasingBy}
 use Rattle.std.specs.Result.{MatchResult}
 use Rattle.std.specs.declared.cmp.Ordering.{Ordering}
 use Rattle.std.specs.declared.cmp.Ordering.TheVariants.{Less, Equal, Greater}
-use Rattle.std.specs.Ordering.{is_eq, is_lt, ordering_reverse, ordering_index}
+use Rattle.std.specs.Ordering.{is_eq, ordering_reverse, ordering_index}
 use Rattle.std.specs.Cmp.{IsTotalOrder}
 use Rattle.std.proofs.lemmas.Cmp.{alike_right}
 use Rattle.std.specs.FinMap as map
-use Rattle.std.specs.FinMap.{find, put, is_sorted, get, from_sorted, get-from_sorted, entries-from_sorted, entries-insert, same_entries_map}
+use Rattle.std.specs.FinMap.{find, put, is_sorted, get, from_sorted, get-from_sorted}
+use Rattle.std.specs.FinMap.{entries-from_sorted, entries-insert, same_entries_map}
 use Rattle.tk_handle.specs.SortedEntries.{IsAt, IsGap}
 use Rattle.std.specs.FinMap.Entries.{by_order, below_all, is_sorted-put}
+use Rattle.tk_handle.proofs.TestLaws.{lesser as less}
 
 at_or_below : (i j : ℕ) → i ≤ j → (i ≡ j) ⊎ (i < j)
 at_or_below i j le = elim (cases_lt i j) [ inl lt ↦ inr lt | inr ge ↦ inl (omega arith) ]
@@ -29,11 +33,6 @@ left false b p = p
 right : (a b : Bool) → T (a && b) → T b
 right true b p = p
 right false b p = absurd p
-
-less : (o : Ordering) → T (is_lt o) → o ≡ Less
-less Less p = refl
-less Equal p = absurd p
-less Greater p = absurd p
 
 module _ {K : Type 0} {R : K → K → Ordering} (total : IsTotalOrder R) where
   turned_greater : (x y : K) → R x y ≡ Less → R y x ≡ Greater
@@ -107,20 +106,23 @@ module _ {K X : Type 0} (R : K → K → Ordering) where
       ap (λ o. by_order o ((k, v) ∷ e ∷ es) ((e.0, v) ∷ es) (e ∷ put R k v es)) (below 0 e (omega arith))
       ∙ ap (λ rest. e ∷ rest) (put_at_place k v es i (omega arith) (λ j d lt. below (suc j) d (omega arith)) here d)
 
-  below_by_index : (x : K) (es : List (K × X)) → T (below_all R x es) → (j : ℕ) (d : K × X) → j < length es → R x (get_or es j d).0 ≡ Less
+  below_by_index : (x : K) (es : List (K × X)) → T (below_all R x es) → (j : ℕ) (d : K × X)
+      → j < length es → R x (get_or es j d).0 ≡ Less
   below_by_index x [] h j d lt = absurd (omega arith)
   below_by_index x (e ∷ es) h zero d lt = less _ (left _ _ h)
   below_by_index x (e ∷ es) h (suc j) d lt = below_by_index x es (right _ _ h) j d (omega arith)
 
   -- the keys rise by index
-  pub rises : (es : List (K × X)) → T (is_sorted R es) → (i j : ℕ) (d : K × X) → i < j → j < length es → R (get_or es i d).0 (get_or es j d).0 ≡ Less
+  pub rises : (es : List (K × X)) → T (is_sorted R es) → (i j : ℕ) (d : K × X) → i < j
+      → j < length es → R (get_or es i d).0 (get_or es j d).0 ≡ Less
   rises [] h i j d lt within = absurd (omega arith)
   rises (e ∷ es) h i zero d lt within = absurd (omega arith)
   rises (e ∷ es) h zero (suc j) d lt within = below_by_index e.0 es (left _ _ h) j d (omega arith)
   rises (e ∷ es) h (suc i) (suc j) d lt within = rises es (right _ _ h) i j d (omega arith) (omega arith)
 
   module _ (total : IsTotalOrder R) where
-    comparisons_rise : (es : List (K × X)) → T (is_sorted R es) → (k : K) → IsNonDecreasingBy (λ e. ordering_index (R e.0 k)) es
+    comparisons_rise : (es : List (K × X)) → T (is_sorted R es) → (k : K)
+        → IsNonDecreasingBy (λ e. ordering_index (R e.0 k)) es
     comparisons_rise es sorted k i j d le within =
         elim (at_or_below i j le) [
           | inl same ↦ subst (λ n. ordering_index (R (get_or es i d).0 k) ≤ ordering_index (R (get_or es n d).0 k)) same (omega arith)
@@ -128,7 +130,9 @@ module _ {K X : Type 0} (R : K → K → Ordering) where
         ]
 
     -- what a binary search by key ends with
-    pub searched : (es : List (K × X)) → T (is_sorted R es) → (k : K) (r : Result ℕ ℕ) → IsSearchInRange r (length es) → IsBinarySearchResult (λ e. R e.0 k) es r → MatchResult r (IsAt R es k) (IsGap R es k)
+    pub searched : (es : List (K × X)) → T (is_sorted R es) → (k : K) (r : Result ℕ ℕ)
+        → IsSearchInRange r (length es) → IsBinarySearchResult (λ e. R e.0 k) es r
+        → MatchResult r (IsAt R es k) (IsGap R es k)
     searched es sorted k (Ok i) within here =
         let below : (j : ℕ) (d : K × X) → j < i → R k (get_or es j d).0 ≡ Greater = λ j d lt. turned_greater total _ k (sym (alike_right total _ _ _ (here d)) ∙ rises es sorted j i d lt within) in
         let same : (d : K × X) → R k (get_or es i d).0 ≡ Equal = λ d. turned_equal total _ k (here d) in
@@ -143,7 +147,8 @@ module _ {K X : Type 0} (R : K → K → Ordering) where
 
 module _ {K X : Type 0} {R : K → K → Ordering} (total : IsTotalOrder R) (es : List (K × X)) (sorted : T (is_sorted R es)) (k : K) where
   -- looking up a key in the map gives the entry at the key's place
-  pub get_at_place : (i : ℕ) → IsAt R es k i → (d : K × X) → get (from_sorted {R = R} es) k ≡ Some (get_or es i d).1
+  pub get_at_place : (i : ℕ) → IsAt R es k i → (d : K × X)
+      → get (from_sorted {R = R} es) k ≡ Some (get_or es i d).1
   get_at_place i at d = get-from_sorted R es k sorted ∙ at.found d
 
   pub get_at_gap : (i : ℕ) → IsGap R es k i → get (from_sorted {R = R} es) k ≡ None
@@ -153,18 +158,22 @@ module _ {K X : Type 0} {R : K → K → Ordering} (total : IsTotalOrder R) (es 
   pub sorted_at_gap : (i : ℕ) → IsGap R es k i → (v : X) → T (is_sorted R (insert es i (k, v)))
   sorted_at_gap i gap v = subst (λ fs. T (is_sorted R fs)) (gap.fits v) (is_sorted-put R total k v es sorted)
 
-  pub insert_at_gap : (i : ℕ) → IsGap R es k i → (v : X) → from_sorted {R = R} (insert es i (k, v)) ≡ map.insert (from_sorted es) k v
+  pub insert_at_gap : (i : ℕ) → IsGap R es k i → (v : X)
+      → from_sorted {R = R} (insert es i (k, v)) ≡ map.insert (from_sorted es) k v
   insert_at_gap i gap v = same_entries_map _ _
       (entries-from_sorted R _ (sorted_at_gap i gap v) ∙ sym (gap.fits v) ∙ ap (put R k v) (sym (entries-from_sorted R es sorted)) ∙ sym (entries-insert total _ k v))
 
   -- a new value at the key's place keeps the order, and is an insertion into the map
-  pub sorted_at_place : (i : ℕ) → IsAt R es k i → (v : X) (d : K × X) → T (is_sorted R (set es i ((get_or es i d).0, v)))
+  pub sorted_at_place : (i : ℕ) → IsAt R es k i → (v : X) (d : K × X)
+      → T (is_sorted R (set es i ((get_or es i d).0, v)))
   sorted_at_place i at v d = subst (λ fs. T (is_sorted R fs)) (at.replaced v d) (is_sorted-put R total k v es sorted)
 
-  pub insert_at_place : (i : ℕ) → IsAt R es k i → (v : X) (d : K × X) → from_sorted {R = R} (set es i ((get_or es i d).0, v)) ≡ map.insert (from_sorted es) k v
+  pub insert_at_place : (i : ℕ) → IsAt R es k i → (v : X) (d : K × X)
+      → from_sorted {R = R} (set es i ((get_or es i d).0, v)) ≡ map.insert (from_sorted es) k v
   insert_at_place i at v d = same_entries_map _ _
       (entries-from_sorted R _ (sorted_at_place i at v d) ∙ sym (at.replaced v d) ∙ ap (put R k v) (sym (entries-from_sorted R es sorted)) ∙ sym (entries-insert total _ k v))
 
 -- the empty list makes the empty map
-pub from_sorted_nil : {K X : Type 0} (R : K → K → Ordering) → from_sorted {X = X} {R = R} [] ≡ map.empty
+pub from_sorted_nil : {K X : Type 0} (R : K → K → Ordering)
+    → from_sorted {X = X} {R = R} [] ≡ map.empty
 from_sorted_nil R = map.empty_of_len _ (map.len-entries _ ∙ ap length (entries-from_sorted R [] tt))

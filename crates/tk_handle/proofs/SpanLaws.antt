@@ -34,7 +34,8 @@ not_past Equal h = refl
 not_past Greater h = h
 
 -- what is not below the first and not above the last of two that begin alike begins so, too
-pub between : (o r t : Ordering) → is_le (ordering_then o r) ≡ true → not (is_lt (ordering_then o t)) ≡ true → o ≡ Equal
+pub between : (o r t : Ordering) → is_le (ordering_then o r) ≡ true
+    → not (is_lt (ordering_then o t)) ≡ true → o ≡ Equal
 between Less r t h i = absurd (true≢false (sym i))
 between Equal r t h i = refl
 between Greater r t h i = absurd (true≢false (sym h))

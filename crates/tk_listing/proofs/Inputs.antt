@@ -6,12 +6,15 @@
 --   stopped       a fault of the input, or of memory, ends the printing
 --   at_end        the input ends
 --   more_goes, more_stops, read_stops, read_ends   these, by what the parts of a turn ensure
-use Rattle.std.proofs.Common.{◌≡◌, ℕ, ◌+◌, ◌≤◌, List, [], ◌++◌, length, length-append, length-drop, take, drop, Option, Some, None, Result, Ok, Err, Bool, false, inl, inr, refl, sym, ap, subst, ◌∙◌, append_assoc, append-nil, arith}
-use Rattle.std.specs.Prelude.{◌⊎◌, IfSome, IfErr}
+use Rattle.std.proofs.Common.{◌≡◌, ℕ, ◌+◌, List, [], ◌++◌, length, length-append, length-drop, drop}
+use Rattle.std.proofs.Common.{Option, Some, None, Result, Ok, Err, Bool, false, inl, inr, refl, sym}
+use Rattle.std.proofs.Common.{ap, subst, ◌∙◌, append-nil, arith}
+use Rattle.std.specs.Prelude.{IfSome}
 use Rattle.std.proofs.KnownBytes.{Appends-nil, Appends-trans, Consumes-nil, Consumes-trans}
 use Rattle.std.specs.Io.KnownBytes.{Appends, Consumes, IsAtEnd}
-use Rattle.tk_listing.specs.Pieces.{IsBad, Shows}
-use Rattle.tk_listing.specs.Printing.{EndsAt, Ends, IsLeft, IsOver, IsReadFault, IsSeen, PrintsInput, PrintsMore, PrintsWhole, ReadsMore, outcome}
+use Rattle.tk_listing.specs.Pieces.{Shows}
+use Rattle.tk_listing.specs.Printing.{EndsAt, Ends, IsLeft, IsOver, IsReadFault, IsSeen}
+use Rattle.tk_listing.specs.Printing.{PrintsInput, PrintsMore, PrintsWhole, ReadsMore, outcome}
 use Rattle.tk_listing.specs.declared.print.End.{End}
 use Rattle.tk_listing.specs.declared.print.End.TheVariants as ends
 use Rattle.tk_listing.specs.declared.print.PrintFault.{PrintFault}
@@ -48,7 +51,8 @@ pub record Went (known left : Option (List ℕ)) (grown : List ℕ) (offset used
   pub place : (offset + used) + length (drop used grown) ≡ length seen
   pub ends : EndsAt end (drop used grown) lines old now
 
-ends_later : (end : End) (rest before lines : List ℕ) (old mid new : Option (List ℕ)) → Appends old mid before → EndsAt end rest lines mid new
+ends_later : (end : End) (rest before lines : List ℕ) (old mid new : Option (List ℕ))
+    → Appends old mid before → EndsAt end rest lines mid new
     → EndsAt end rest (before ++ lines) old new
 ends_later ends.More rest before lines old mid new done h = (h.0, Appends-trans old mid new before lines done h.1)
 ends_later ends.Malformed rest before lines old mid new done h = (h.0, Appends-trans old mid new before lines done h.1)
@@ -80,7 +84,8 @@ goes_on known left grown offset used old now went = record {
   place = went.place;
 }
 
-is_seen : (known left : Option (List ℕ)) (seen : List ℕ) → Consumes known left seen → IsSeen known seen
+is_seen : (known left : Option (List ℕ)) (seen : List ℕ) → Consumes known left seen
+    → IsSeen known seen
 is_seen None left seen h = tt
 is_seen (Some x) None seen h = absurd h
 is_seen (Some x) (Some y) seen h = (y, h)
@@ -113,7 +118,8 @@ stops known left grown offset used end place fault old now went at is = record {
   ends = faulty known went.seen (drop used grown) went.lines offset end place fault old now went.ends (placed place at) is;
 }
   where
-    placed : (place : Option ℕ) → IfSome place (λ p. p ≡ offset + used) → IfSome place (λ p. p + length (drop used grown) ≡ length went.seen)
+    placed : (place : Option ℕ) → IfSome place (λ p. p ≡ offset + used)
+        → IfSome place (λ p. p + length (drop used grown) ≡ length went.seen)
     placed None at = tt
     placed (Some p) at = ap (λ (n : ℕ). n + length (drop used grown)) at ∙ went.place
 
@@ -129,7 +135,8 @@ stopped known left buffer offset old now fault going ends = record {
 }
 
 -- all of the input was seen
-whole : (known left last : Option (List ℕ)) (seen : List ℕ) → Consumes known left seen → Consumes left last [] → IsAtEnd last
+whole : (known left last : Option (List ℕ)) (seen : List ℕ) → Consumes known left seen
+    → Consumes left last [] → IsAtEnd last
     → IfSome known (λ input. input ≡ seen)
 whole None left last seen one two end = tt
 whole (Some x) None last seen one two end = absurd one
@@ -185,7 +192,8 @@ more_goes known left left2 buffer grown rest offset p old now new more going rea
     made : Went known left2 grown offset prints.used prints.end old new
     made = went known left left2 buffer grown offset (Ok (rest, p)) old now new more going reads prints
 
-    by : (r : Result ℕ PrintFault) → outcome prints.end prints.place ≡ r → IsLeft r (drop prints.used grown) (Ok (rest, p)) → Going known left2 rest p old new
+    by : (r : Result ℕ PrintFault) → outcome prints.end prints.place ≡ r
+        → IsLeft r (drop prints.used grown) (Ok (rest, p)) → Going known left2 rest p old new
     by (Err fault) is e = absurd (cc)
     by (Ok q) is (inr e) = absurd (cc)
     by (Ok q) is (inl e) =
@@ -206,7 +214,8 @@ more_stops known left left2 buffer grown offset fault old now new more going rea
     made : Went known left2 grown offset prints.used prints.end old new
     made = went known left left2 buffer grown offset (Err fault) old now new more going reads prints
 
-    by : (r : Result ℕ PrintFault) → outcome prints.end prints.place ≡ r → IsLeft r (drop prints.used grown) (Err fault) → PrintsInput known (Err fault) old new
+    by : (r : Result ℕ PrintFault) → outcome prints.end prints.place ≡ r
+        → IsLeft r (drop prints.used grown) (Err fault) → PrintsInput known (Err fault) old new
     by (Err why) is e =
         subst (λ (f : PrintFault). PrintsInput known (Err f) old new) (sym (ap err_of e))
         (stops known left2 grown offset prints.used prints.end prints.place why old new made prints.at is)

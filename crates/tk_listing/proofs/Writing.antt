@@ -2,7 +2,8 @@
 --   no_region     no region, no line
 --   none_written, next_written   these, behind what was written before
 --   next_region   the line of one region more
-use Rattle.std.proofs.Common.{◌≡◌, ℕ, ◌+◌, List, [], ◌++◌, refl, sym, ap, ◌∙◌, add-one, append_assoc, append-nil}
+use Rattle.std.proofs.Common.{◌≡◌, ℕ, ◌+◌, List, [], ◌++◌, refl, sym, ap, ◌∙◌, add-one}
+use Rattle.std.proofs.Common.{append_assoc, append-nil}
 use Rattle.tk_vector.specs.VersionVector.{Vector}
 use Rattle.tk_listing.specs.Lines.{lines_up_to, region_line}
 
@@ -10,14 +11,16 @@ pub no_region : (v : Vector) → lines_up_to v 0 ≡ []
 unfolding lines_up_to
 no_region v = refl
 
-pub next_region : (v : Vector) (n : ℕ) → lines_up_to v (n + 1) ≡ lines_up_to v n ++ region_line v (n + 1)
+pub next_region : (v : Vector) (n : ℕ)
+    → lines_up_to v (n + 1) ≡ lines_up_to v n ++ region_line v (n + 1)
 unfolding lines_up_to
 next_region v n = rw add-one refl
 
 pub none_written : (v : Vector) (old : List ℕ) → old ≡ old ++ lines_up_to v 0
 none_written v old = sym (ap (λ (l : List ℕ). old ++ l) (no_region v) ∙ append-nil old)
 
-pub next_written : (v : Vector) (n : ℕ) (old mid new : List ℕ) → mid ≡ old ++ lines_up_to v n → new ≡ mid ++ region_line v (n + 1)
+pub next_written : (v : Vector) (n : ℕ) (old mid new : List ℕ) → mid ≡ old ++ lines_up_to v n
+    → new ≡ mid ++ region_line v (n + 1)
     → new ≡ old ++ lines_up_to v (n + 1)
 next_written v n old mid new so_far next =
     next ∙ ap (λ (l : List ℕ). l ++ region_line v (n + 1)) so_far ∙ append_assoc old (lines_up_to v n) (region_line v (n + 1))

@@ -1,7 +1,7 @@
 //! Writes the members of a fact's fields, in the order of its bytes.
 
 ghost use Rattle.std.specs.Prelude.{◌≡◌, ◌++◌, OnOk};
-ghost use Rattle.tk_listing.specs.Lines as spec;
+ghost use Rattle.tk_listing.specs.FactMembers as spec;
 
 use crate::members::{
     put_digits, put_dot, put_flag, put_hex, put_name, put_number, put_plain, put_text, put_time,
@@ -17,7 +17,7 @@ use tk_handle::{Kind, TokenId};
 use tk_match::Challenge;
 
 /// Writes the members of a fact's fields.
-#[tactic(auto, unfolding(crate::specs::Lines::fields_of))]
+#[tactic(auto, unfolding(crate::specs::FactMembers::fields_of))]
 pub(crate) fn put_fields(writer: &mut Writer, body: &Body) -> Result<(), AllocError>
     ensures { OnOk result (writer.new ≡ writer.old ++ spec.fields_of body.now) }
 {
@@ -35,10 +35,10 @@ pub(crate) fn put_fields(writer: &mut Writer, body: &Body) -> Result<(), AllocEr
     }
 }
 
-#[tactic(auto, unfolding(crate::specs::Lines::fields_of))]
+// Writes the members of a client that is added.
+#[tactic(auto, unfolding(crate::specs::FactMembers::client_fields))]
 fn put_client(writer: &mut Writer, fields: &ClientAdded) -> Result<(), AllocError>
-    ensures { OnOk result
-        (writer.new ≡ writer.old ++ spec.fields_of (Body.ClientAdded fields.now)) }
+    ensures { OnOk result (writer.new ≡ writer.old ++ spec.client_fields fields.now) }
 {
     put_client_kind(writer, &fields.client_kind)?;
     put_text(writer, b"scope", fields.scope.text().as_bytes())?;
@@ -57,7 +57,7 @@ fn put_client_kind(writer: &mut Writer, client_kind: &ClientKind) -> Result<(), 
 }
 
 // Writes the client kind, and the digest of the client's secret.
-#[tactic(auto, unfolding(crate::specs::Lines::secret_members))]
+#[tactic(auto, unfolding(crate::specs::FactMembers::secret_members))]
 fn put_secret(writer: &mut Writer, kind: &[u8], digest: &[u8]) -> Result<(), AllocError>
     ensures { OnOk result (writer.new ≡ writer.old ++ spec.secret_members kind.now digest.now) }
 {
@@ -65,20 +65,20 @@ fn put_secret(writer: &mut Writer, kind: &[u8], digest: &[u8]) -> Result<(), All
     put_hex(writer, b"secret_digest", digest)
 }
 
-#[tactic(auto, unfolding(crate::specs::Lines::fields_of))]
+// Writes the members of a consent that is given.
+#[tactic(auto, unfolding(crate::specs::FactMembers::consent_fields))]
 fn put_consent(writer: &mut Writer, fields: &ConsentGiven) -> Result<(), AllocError>
-    ensures { OnOk result
-        (writer.new ≡ writer.old ++ spec.fields_of (Body.ConsentGiven fields.now)) }
+    ensures { OnOk result (writer.new ≡ writer.old ++ spec.consent_fields fields.now) }
 {
     put_dot(writer, b"client", fields.client)?;
     put_text(writer, b"subject", fields.subject.as_bytes())?;
     put_text(writer, b"scope", fields.scope.text().as_bytes())
 }
 
-#[tactic(auto, unfolding(crate::specs::Lines::fields_of))]
+// Writes the members of a code that is issued.
+#[tactic(auto, unfolding(crate::specs::FactMembers::code_fields))]
 fn put_code(writer: &mut Writer, fields: &CodeIssued) -> Result<(), AllocError>
-    ensures { OnOk result
-        (writer.new ≡ writer.old ++ spec.fields_of (Body.CodeIssued fields.now)) }
+    ensures { OnOk result (writer.new ≡ writer.old ++ spec.code_fields fields.now) }
 {
     put_dot(writer, b"client", fields.client)?;
     put_dot(writer, b"consent", fields.consent)?;
@@ -86,6 +86,14 @@ fn put_code(writer: &mut Writer, fields: &CodeIssued) -> Result<(), AllocError>
     put_time(writer, b"start", fields.start)?;
     put_time(writer, b"expiry", fields.expiry)?;
     put_time(writer, b"family_end", fields.family_end)?;
+    put_bound(writer, fields)
+}
+
+// Writes the members of a code's rights, and of what a token request must match.
+#[tactic(auto, unfolding(crate::specs::FactMembers::bound_fields))]
+fn put_bound(writer: &mut Writer, fields: &CodeIssued) -> Result<(), AllocError>
+    ensures { OnOk result (writer.new ≡ writer.old ++ spec.bound_fields fields.now) }
+{
     put_text(writer, b"subject", fields.subject.as_bytes())?;
     put_text(writer, b"scope", fields.scope.text().as_bytes())?;
     put_text(writer, b"uri", fields.uri.as_bytes())?;
@@ -94,7 +102,7 @@ fn put_code(writer: &mut Writer, fields: &CodeIssued) -> Result<(), AllocError>
 }
 
 // Writes the method and the text of a challenge, if there is one.
-#[tactic(auto, unfolding(crate::specs::Lines::challenge_members))]
+#[tactic(auto, unfolding(crate::specs::FactMembers::challenge_members))]
 fn put_challenge(writer: &mut Writer, challenge: &Option<Challenge>) -> Result<(), AllocError>
     ensures { OnOk result (writer.new ≡ writer.old ++ spec.challenge_members challenge.now) }
 {
@@ -105,7 +113,7 @@ fn put_challenge(writer: &mut Writer, challenge: &Option<Challenge>) -> Result<(
 }
 
 // Writes the method and the text of a challenge.
-#[tactic(auto, unfolding(crate::specs::Lines::given_members))]
+#[tactic(auto, unfolding(crate::specs::FactMembers::given_members))]
 fn put_given(writer: &mut Writer, is_s256: bool, text: &[u8]) -> Result<(), AllocError>
     ensures { OnOk result (writer.new ≡ writer.old ++ spec.given_members is_s256 text.now) }
 {
@@ -114,7 +122,7 @@ fn put_given(writer: &mut Writer, is_s256: bool, text: &[u8]) -> Result<(), Allo
 }
 
 // Writes the method of a challenge.
-#[tactic(auto, unfolding(crate::specs::Lines::method_member))]
+#[tactic(auto, unfolding(crate::specs::FactMembers::method_member))]
 fn put_method(writer: &mut Writer, is_s256: bool) -> Result<(), AllocError>
     ensures { OnOk result (writer.new ≡ writer.old ++ spec.method_member is_s256) }
 {
@@ -122,38 +130,50 @@ fn put_method(writer: &mut Writer, is_s256: bool) -> Result<(), AllocError>
 }
 
 // Returns the name of a challenge's method.
-#[tactic(auto, unfolding(crate::specs::Lines::method_name))]
+#[tactic(auto, unfolding(crate::specs::FactMembers::method_name))]
 fn method_name(is_s256: bool) -> &'static [u8]
     ensures { result.now ≡ spec.method_name is_s256 }
 {
     if is_s256 { b"S256" } else { b"plain" }
 }
 
-#[tactic(auto, unfolding(crate::specs::Lines::fields_of))]
+// Writes the members of a code that is redeemed.
+#[tactic(auto, unfolding(crate::specs::FactMembers::redeemed_fields))]
 fn put_redeemed(writer: &mut Writer, fields: &CodeRedeemed) -> Result<(), AllocError>
-    ensures { OnOk result
-        (writer.new ≡ writer.old ++ spec.fields_of (Body.CodeRedeemed fields.now)) }
+    ensures { OnOk result (writer.new ≡ writer.old ++ spec.redeemed_fields fields.now) }
 {
     put_dot(writer, b"code", fields.code)?;
     put_time(writer, b"start", fields.start)?;
-    put_minted(writer, b"access_token", &fields.access)?;
-    put_minted(writer, b"refresh_token", &fields.refresh)
+    put_two(writer, &fields.access, &fields.refresh)
 }
 
-#[tactic(auto, unfolding(crate::specs::Lines::fields_of))]
+// Writes the members of a refresh token that is rotated.
+#[tactic(auto, unfolding(crate::specs::FactMembers::rotated_fields))]
 fn put_rotated(writer: &mut Writer, fields: &RefreshRotated) -> Result<(), AllocError>
-    ensures { OnOk result
-        (writer.new ≡ writer.old ++ spec.fields_of (Body.RefreshRotated fields.now)) }
+    ensures { OnOk result (writer.new ≡ writer.old ++ spec.rotated_fields fields.now) }
 {
     put_dot(writer, b"parent", fields.parent)?;
     put_number(writer, b"generation", u64::from(fields.generation))?;
     put_time(writer, b"start", fields.start)?;
-    put_minted(writer, b"access_token", &fields.access)?;
-    put_minted(writer, b"refresh_token", &fields.refresh)
+    put_two(writer, &fields.access, &fields.refresh)
+}
+
+// Writes the two tokens of a grant.
+#[tactic(auto, unfolding(crate::specs::FactMembers::minted_members))]
+fn put_two(
+    writer: &mut Writer,
+    access: &MintedToken,
+    refresh: &MintedToken,
+) -> Result<(), AllocError>
+    ensures { OnOk result
+        (writer.new ≡ writer.old ++ spec.minted_members access.now refresh.now) }
+{
+    put_minted(writer, b"access_token", access)?;
+    put_minted(writer, b"refresh_token", refresh)
 }
 
 // Writes a token that a fact mints, as an object.
-#[tactic(auto, unfolding(crate::specs::Lines::minted_member))]
+#[tactic(auto, unfolding(crate::specs::FactMembers::minted_member))]
 fn put_minted(writer: &mut Writer, name: &[u8], token: &MintedToken) -> Result<(), AllocError>
     ensures { OnOk result (writer.new ≡ writer.old ++ spec.minted_member name.now token.now) }
 {
@@ -165,7 +185,7 @@ fn put_minted(writer: &mut Writer, name: &[u8], token: &MintedToken) -> Result<(
 }
 
 // Writes the beginning of an object with a digest.
-#[tactic(auto, unfolding(crate::specs::Lines::begun_digest))]
+#[tactic(auto, unfolding(crate::specs::FactMembers::begun_digest))]
 fn begin_digest(writer: &mut Writer, digest: &[u8]) -> Result<(), AllocError>
     ensures { OnOk result (writer.new ≡ writer.old ++ spec.begun_digest digest.now) }
 {
@@ -174,10 +194,10 @@ fn begin_digest(writer: &mut Writer, digest: &[u8]) -> Result<(), AllocError>
     writer.put_bytes(b"\"")
 }
 
-#[tactic(auto, unfolding(crate::specs::Lines::fields_of))]
+// Writes the members of a token that is revoked.
+#[tactic(auto, unfolding(crate::specs::FactMembers::revoked_fields))]
 fn put_revoked(writer: &mut Writer, fields: &TokenRevoked) -> Result<(), AllocError>
-    ensures { OnOk result
-        (writer.new ≡ writer.old ++ spec.fields_of (Body.TokenRevoked fields.now)) }
+    ensures { OnOk result (writer.new ≡ writer.old ++ spec.revoked_fields fields.now) }
 {
     put_token(writer, fields.token)?;
     put_hex(writer, b"digest", &fields.digest)?;
@@ -185,7 +205,7 @@ fn put_revoked(writer: &mut Writer, fields: &TokenRevoked) -> Result<(), AllocEr
 }
 
 // Writes the dot of the fact that minted a token, and the token's kind.
-#[tactic(auto, unfolding(crate::specs::Lines::token_members))]
+#[tactic(auto, unfolding(crate::specs::FactMembers::token_members))]
 fn put_token(writer: &mut Writer, token: TokenId) -> Result<(), AllocError>
     ensures { OnOk result (writer.new ≡ writer.old ++ spec.token_members token) }
 {
@@ -204,10 +224,10 @@ fn token_kind(kind: Kind) -> &'static [u8]
     }
 }
 
-#[tactic(auto, unfolding(crate::specs::Lines::fields_of))]
+// Writes the members of a sign-out.
+#[tactic(auto, unfolding(crate::specs::FactMembers::sign_out_fields))]
 fn put_out(writer: &mut Writer, fields: &SubjectOut) -> Result<(), AllocError>
-    ensures { OnOk result
-        (writer.new ≡ writer.old ++ spec.fields_of (Body.SubjectOut fields.now)) }
+    ensures { OnOk result (writer.new ≡ writer.old ++ spec.sign_out_fields fields.now) }
 {
     put_text(writer, b"subject", fields.subject.as_bytes())?;
     put_time(writer, b"moment", fields.moment)

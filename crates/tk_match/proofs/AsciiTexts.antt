@@ -1,22 +1,18 @@
 -- Texts that may be kept are ASCII, and therefore UTF-8.
 --   uri_utf8         a redirection URI is UTF-8
 --   verifier_utf8    a verifier is UTF-8
-use Rattle.std.proofs.Common.{◌≡◌, ℕ, ◌<◌, Bool, true, false, zero, suc, ◌&&◌, List, [], ◌∷◌, arith, refl}
-use mathlib.Core.Bool.{false≢true}
+use Rattle.std.proofs.Common.{◌≡◌, ℕ, ◌<◌, Bool, true, zero, suc, List, [], ◌∷◌, arith}
 use Rattle.std.specs.List.{list_all}
 use Rattle.std.specs.Str.{IsAscii, IsUtf8}
 use Rattle.std.proofs.lemmas.Str.{IsUtf8-from_ascii}
 use Rattle.std.proofs.lemmas.Bool.Decides.{nat_tests}
 use Rattle.tk_match.specs.Redirects.{is_uri, is_uri_byte}
 use Rattle.tk_match.specs.Challenge.{is_verifier, is_unreserved}
-
--- both of two tests that hold together hold
-both_true : (a b : Bool) → (a && b) ≡ true → (a ≡ true) × (b ≡ true)
-both_true true b h = (refl, h)
-both_true false b h = absurd (false≢true h)
+use Rattle.std.proofs.lemmas.Bool.{and_parts as both_true}
 
 -- a list of bytes is ASCII if each byte passes a test that only ASCII bytes pass
-IsAscii-list_all : (p : ℕ → Bool) → ((b : ℕ) → p b ≡ true → b < 128) → (text : List ℕ) → list_all p text ≡ true → IsAscii text
+IsAscii-list_all : (p : ℕ → Bool) → ((b : ℕ) → p b ≡ true → b < 128) → (text : List ℕ)
+    → list_all p text ≡ true → IsAscii text
 IsAscii-list_all p below [] h i = omega arith
 IsAscii-list_all p below (b ∷ text) h zero = let s = below b (both_true _ _ h).0 in omega arith
 IsAscii-list_all p below (b ∷ text) h (suc i) = IsAscii-list_all p below text (both_true _ _ h).1 i

@@ -1,7 +1,8 @@
 -- Lists of texts that are all URIs, or not; the readers of a list cite them.
 --   bad_text     a list with a text that may not be kept
 --   all_read     a list of absolute URLs
-use Rattle.std.proofs.Common.{◌≡◌, ℕ, ◌<◌, true, false, List, length, get_or, map, All, Bor, Ok, Err, ◌∙◌, refl}
+use Rattle.std.proofs.Common.{◌≡◌, ℕ, ◌<◌, true, false, List, length, get_or, map, All, Bor, Ok}
+use Rattle.std.proofs.Common.{Err, ◌∙◌, refl}
 use mathlib.Core.Bool.{false≢true}
 use Rattle.std.specs.Prelude.{is_ok, None}
 use Rattle.std.specs.List.{list_all}
@@ -11,7 +12,8 @@ use Rattle.url.specs.Parser.{parse_url}
 use Rattle.tk_match.specs.Redirects.{is_uri, is_absolute, ReadsAsUrl}
 
 -- a list with a text that may not be kept does not pass `is_uri` throughout
-pub bad_text : (texts : List (Bor (List ℕ))) (i : ℕ) (d : Bor (List ℕ)) → i < length texts → is_uri (get_or texts i d).now ≡ false → list_all is_uri (map (λ x. x.now) texts) ≡ false
+pub bad_text : (texts : List (Bor (List ℕ))) (i : ℕ) (d : Bor (List ℕ)) → i < length texts
+    → is_uri (get_or texts i d).now ≡ false → list_all is_uri (map (λ x. x.now) texts) ≡ false
 bad_text texts i d lt h = list_all-map is_uri (λ x. x.now) texts ∙ list_all_at (λ x. is_uri x.now) texts i d lt h
 
 -- a text that passes `is_absolute` is read as a URL

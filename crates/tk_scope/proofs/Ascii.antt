@@ -1,7 +1,7 @@
 -- Texts of scope-tokens.
 --   tokens_utf8     a text of scope-tokens is UTF-8
 --   All-no_space    a token has no space
-use Rattle.std.proofs.Common.{◌≡◌, ℕ, ◌<◌, Bool, true, false, ◌&&◌, ◌==◌, List, [], ◌∷◌, All, refl, arith}
+use Rattle.std.proofs.Common.{◌≡◌, ℕ, ◌<◌, true, false, ◌==◌, List, [], ◌∷◌, All, arith}
 use Rattle.std.specs.List.{join_with_byte, list_all}
 use Rattle.std.specs.Str.{IsUtf8}
 use Rattle.std.proofs.lemmas.Bool.Decides.{nat_tests}
@@ -10,11 +10,7 @@ use Rattle.std.proofs.lemmas.List.Splits.{join_with_byte-slice_split}
 use Rattle.std.proofs.lemmas.Str.{IsUtf8-from_ascii}
 use Rattle.std.proofs.lemmas.Str.Ascii.{IsAscii-from_all}
 use Rattle.tk_scope.specs.Scope.{is_scope_byte, is_token, tokens_of}
-
--- both of two tests that hold together hold
-pub both_sides : (a b : Bool) → (a && b) ≡ true → (a ≡ true) × (b ≡ true)
-both_sides true b h = (refl, h)
-both_sides false b h = absurd cc
+use Rattle.std.proofs.lemmas.Bool.{and_parts as both_sides}
 
 -- a byte of a token is ASCII
 scope_byte_low : (b : ℕ) → is_scope_byte b ≡ true → b < 128
@@ -25,7 +21,8 @@ scope_byte_no_space : (b : ℕ) → is_scope_byte b ≡ true → (b == 0x20) ≡
 scope_byte_no_space b h = grind (arith, nat_tests)
 
 -- P holds of each byte of a list that passes, if P holds of each byte that passes
-all_bytes : (P : ℕ → Type 0) → ((b : ℕ) → is_scope_byte b ≡ true → P b) → (bs : List ℕ) → list_all is_scope_byte bs ≡ true → All P bs
+all_bytes : (P : ℕ → Type 0) → ((b : ℕ) → is_scope_byte b ≡ true → P b) → (bs : List ℕ)
+    → list_all is_scope_byte bs ≡ true → All P bs
 all_bytes P each [] h = All-nil P
 all_bytes P each (b ∷ bs) h = let sides = both_sides _ _ h in All-cons P b bs (each b sides.0) (all_bytes P each bs sides.1)
 
@@ -34,7 +31,8 @@ pub All-no_space : (t : List ℕ) → is_token t ≡ true → All (λ b. (b == 0
 All-no_space t h = all_bytes (λ b. (b == 0x20) ≡ false) scope_byte_no_space t (both_sides _ _ h).1
 
 -- joined tokens are ASCII
-low_joined : (ts : List (List ℕ)) → list_all is_token ts ≡ true → All (λ b. b < 128) (join_with_byte 0x20 ts)
+low_joined : (ts : List (List ℕ)) → list_all is_token ts ≡ true
+    → All (λ b. b < 128) (join_with_byte 0x20 ts)
 low_joined [] h = All-nil (λ b. b < 128)
 low_joined (t ∷ []) h = all_bytes (λ b. b < 128) scope_byte_low t (both_sides _ _ (both_sides _ _ h).0).1
 low_joined (t ∷ u ∷ ts) h =

@@ -2,7 +2,9 @@
 --   in_order_rises                      `in_order` is in byte order
 --   All-in_order, All-from_in_order     `in_order` has the tokens of the list
 --   set_is                              no other list has both properties
-use Rattle.std.proofs.Common.{◌≡◌, ℕ, zero, suc, ◌<◌, true, false, List, [], ◌∷◌, length, All, Contains, ◌⊎◌, inl, inr, refl, sym, ap, ◌∙◌, subst, arith, bytes_eq, slice_index_or}
+use Rattle.std.proofs.Common.{◌≡◌, ℕ, zero, suc, ◌<◌, true, false, List, [], ◌∷◌, length, All}
+use Rattle.std.proofs.Common.{Contains, ◌⊎◌, inl, inr, refl, sym, ap, ◌∙◌, subst, arith, bytes_eq}
+use Rattle.std.proofs.Common.{slice_index_or}
 use Rattle.std.specs.declared.cmp.Ordering.{Ordering}
 use Rattle.std.specs.declared.cmp.Ordering.TheVariants.{Less, Equal, Greater}
 use Rattle.std.specs.Cmp.Lexicographic.{nat_list_cmp_total, slice_cmp, texts_ties}
@@ -11,7 +13,8 @@ use Rattle.std.specs.List.Sorted.{IsStrictlySortedBy}
 use Rattle.std.specs.Ordering.{is_eq, is_lt, nat_cmp, ordering_reverse}
 use Rattle.std.proofs.lemmas.Bool.{cond_both}
 use Rattle.std.proofs.lemmas.Cmp.{tied_itself}
-use Rattle.std.proofs.lemmas.List.Elements.{All-contains, All-contains_itself, All-from_recursion, All-tail, All-weaker, recursion_from_All}
+use Rattle.std.proofs.lemmas.List.Elements.{All-contains, All-contains_itself, All-from_recursion}
+use Rattle.std.proofs.lemmas.List.Elements.{All-tail, All-weaker, recursion_from_All}
 use Rattle.std.proofs.lemmas.Slice.Eq.{bytes_eq-Decides}
 use Rattle.tk_scope.specs.Scope.{in_order, with_token}
 
@@ -24,7 +27,8 @@ abbrev pub Rises : List (List ℕ) → Type 0
 Rises = IsStrictlySortedBy byte_cmp
 
 -- of two tokens that are not equal and not in this order, the second is below the first
-after_by_order : (a b : List ℕ) → bytes_eq a b ≡ false → is_lt (byte_cmp a b) ≡ false → byte_cmp b a ≡ Less
+after_by_order : (a b : List ℕ) → bytes_eq a b ≡ false → is_lt (byte_cmp a b) ≡ false
+    → byte_cmp b a ≡ Less
 after_by_order a b other not_below =
     nat_list_cmp_total.antisymm b a
     ∙ ap ordering_reverse (elim (byte_cmp a b) as (λ o. is_eq o ≡ false → is_lt o ≡ false → o ≡ Greater) [
@@ -43,7 +47,8 @@ below_by_test a b h =
     ] h
 
 -- P holds of each token of `with_token t us`, if P holds of t and of each of us
-all_with_token : (P : List ℕ → Type 0) (t : List ℕ) (us : List (List ℕ)) → P t → AllByRecursion P us → AllByRecursion P (with_token t us)
+all_with_token : (P : List ℕ → Type 0) (t : List ℕ) (us : List (List ℕ)) → P t → AllByRecursion P us
+    → AllByRecursion P (with_token t us)
 all_with_token P t [] first others = (first, tt)
 all_with_token P t (u ∷ us) first others =
     cond_both (bytes_eq t u) (u ∷ us) _ (AllByRecursion P)
@@ -51,7 +56,8 @@ all_with_token P t (u ∷ us) first others =
     (λ _. cond_both (is_lt (byte_cmp t u)) (t ∷ u ∷ us) (u ∷ with_token t us) (AllByRecursion P) (λ _. (first, others)) (λ _. (others.0, all_with_token P t us first others.1)))
 
 -- P holds of t and of each of us, if P holds of each token of `with_token t us`
-all_from_with_token : (P : List ℕ → Type 0) (t : List ℕ) (us : List (List ℕ)) → AllByRecursion P (with_token t us) → P t × AllByRecursion P us
+all_from_with_token : (P : List ℕ → Type 0) (t : List ℕ) (us : List (List ℕ))
+    → AllByRecursion P (with_token t us) → P t × AllByRecursion P us
 all_from_with_token P t [] all = (all.0, tt)
 all_from_with_token P t (u ∷ us) all =
     cond_both (bytes_eq t u) (u ∷ us) _ (λ ts. AllByRecursion P ts → P t × AllByRecursion P (u ∷ us))
@@ -62,17 +68,20 @@ all_from_with_token P t (u ∷ us) all =
     all
 
 -- P holds of each token in order, if P holds of each token
-pub All-in_order : (P : List ℕ → Type 0) (ts : List (List ℕ)) → AllByRecursion P ts → AllByRecursion P (in_order ts)
+pub All-in_order : (P : List ℕ → Type 0) (ts : List (List ℕ)) → AllByRecursion P ts
+    → AllByRecursion P (in_order ts)
 All-in_order P [] all = tt
 All-in_order P (t ∷ ts) all = all_with_token P t (in_order ts) all.0 (All-in_order P ts all.1)
 
 -- P holds of each token, if P holds of each token in order
-pub All-from_in_order : (P : List ℕ → Type 0) (ts : List (List ℕ)) → AllByRecursion P (in_order ts) → AllByRecursion P ts
+pub All-from_in_order : (P : List ℕ → Type 0) (ts : List (List ℕ)) → AllByRecursion P (in_order ts)
+    → AllByRecursion P ts
 All-from_in_order P [] all = tt
 All-from_in_order P (t ∷ ts) all = let parts = all_from_with_token P t (in_order ts) all in (parts.0, All-from_in_order P ts parts.1)
 
 -- a token below the first of a list that rises is below all of the list
-below_all : (t u : List ℕ) (us : List (List ℕ)) → byte_cmp t u ≡ Less → AllByRecursion (λ x. byte_cmp u x ≡ Less) us → AllByRecursion (λ x. byte_cmp t x ≡ Less) us
+below_all : (t u : List ℕ) (us : List (List ℕ)) → byte_cmp t u ≡ Less
+    → AllByRecursion (λ x. byte_cmp u x ≡ Less) us → AllByRecursion (λ x. byte_cmp t x ≡ Less) us
 below_all t u [] lt all = tt
 below_all t u (x ∷ us) lt all = (nat_list_cmp_total.trans t u x lt all.0, below_all t u us lt all.1)
 
@@ -94,7 +103,8 @@ in_order_rises [] = tt
 in_order_rises (t ∷ ts) = rises_with_token t (in_order ts) (in_order_rises ts)
 
 -- an element of a list is the first or one of the others
-in_head : (y : List ℕ) (ys : List (List ℕ)) (z : List ℕ) → Contains (y ∷ ys) z → (y ≡ z) ⊎ Contains ys z
+in_head : (y : List ℕ) (ys : List (List ℕ)) (z : List ℕ) → Contains (y ∷ ys) z
+    → (y ≡ z) ⊎ Contains ys z
 in_head y ys z h =
     elim h.0 as (λ k. (k < length (y ∷ ys)) × (slice_index_or (y ∷ ys) k z ≡ z) → (y ≡ z) ⊎ Contains ys z) [
       | zero ↦ λ p. inl p.1
@@ -102,7 +112,9 @@ in_head y ys z h =
     ] (h.1, h.2)
 
 -- the first elements of two lists that rise, each in the other list, are equal
-first_is_first : (x y : List ℕ) (xs ys : List (List ℕ)) → AllByRecursion (λ z. byte_cmp x z ≡ Less) xs → AllByRecursion (λ z. byte_cmp y z ≡ Less) ys → Contains (y ∷ ys) x → Contains (x ∷ xs) y → x ≡ y
+first_is_first : (x y : List ℕ) (xs ys : List (List ℕ))
+    → AllByRecursion (λ z. byte_cmp x z ≡ Less) xs → AllByRecursion (λ z. byte_cmp y z ≡ Less) ys
+    → Contains (y ∷ ys) x → Contains (x ∷ xs) y → x ≡ y
 first_is_first x y xs ys above_x above_y x_in y_in =
     elim (in_head y ys x x_in) [
       | inl same ↦ sym same
@@ -117,7 +129,8 @@ first_is_first x y xs ys above_x above_y x_in y_in =
     ]
 
 -- an element above the first is one of the others
-in_rest : (y : List ℕ) (ys : List (List ℕ)) (z : List ℕ) → byte_cmp y z ≡ Less → Contains (y ∷ ys) z → Contains ys z
+in_rest : (y : List ℕ) (ys : List (List ℕ)) (z : List ℕ) → byte_cmp y z ≡ Less → Contains (y ∷ ys) z
+    → Contains ys z
 in_rest y ys z above h =
     elim (in_head y ys z h) [
       | inl same ↦
@@ -127,7 +140,8 @@ in_rest y ys z above h =
     ]
 
 -- two lists that rise and have the same tokens are equal
-one_list : (xs ys : List (List ℕ)) → Rises xs → Rises ys → All (Contains ys) xs → All (Contains xs) ys → xs ≡ ys
+one_list : (xs ys : List (List ℕ)) → Rises xs → Rises ys → All (Contains ys) xs
+    → All (Contains xs) ys → xs ≡ ys
 unfolding IsStrictlySortedBy
 one_list [] [] up_x up_y x_in y_in = refl
 one_list [] (y ∷ ys) up_x up_y x_in y_in = let h = y_in 0 y (omega arith) in absurd (omega (arith, h.1))
@@ -150,7 +164,8 @@ pub All-contains_in_order : (ts : List (List ℕ)) → All (Contains ts) (in_ord
 All-contains_in_order ts = All-from_recursion _ (in_order ts) (All-in_order (Contains ts) ts (recursion_from_All _ _ (All-contains_itself ts)))
 
 -- a list that rises and has the same tokens is `in_order` of them
-pub set_is : (ts us : List (List ℕ)) → Rises us → All (Contains us) ts → All (Contains ts) us → us ≡ in_order ts
+pub set_is : (ts us : List (List ℕ)) → Rises us → All (Contains us) ts → All (Contains ts) us
+    → us ≡ in_order ts
 set_is ts us up held only =
     one_list us (in_order ts) up (in_order_rises ts)
     (All-weaker (Contains ts) (Contains (in_order ts)) (λ t h. All-contains (Contains (in_order ts)) ts t (All-in_order_contains ts) h) us only)
@@ -161,7 +176,8 @@ pub in_order-in_order : (ts : List (List ℕ)) → in_order (in_order ts) ≡ in
 in_order-in_order ts = sym (set_is (in_order ts) (in_order ts) (in_order_rises ts) (All-contains_itself (in_order ts)) (All-contains_itself (in_order ts)))
 
 -- two lists with the same tokens have one `in_order`
-pub in_order_same : (ts us : List (List ℕ)) → All (Contains us) ts → All (Contains ts) us → in_order ts ≡ in_order us
+pub in_order_same : (ts us : List (List ℕ)) → All (Contains us) ts → All (Contains ts) us
+    → in_order ts ≡ in_order us
 in_order_same ts us t_in u_in =
     set_is us (in_order ts) (in_order_rises ts)
     (All-weaker (Contains ts) (Contains (in_order ts)) (λ t h. All-contains (Contains (in_order ts)) ts t (All-in_order_contains ts) h) us u_in)

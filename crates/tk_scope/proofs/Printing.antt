@@ -2,47 +2,57 @@
 --   tokens_of-scope_text    the printed form is read as the tokens in order
 --   printed_short           the printed form is no longer than the text
 --   scope_text_again        the printed form is its own scope
-use Rattle.std.proofs.Common.{◌≡◌, ℕ, ◌+◌, ◌<◌, ◌≤◌, true, false, not, cond, List, [], ◌∷◌, length, All, Contains, Some, None, is_some, ◌==◌, nat_lt, refl, sym, ap, ◌∙◌, subst, arith, bytes_eq, length-append}
+use Rattle.std.proofs.Common.{◌≡◌, ℕ, ◌+◌, ◌<◌, ◌≤◌, true, false, not, cond, List, [], ◌∷◌, length}
+use Rattle.std.proofs.Common.{All, Contains, Some, None, is_some, ◌==◌, nat_lt, refl, sym, ap, ◌∙◌}
+use Rattle.std.proofs.Common.{subst, arith, bytes_eq, length-append}
 use Rattle.std.specs.Cmp.Lexicographic.{slice_cmp}
 use Rattle.std.specs.List.{AllByRecursion, join_with_byte, list_all}
 use Rattle.std.specs.Ordering.{is_lt, nat_cmp}
 use Rattle.std.specs.Str.{IsUtf8}
-use Rattle.std.proofs.lemmas.Bool.{cond_both, le-ltb, ltb-false}
-use Rattle.std.proofs.lemmas.List.Splits.{join_with_byte-slice_split, length-slice_split, slice_split_at, slice_split_none}
+use Rattle.std.proofs.lemmas.Bool.{cond_both, le-ltb, ltb-false, and_parts as both_sides}
+use Rattle.std.proofs.lemmas.List.Splits.{join_with_byte-slice_split, length-slice_split}
+use Rattle.std.proofs.lemmas.List.Splits.{slice_split_at, slice_split_none}
 use Rattle.tk_scope.specs.declared.error.ScopeError.{ScopeError}
 use Rattle.tk_scope.specs.declared.error.ScopeError.TheVariants.{TooLong, Malformed, TooMany}
-use Rattle.tk_scope.specs.Scope.{greatest_length, HasSameTokens, in_order, is_token, max_tokens, scope_of, scope_refusal, scope_text, tokens_of, with_token}
-use Rattle.tk_scope.proofs.Ascii.{All-no_space, both_sides, tokens_utf8}
-use Rattle.tk_scope.proofs.Order.{All-contains_in_order, All-in_order, All-in_order_contains, in_order-in_order, in_order_rises, in_order_same, Rises}
+use Rattle.tk_scope.specs.Scope.{greatest_length, HasSameTokens, in_order, is_token, max_tokens}
+use Rattle.tk_scope.specs.Scope.{scope_of, scope_refusal, scope_text, tokens_of, with_token}
+use Rattle.tk_scope.proofs.Ascii.{All-no_space, tokens_utf8}
+use Rattle.tk_scope.proofs.Order.{All-contains_in_order, All-in_order, All-in_order_contains}
+use Rattle.tk_scope.proofs.Order.{in_order-in_order, in_order_rises, in_order_same, Rises}
 
 -- ---- joined tokens, cut at the spaces
 
 -- joined tokens are cut at the first space into the first token and the others
-cut_again : (t : List ℕ) (ts : List (List ℕ)) → list_all is_token (t ∷ ts) ≡ true → tokens_of (join_with_byte 0x20 (t ∷ ts)) ≡ t ∷ ts
+cut_again : (t : List ℕ) (ts : List (List ℕ)) → list_all is_token (t ∷ ts) ≡ true
+    → tokens_of (join_with_byte 0x20 (t ∷ ts)) ≡ t ∷ ts
 cut_again t [] h = slice_split_none (λ b. b == 0x20) t (All-no_space t (both_sides _ _ h).0)
 cut_again t (u ∷ ts) h =
     let sides = both_sides (is_token t) (list_all is_token (u ∷ ts)) h in
     slice_split_at (λ b. b == 0x20) t 0x20 (join_with_byte 0x20 (u ∷ ts)) (All-no_space t sides.0) refl ∙ ap (λ (us : List (List ℕ)). t ∷ us) (cut_again u ts sides.1)
 
 -- tokens joined by spaces are the tokens of the joined text
-tokens_of-join : (ts : List (List ℕ)) → 0 < length ts → list_all is_token ts ≡ true → tokens_of (join_with_byte 0x20 ts) ≡ ts
+tokens_of-join : (ts : List (List ℕ)) → 0 < length ts → list_all is_token ts ≡ true
+    → tokens_of (join_with_byte 0x20 ts) ≡ ts
 tokens_of-join [] some h = absurd (omega arith)
 tokens_of-join (t ∷ ts) some h = cut_again t ts h
 
 -- ---- a list of tokens, as a test and as a fact
 
 -- a list that passes has only tokens
-all_tokens : (ts : List (List ℕ)) → list_all is_token ts ≡ true → AllByRecursion (λ t. is_token t ≡ true) ts
+all_tokens : (ts : List (List ℕ)) → list_all is_token ts ≡ true
+    → AllByRecursion (λ t. is_token t ≡ true) ts
 all_tokens [] h = tt
 all_tokens (t ∷ ts) h = let sides = both_sides _ _ h in (sides.0, all_tokens ts sides.1)
 
 -- a list that has only tokens passes
-all_pass : (ts : List (List ℕ)) → AllByRecursion (λ t. is_token t ≡ true) ts → list_all is_token ts ≡ true
+all_pass : (ts : List (List ℕ)) → AllByRecursion (λ t. is_token t ≡ true) ts
+    → list_all is_token ts ≡ true
 all_pass [] h = refl
 all_pass (t ∷ ts) h = rw (h.0, all_pass ts h.1) refl
 
 -- the tokens of a list are tokens when put in order
-in_order_tokens : (ts : List (List ℕ)) → list_all is_token ts ≡ true → list_all is_token (in_order ts) ≡ true
+in_order_tokens : (ts : List (List ℕ)) → list_all is_token ts ≡ true
+    → list_all is_token (in_order ts) ≡ true
 in_order_tokens ts h = all_pass (in_order ts) (All-in_order (λ t. is_token t ≡ true) ts (all_tokens ts h))
 
 -- ---- lengths
@@ -120,11 +130,13 @@ pub scope_refusal-None : (text : List ℕ) → IsAccepted text → scope_refusal
 scope_refusal-None text a = rw (le-ltb greatest_length (length text) a.short, a.tokens, le-ltb max_tokens (length (tokens_of text)) a.few) refl
 
 -- a text that passes each test is the scope of its tokens
-pub scope_of-accepted : (text : List ℕ) → IsAccepted text → scope_of text ≡ Some (scope_text (tokens_of text))
+pub scope_of-accepted : (text : List ℕ) → IsAccepted text
+    → scope_of text ≡ Some (scope_text (tokens_of text))
 scope_of-accepted text a = rw (scope_refusal-None text a) refl
 
 -- a text with a scope passes each test, and the scope is the text of its tokens
-pub accepted_by_scope : (text scope : List ℕ) → scope_of text ≡ Some scope → IsAccepted text × (scope ≡ scope_text (tokens_of text))
+pub accepted_by_scope : (text scope : List ℕ) → scope_of text ≡ Some scope
+    → IsAccepted text × (scope ≡ scope_text (tokens_of text))
 accepted_by_scope text scope h =
     elim (scope_refusal text) as (λ r. scope_refusal text ≡ r → cond (is_some r) None (Some (scope_text (tokens_of text))) ≡ Some scope → IsAccepted text × (scope ≡ scope_text (tokens_of text))) [
       | None ↦ λ none e. (accepted text none, cc)
@@ -136,7 +148,8 @@ pub no_scope : (text : List ℕ) (e : ScopeError) → scope_refusal text ≡ Som
 no_scope text e h = rw h refl
 
 -- a text whose bytes are no UTF-8 breaks the grammar
-pub not_utf8 : (text : List ℕ) → length text ≤ greatest_length → (IsUtf8 text → ⊥) → scope_refusal text ≡ Some Malformed
+pub not_utf8 : (text : List ℕ) → length text ≤ greatest_length → (IsUtf8 text → ⊥)
+    → scope_refusal text ≡ Some Malformed
 not_utf8 text short none =
     elim (list_all is_token (tokens_of text)) as (λ b. list_all is_token (tokens_of text) ≡ b → scope_refusal text ≡ Some Malformed) [
       | true ↦ λ tokens. absurd (none (tokens_utf8 text tokens))
@@ -146,7 +159,8 @@ not_utf8 text short none =
 -- ---- the printed form
 
 -- the tokens of the printed form are the tokens of the text in order
-pub tokens_of-scope_text : (text : List ℕ) → IsAccepted text → tokens_of (scope_text (tokens_of text)) ≡ in_order (tokens_of text)
+pub tokens_of-scope_text : (text : List ℕ) → IsAccepted text
+    → tokens_of (scope_text (tokens_of text)) ≡ in_order (tokens_of text)
 tokens_of-scope_text text a = tokens_of-join (in_order (tokens_of text)) (in_order_some (tokens_of text) (tokens_some text)) (in_order_tokens (tokens_of text) a.tokens)
 
 -- the printed form is no longer than the text
@@ -167,13 +181,15 @@ printed_accepted text a =
     }
 
 -- the printed form of a text is its own scope
-pub scope_text_again : (text : List ℕ) → IsAccepted text → scope_of (scope_text (tokens_of text)) ≡ Some (scope_text (tokens_of text))
+pub scope_text_again : (text : List ℕ) → IsAccepted text
+    → scope_of (scope_text (tokens_of text)) ≡ Some (scope_text (tokens_of text))
 scope_text_again text a =
     scope_of-accepted (scope_text (tokens_of text)) (printed_accepted text a)
     ∙ ap (λ (ts : List (List ℕ)). Some (join_with_byte 0x20 ts)) (ap in_order (tokens_of-scope_text text a) ∙ in_order-in_order (tokens_of text))
 
 -- the printed form has the same tokens as the text
-pub scope_text_members : (text : List ℕ) → IsAccepted text → HasSameTokens text (scope_text (tokens_of text))
+pub scope_text_members : (text : List ℕ) → IsAccepted text
+    → HasSameTokens text (scope_text (tokens_of text))
 scope_text_members text a =
     let cut = tokens_of-scope_text text a in (
       subst (λ (us : List (List ℕ)). All (Contains us) (tokens_of text)) (sym cut) (All-in_order_contains (tokens_of text)),
@@ -188,6 +204,7 @@ scope_rises scope h =
     subst Rises (sym cut) (in_order_rises (tokens_of scope))
 
 -- scopes with the same tokens are equal
-pub same_scope : (a b : List ℕ) → scope_of a ≡ Some a → scope_of b ≡ Some b → HasSameTokens a b → a ≡ b
+pub same_scope : (a b : List ℕ) → scope_of a ≡ Some a → scope_of b ≡ Some b → HasSameTokens a b
+    → a ≡ b
 same_scope a b p q h =
     (accepted_by_scope a a p).1 ∙ ap (join_with_byte 0x20) (in_order_same (tokens_of a) (tokens_of b) h.0 h.1) ∙ sym (accepted_by_scope b b q).1

@@ -11,7 +11,8 @@ use Rattle.tk_store.proofs.SlotOrderLaws.{slots_itself}
 use Rattle.tk_store.proofs.PutLaws.{by_dot}
 
 -- a slot that agrees with what is known, joined to what is known by now
-joined_above : (known now : Option Slot) (s : Slot) → SlotBelow known now → SlotAgrees known (Some s) → SlotBelow known (Some (joined_slot now s))
+joined_above : (known now : Option Slot) (s : Slot) → SlotBelow known now
+    → SlotAgrees known (Some s) → SlotBelow known (Some (joined_slot now s))
 joined_above None now s below agrees = tt
 joined_above (Some (Held b)) None s below agrees = absurd below
 joined_above (Some (Held b)) (Some (Held c)) (Held e) below agrees = below
@@ -21,7 +22,8 @@ joined_above (Some Skipped) None s below agrees = absurd below
 joined_above (Some Skipped) (Some (Held c)) s below agrees = absurd below
 joined_above (Some Skipped) (Some Skipped) s below agrees = tt
 
-grown : (S T : Slots) (items : List (Dot × Slot)) → SlotsBelow S T → AllFit S items → SlotsBelow S (with_slots T items)
+grown : (S T : Slots) (items : List (Dot × Slot)) → SlotsBelow S T → AllFit S items
+    → SlotsBelow S (with_slots T items)
 grown S T [] below fit = below
 grown S T (i ∷ more) below fit = grown S (map.insert T i.0 (joined_slot (map.get T i.0) i.1)) more one fit.1
   where
@@ -31,11 +33,13 @@ grown S T (i ∷ more) below fit = grown S (map.insert T i.0 (joined_slot (map.g
         (joined_above (map.get S i.0) (map.get T i.0) i.1 (below i.0) fit.0)) (below q)
 
 -- what was known of each dot is still known, or is skipped
-pub fit_below : (S : Slots) (items : List (Dot × Slot)) → AllFit S items → SlotsBelow S (with_slots S items)
+pub fit_below : (S : Slots) (items : List (Dot × Slot)) → AllFit S items
+    → SlotsBelow S (with_slots S items)
 fit_below S items fit = grown S S items (slots_itself S) fit
 
 -- the first slots of a list that fits, fit
-pub fit_first : (S : Slots) (k : ℕ) (items : List (Dot × Slot)) → AllFit S items → AllFit S (take k items)
+pub fit_first : (S : Slots) (k : ℕ) (items : List (Dot × Slot)) → AllFit S items
+    → AllFit S (take k items)
 fit_first S zero items fit = tt
 fit_first S (suc k) [] fit = tt
 fit_first S (suc k) (i ∷ more) fit = (fit.0, fit_first S k more fit.1)

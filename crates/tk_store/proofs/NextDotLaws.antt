@@ -5,7 +5,9 @@
 --   next_dot_there               the next dot, if a serial is left
 --   greatest_is, greatest_none   the last fact of a region has its greatest serial, or the region
 --                                has no fact
-use Rattle.std.proofs.Common.{◌≡◌, ℕ, ◌+◌, ◌<◌, ◌≤◌, ◌==◌, true, false, cond, if◌then◌else◌, max, List, [], ◌∷◌, Option, Some, None, IsSome, is_some, refl, sym, ap, ◌∙◌, arith, inl, inr}
+use Rattle.std.proofs.Common.{◌≡◌, ℕ, ◌+◌, ◌<◌, ◌≤◌, ◌==◌, true, false, cond, if◌then◌else◌, max}
+use Rattle.std.proofs.Common.{List, [], ◌∷◌, Option, Some, None, IsSome, is_some, refl, sym, ap}
+use Rattle.std.proofs.Common.{◌∙◌, arith, inl, inr}
 use mathlib.Core.Bool.{false≢true}
 use Rattle.std.specs.Ordering.{eq_by_cmp, is_lt}
 use Rattle.std.specs.FinMap as map
@@ -21,20 +23,24 @@ use Rattle.tk_store.specs.Front.{dot_at}
 use Rattle.tk_store.specs.NextDot.{last_serial, next_serial, next_dot}
 use Rattle.tk_store.proofs.EntryLaws.{AllIn-entries}
 use Rattle.tk_store.proofs.FactSetLaws.{tied}
-use Rattle.tk_store.proofs.PutLaws.{none_is_not_some}
+use Rattle.std.proofs.lemmas.Option.{none-some as none_is_not_some}
 
 -- a dot of the region whose serial is in range is between the first and the last dot of the region
-pub in_region : (r : ℕ) (q : Dot) → q.region ≡ r → 0 < q.serial → q.serial ≤ greatest_serial → IsLeBy dot_cmp (dot_at r 1) q × IsLeBy dot_cmp q (dot_at r greatest_serial)
+pub in_region : (r : ℕ) (q : Dot) → q.region ≡ r → 0 < q.serial → q.serial ≤ greatest_serial
+    → IsLeBy dot_cmp (dot_at r 1) q × IsLeBy dot_cmp q (dot_at r greatest_serial)
 in_region r q here low high = (grind (arith, nat_tests), grind (arith, nat_tests))
 
-region_of : (r : ℕ) (e : Dot) → IsLeBy dot_cmp (dot_at r 1) e → IsLeBy dot_cmp e (dot_at r greatest_serial) → e.region ≡ r
+region_of : (r : ℕ) (e : Dot) → IsLeBy dot_cmp (dot_at r 1) e
+    → IsLeBy dot_cmp e (dot_at r greatest_serial) → e.region ≡ r
 region_of r e low high = grind (arith, nat_tests)
 
-serial_at_most : (e q : Dot) → e.region ≡ q.region → is_lt (dot_cmp e q) ≡ false → q.serial ≤ e.serial
+serial_at_most : (e q : Dot) → e.region ≡ q.region → is_lt (dot_cmp e q) ≡ false
+    → q.serial ≤ e.serial
 serial_at_most e q same h = grind (arith, nat_tests)
 
 module _ {X : Type 0} where
-  pub at_most_last_serial : (r : ℕ) (es : List (Dot × X)) (q : Dot) (b : X) → q.region ≡ r → map.find dot_cmp q es ≡ Some b → q.serial ≤ last_serial r es
+  pub at_most_last_serial : (r : ℕ) (es : List (Dot × X)) (q : Dot) (b : X) → q.region ≡ r
+      → map.find dot_cmp q es ≡ Some b → q.serial ≤ last_serial r es
   at_most_last_serial r [] q b here h = absurd (none_is_not_some b h)
   at_most_last_serial r (e ∷ es) q b here h =
       elim (eq_by_cmp dot_cmp q e.0) as (λ t. eq_by_cmp dot_cmp q e.0 ≡ t → cond t (Some e.1) (map.find dot_cmp q es) ≡ Some b → q.serial ≤ last_serial r (e ∷ es)) [
@@ -42,7 +48,8 @@ module _ {X : Type 0} where
         | false ↦ λ _ k. let rest = at_most_last_serial r es q b here k in omega arith
       ] refl h
     where
-      first_counts : (r region serial rest n : ℕ) → region ≡ r → n ≡ serial → n ≤ max (if region == r then serial else 0) rest
+      first_counts : (r region serial rest n : ℕ) → region ≡ r → n ≡ serial
+          → n ≤ max (if region == r then serial else 0) rest
       first_counts r region serial rest n e f = grind (arith, nat_tests)
 
   pub next_is_free : (F : map.FinMap dot_cmp X) (r : ℕ) → map.get F (next_dot F r) ≡ None
@@ -53,23 +60,30 @@ module _ {X : Type 0} where
       ] refl
 
   -- the next dot has the serial after the greatest, if that is a serial
-  pub next_dot_there : (F : map.FinMap dot_cmp X) (r n : ℕ) (result : Option Dot) → n ≡ last_serial r (map.entries F) → SomeIff result (IsSerial (n + 1)) (record { region = r; serial = n + 1 }) → SomeIff result (next_serial F r ≤ greatest_serial) (next_dot F r)
+  pub next_dot_there : (F : map.FinMap dot_cmp X) (r n : ℕ) (result : Option Dot)
+      → n ≡ last_serial r (map.entries F)
+      → SomeIff result (IsSerial (n + 1)) (record { region = r; serial = n + 1 })
+      → SomeIff result (next_serial F r ≤ greatest_serial) (next_dot F r)
   next_dot_there F r n None same h = λ left. h (omega arith, omega arith)
   next_dot_there F r n (Some d) same h = (omega (arith, h.0.1, same), h.1 ∙ ap (λ (m : ℕ). record { region = r; serial = m + 1 }) same)
 
   -- ---- the greatest serial
 
   -- no fact of the region is above a number, so neither is the greatest serial
-  pub at_most : (F : map.FinMap dot_cmp X) (r m : ℕ) (fs : List (Dot × X)) → AllIn F fs → ((q : Dot) (b : X) → map.get F q ≡ Some b → q.region ≡ r → q.serial ≤ m) → last_serial r fs ≤ m
+  pub at_most : (F : map.FinMap dot_cmp X) (r m : ℕ) (fs : List (Dot × X)) → AllIn F fs
+      → ((q : Dot) (b : X) → map.get F q ≡ Some b → q.region ≡ r → q.serial ≤ m)
+      → last_serial r fs ≤ m
   at_most F r m [] a all = omega arith
   at_most F r m (f ∷ fs) a all = first f.0.region f.0.serial (last_serial r fs) (all f.0 f.1 a.0) (at_most F r m fs a.1 all)
     where
-      first : (region serial rest : ℕ) → (region ≡ r → serial ≤ m) → rest ≤ m → max (if region == r then serial else 0) rest ≤ m
+      first : (region serial rest : ℕ) → (region ≡ r → serial ≤ m) → rest ≤ m
+          → max (if region == r then serial else 0) rest ≤ m
       first region serial rest h k = grind (arith, nat_tests)
 
   module _ (F : map.FinMap dot_cmp X) (r : ℕ) (high : (d : Dot) → IsSome (map.get F d) → d.serial ≤ greatest_serial) where
     -- the greatest dot of the region that is held has its greatest serial
-    pub greatest_is : (e : Dot) → IsSome (map.get F e) → IsLeBy dot_cmp (dot_at r 1) e × IsLeBy dot_cmp e (dot_at r greatest_serial)
+    pub greatest_is : (e : Dot) → IsSome (map.get F e)
+        → IsLeBy dot_cmp (dot_at r 1) e × IsLeBy dot_cmp e (dot_at r greatest_serial)
         → ((q : Dot) → IsLeBy dot_cmp (dot_at r 1) q × IsLeBy dot_cmp q (dot_at r greatest_serial) → IsSome (map.get F q) → is_lt (dot_cmp e q) ≡ false)
         → e.serial ≡ last_serial r (map.entries F)
     greatest_is e held within last =
@@ -83,12 +97,14 @@ module _ {X : Type 0} where
         let reached : e.serial ≤ last_serial r (map.entries F) = held_counts (map.get F e) refl held here in
         omega arith
       where
-        held_counts : (o : Option X) → map.get F e ≡ o → IsSome (map.get F e) → e.region ≡ r → e.serial ≤ last_serial r (map.entries F)
+        held_counts : (o : Option X) → map.get F e ≡ o → IsSome (map.get F e) → e.region ≡ r
+            → e.serial ≤ last_serial r (map.entries F)
         held_counts None at held here = absurd (false≢true (sym (ap is_some at) ∙ held))
         held_counts (Some b) at held here = at_most_last_serial r (map.entries F) e b here (sym (map.get-entries F e) ∙ at)
 
     -- a region of which no dot is held has the greatest serial 0
-    pub greatest_none : ((q : Dot) → IsLeBy dot_cmp (dot_at r 1) q × IsLeBy dot_cmp q (dot_at r greatest_serial) → map.get F q ≡ None) → 0 ≡ last_serial r (map.entries F)
+    pub greatest_none : ((q : Dot) → IsLeBy dot_cmp (dot_at r 1) q × IsLeBy dot_cmp q (dot_at r greatest_serial) → map.get F q ≡ None)
+        → 0 ≡ last_serial r (map.entries F)
     greatest_none none =
         let at_zero : last_serial r (map.entries F) ≤ 0 = at_most F r 0 (map.entries F) (AllIn-entries F) (λ q b at same. elim (cases_lt 0 q.serial) [
           | inl some ↦ absurd (none_is_not_some b (sym (none q (in_region r q same some (high q (ap is_some at)))) ∙ at))

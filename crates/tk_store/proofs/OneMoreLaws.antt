@@ -5,8 +5,10 @@
 --   by_more                    the body at a dot of the larger set
 --   any_fact-more              a test of the larger set is a test of the new fact and of the
 --                              smaller set
-use Rattle.std.proofs.Common.{◌≡◌, ◌≢◌, ◌⊎◌, inl, inr, Bool, true, false, ◌||◌, Option, Some, None, refl, sym, ap, subst, ◌∙◌}
-use Rattle.std.proofs.lemmas.Bool.{true≢false, cases_Bool, cond-true, cond-false, or_cases, or_left, or_right}
+use Rattle.std.proofs.Common.{◌≡◌, ◌≢◌, ◌⊎◌, inl, inr, Bool, true, false, ◌||◌, Option, Some, None}
+use Rattle.std.proofs.Common.{sym, ap, subst, ◌∙◌}
+use Rattle.std.proofs.lemmas.Bool.{true≢false, cases_Bool, cond-true, cond-false, or_cases, or_left}
+use Rattle.std.proofs.lemmas.Bool.{or_right}
 use Rattle.std.proofs.lemmas.Cmp.{tied_itself}
 use Rattle.std.specs.Ordering.{eq_by_cmp, is_eq}
 use Rattle.std.specs.FinMap as map
@@ -16,7 +18,9 @@ use Rattle.tk_fact.specs.declared.body.Body.{Body}
 use Rattle.tk_store.specs.FactSet.{FactSet, IsSubset, any_fact}
 use Rattle.tk_store.proofs.EntryLaws.{Passing, any_fact-held, any_fact-of}
 use Rattle.tk_store.proofs.FactSetLaws.{tied}
-use Rattle.tk_store.proofs.PutLaws.{get_here, some_injective, none_is_not_some}
+use Rattle.tk_store.proofs.PutLaws.{get_here}
+use Rattle.std.specs.Cmp.{both_ways as same_tests}
+use Rattle.std.proofs.lemmas.Option.{none-some as none_is_not_some, same_Some as some_injective}
 
 at_itself : (d : Dot) → eq_by_cmp dot_cmp d d ≡ true
 at_itself d = ap is_eq (tied_itself dot_cmp_total d)
@@ -40,14 +44,16 @@ pub record OneMore (F G : FactSet) (d : Dot) (b : Body) : Type 0 where
   pub here : map.get G d ≡ Some b
   pub there : (q : Dot) → q ≢ d → map.get G q ≡ map.get F q
 
-pub more_insert : (F : FactSet) (d : Dot) (b : Body) → map.get F d ≡ None → OneMore F (map.insert F d b) d b
+pub more_insert : (F : FactSet) (d : Dot) (b : Body) → map.get F d ≡ None
+    → OneMore F (map.insert F d b) d b
 more_insert F d b free = record {
   free = free;
   here = get_here F d b;
   there = λ q ne. map.get-insert dot_cmp_total F d b q ∙ cond-false (eq_by_cmp dot_cmp q d) (Some b) (map.get F q) (apart_at q d ne);
 }
 
-pub more_remove : (G : FactSet) (d : Dot) (b : Body) → map.get G d ≡ Some b → OneMore (map.remove G d) G d b
+pub more_remove : (G : FactSet) (d : Dot) (b : Body) → map.get G d ≡ Some b
+    → OneMore (map.remove G d) G d b
 more_remove G d b held = record {
   free = map.get-remove dot_cmp_total G d d ∙ cond-true (eq_by_cmp dot_cmp d d) None (map.get G d) (at_itself d);
   here = held;
@@ -61,20 +67,17 @@ more_subset F G d b m q x h = elim (cases_dots q d) [
 ]
 
 -- P holds of what is at a dot of G, if P holds of the new body and of what is there in F
-pub by_more : (P : Dot → Option Body → Type 0) (F G : FactSet) (d : Dot) (b : Body) → OneMore F G d b → (q : Dot) → (q ≡ d → P d (Some b)) → (q ≢ d → P q (map.get F q)) → P q (map.get G q)
+pub by_more : (P : Dot → Option Body → Type 0) (F G : FactSet) (d : Dot) (b : Body)
+    → OneMore F G d b → (q : Dot) → (q ≡ d → P d (Some b)) → (q ≢ d → P q (map.get F q))
+    → P q (map.get G q)
 by_more P F G d b m q at_it elsewhere = elim (cases_dots q d) [
   | inl same ↦ subst (λ (x : Dot). P x (map.get G x)) (sym same) (subst (P d) (sym m.here) (at_it same))
   | inr ne ↦ subst (P q) (sym (m.there q ne)) (elsewhere ne)
 ]
 
--- two tests that imply each other are equal
-same_tests : (a b : Bool) → (a ≡ true → b ≡ true) → (b ≡ true → a ≡ true) → a ≡ b
-same_tests true b f g = sym (f refl)
-same_tests false true f g = g refl
-same_tests false false f g = refl
-
 -- some fact of G passes a test exactly if the new fact does, or some fact of F
-pub any_fact-more : (p : Dot × Body → Bool) (F G : FactSet) (d : Dot) (b : Body) → OneMore F G d b → any_fact p G ≡ (p (d, b) || any_fact p F)
+pub any_fact-more : (p : Dot × Body → Bool) (F G : FactSet) (d : Dot) (b : Body) → OneMore F G d b
+    → any_fact p G ≡ (p (d, b) || any_fact p F)
 any_fact-more p F G d b m = same_tests (any_fact p G) (p (d, b) || any_fact p F)
     (λ h. (let x : Passing p G = any_fact-held p G h in elim (cases_dots x.dot d) [
       | inl same ↦ or_left (p (d, b)) (any_fact p F) (moved x.dot x.body same (some_injective x.body b (sym x.held ∙ ap (map.get G) same ∙ m.here)) x.passes)

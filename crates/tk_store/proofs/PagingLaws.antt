@@ -1,5 +1,7 @@
 -- Paging by cursor loses nothing. Key result: `complete`.
-use Rattle.std.proofs.Common.{◌≡◌, ℕ, zero, suc, ◌-◌, ◌<◌, ◌≤◌, Bool, true, false, ◌&&◌, cond, T, List, [], ◌∷◌, map, filter, take, length, slice_get, Option, Some, None, refl, sym, ap, subst, ◌∙◌, arith, ◌⊎◌, inl, inr}
+use Rattle.std.proofs.Common.{◌≡◌, ℕ, zero, suc, ◌-◌, ◌<◌, ◌≤◌, Bool, true, false, cond, T, List}
+use Rattle.std.proofs.Common.{[], ◌∷◌, map, filter, take, length, slice_get, Option, Some, None}
+use Rattle.std.proofs.Common.{refl, sym, ap, subst, ◌∙◌, arith, ◌⊎◌, inl, inr}
 use Rattle.std.proofs.lemmas.Bool.{cases_Bool, cond-true, cond-false}
 use Rattle.std.proofs.lemmas.Bool.Decides.{nat_tests}
 use Rattle.std.specs.Ordering.{eq_by_cmp, is_lt}
@@ -17,7 +19,8 @@ use Rattle.tk_store.specs.Slots.{Slot, Slots}
 use Rattle.tk_store.proofs.SlotOrderLaws.{below_trans}
 use Rattle.tk_store.specs.Paging.{page, last_dot, TookPages, PagingCompletes}
 use Rattle.tk_store.proofs.FactSetLaws.{tied}
-use Rattle.tk_store.proofs.PutLaws.{some_injective, none_is_not_some}
+use Rattle.tk_handle.proofs.TestLaws.{and, both}
+use Rattle.std.proofs.lemmas.Option.{none-some as none_is_not_some, same_Some as some_injective}
 
 abbrev Entries : Type 0
 Entries = List (Dot × Slot)
@@ -34,7 +37,8 @@ in_found (f ∷ fs) d b h = elim (cases_Bool (eq_by_cmp dot_cmp d f.0)) [
   | inr more ↦ inr (in_found fs d b (sym (cond-false (eq_by_cmp dot_cmp d f.0) (Some f.1) (sets.find dot_cmp d fs) more) ∙ h))
 ]
 
-in_kept : (p : Dot × Slot → Bool) (fs : Entries) (d : Dot) (b : Slot) → IsIn d b fs → p (d, b) ≡ true → IsIn d b (filter p fs)
+in_kept : (p : Dot × Slot → Bool) (fs : Entries) (d : Dot) (b : Slot) → IsIn d b fs
+    → p (d, b) ≡ true → IsIn d b (filter p fs)
 in_kept p [] d b h passes = h
 in_kept p (f ∷ fs) d b (inl here) passes =
     let same : p f ≡ true = ap (λ (x : Dot). p (x, f.1)) here.0 ∙ ap (λ (y : Slot). p (d, y)) here.1 ∙ passes in
@@ -44,37 +48,34 @@ in_kept p (f ∷ fs) d b (inr more) passes = elim (p f) as (λ t. IsIn d b (cond
   | false ↦ in_kept p fs d b more passes
 ]
 
-in_all : (R : Slots) (fs : Entries) (d : Dot) (b : Slot) → IsIn d b fs → AllBelow R fs → SlotBelow (Some b) (sets.get R d)
+in_all : (R : Slots) (fs : Entries) (d : Dot) (b : Slot) → IsIn d b fs → AllBelow R fs
+    → SlotBelow (Some b) (sets.get R d)
 in_all R [] d b h a = absurd h
 in_all R (f ∷ fs) d b (inl here) a = moved here.0 here.1 a.0
   where
-    moved : f.0 ≡ d → f.1 ≡ b → SlotBelow (Some f.1) (sets.get R f.0) → SlotBelow (Some b) (sets.get R d)
+    moved : f.0 ≡ d → f.1 ≡ b → SlotBelow (Some f.1) (sets.get R f.0)
+        → SlotBelow (Some b) (sets.get R d)
     moved i j k = rw (← i, ← j) k
 in_all R (f ∷ fs) d b (inr more) a = in_all R fs d b more a.1
 
 -- ---- a part of a list that rises, rises
 
-both : (a b : Bool) → T (a && b) → T a × T b
-both true b h = (tt, h)
-both false b h = absurd h
-
-and : (a b : Bool) → T a → T b → T (a && b)
-and true b p q = q
-and false b p q = p
-
-below_kept : (p : Dot × Slot → Bool) (x : Dot) (fs : Entries) → T (below_all dot_cmp x fs) → T (below_all dot_cmp x (filter p fs))
+below_kept : (p : Dot × Slot → Bool) (x : Dot) (fs : Entries) → T (below_all dot_cmp x fs)
+    → T (below_all dot_cmp x (filter p fs))
 below_kept p x [] low = tt
 below_kept p x (f ∷ fs) low =
     let l = both _ _ low in
     elim (p f) as (λ t. T (below_all dot_cmp x (cond t (f ∷ filter p fs) (filter p fs)))) [ true ↦ and (is_lt (dot_cmp x f.0)) _ l.0 (below_kept p x fs l.1) | false ↦ below_kept p x fs l.1 ]
 
-sorted_kept : (p : Dot × Slot → Bool) (fs : Entries) → T (sets.is_sorted dot_cmp fs) → T (sets.is_sorted dot_cmp (filter p fs))
+sorted_kept : (p : Dot × Slot → Bool) (fs : Entries) → T (sets.is_sorted dot_cmp fs)
+    → T (sets.is_sorted dot_cmp (filter p fs))
 sorted_kept p [] s = tt
 sorted_kept p (f ∷ fs) s =
     let l = both _ _ s in
     elim (p f) as (λ t. T (sets.is_sorted dot_cmp (cond t (f ∷ filter p fs) (filter p fs)))) [ true ↦ and (below_all dot_cmp f.0 (filter p fs)) _ (below_kept p f.0 fs l.0) (sorted_kept p fs l.1) | false ↦ sorted_kept p fs l.1 ]
 
-below_in : (x d : Dot) (b : Slot) (fs : Entries) → T (below_all dot_cmp x fs) → IsIn d b fs → is_lt (dot_cmp x d) ≡ true
+below_in : (x d : Dot) (b : Slot) (fs : Entries) → T (below_all dot_cmp x fs) → IsIn d b fs
+    → is_lt (dot_cmp x d) ≡ true
 below_in x d b [] low h = absurd h
 below_in x d b (f ∷ fs) low (inl here) = ap (λ (y : Dot). is_lt (dot_cmp x y)) (sym here.0) ∙ is_true (is_lt (dot_cmp x f.0)) (both _ _ low).0
   where
@@ -91,7 +92,8 @@ last_after f g fs = ap (slice_get (f.0 ∷ g.0 ∷ map dot_of fs)) (step (length
     step : (n : ℕ) → suc (suc n) - 1 ≡ suc (suc n - 1)
     step n = omega arith
 
-in_page : (n : ℕ) (fs : Entries) (d : Dot) (b : Slot) → T (sets.is_sorted dot_cmp fs) → IsIn d b fs → 0 < n → IsIn d b (take n fs) ⊎ (is_above (last_dot (take n fs)) (d, b) ≡ true)
+in_page : (n : ℕ) (fs : Entries) (d : Dot) (b : Slot) → T (sets.is_sorted dot_cmp fs) → IsIn d b fs
+    → 0 < n → IsIn d b (take n fs) ⊎ (is_above (last_dot (take n fs)) (d, b) ≡ true)
 in_page zero fs d b s h some = absurd (omega arith)
 in_page (suc n) [] d b s h some = absurd h
 in_page (suc n) (f ∷ fs) d b s (inl here) some = inl (inl here)
@@ -104,10 +106,13 @@ in_page (suc (suc n)) (f ∷ g ∷ fs) d b s (inr more) some = elim (in_page (su
 
 -- ---- all pages
 
-in_beyond : (S : Slots) (v : Vector) (after : Option Dot) (d : Dot) (b : Slot) → sets.get S d ≡ Some b → is_beyond v (d, b) ≡ true → is_above after (d, b) ≡ true → IsIn d b (beyond S v after)
+in_beyond : (S : Slots) (v : Vector) (after : Option Dot) (d : Dot) (b : Slot)
+    → sets.get S d ≡ Some b → is_beyond v (d, b) ≡ true → is_above after (d, b) ≡ true
+    → IsIn d b (beyond S v after)
 in_beyond S v after d b known free past = in_kept (is_beyond v) (above S after) d b (in_kept (is_above after) (sets.entries S) d b (in_found (sets.entries S) d b (sym (sets.get-entries S d) ∙ known)) past) free
 
-rises : (S : Slots) (v : Vector) (after : Option Dot) → T (sets.is_sorted dot_cmp (beyond S v after))
+rises : (S : Slots) (v : Vector) (after : Option Dot)
+    → T (sets.is_sorted dot_cmp (beyond S v after))
 rises S v after = sorted_kept (is_beyond v) (above S after) (sorted_kept (is_above after) (sets.entries S) (sets.entries_sorted S))
 
 take_whole : (n : ℕ) (fs : Entries) → length fs ≤ n → take n fs ≡ fs
@@ -122,11 +127,13 @@ above_known b None h = absurd h
 above_known b (Some c) h = (c, refl)
 
 -- whether a slot is above a cursor depends on the dot alone
-above_any : (after : Option Dot) (d : Dot) (b c : Slot) → is_above after (d, b) ≡ true → is_above after (d, c) ≡ true
+above_any : (after : Option Dot) (d : Dot) (b c : Slot) → is_above after (d, b) ≡ true
+    → is_above after (d, c) ≡ true
 above_any None d b c h = refl
 above_any (Some e) d b c h = h
 
-taken : (limit : ℕ) (v : Vector) (R : Slots) → 0 < limit → (later : List Slots) (after : Option Dot) (S : Slots) → TookPages limit v R after S later
+taken : (limit : ℕ) (v : Vector) (R : Slots) → 0 < limit
+    → (later : List Slots) (after : Option Dot) (S : Slots) → TookPages limit v R after S later
     → (d : Dot) (b : Slot) → sets.get S d ≡ Some b → is_beyond v (d, b) ≡ true → is_above after (d, b) ≡ true → SlotBelow (Some b) (sets.get R d)
 taken limit v R some [] after S took d b known free past =
     in_all R (page limit S v after) d b (subst (IsIn d b) (sym (take_whole limit (beyond S v after) took.1)) (in_beyond S v after d b known free past)) took.0

@@ -1,7 +1,9 @@
 -- A walk over the facts of a table passes over marks. Key results:
 --   passes_on    a step goes to a dot above, with no fact in between
 --   passes_out   without a step, no fact is above
-use Rattle.std.proofs.Common.{◌≡◌, ℕ, ◌+◌, ◌-◌, ◌<◌, ◌≤◌, Bool, true, false, cond, if◌then◌else◌, List, [], ◌∷◌, filter, map, length, Option, Some, None, option_map, slice_get, refl, sym, ap, subst, ◌∙◌, inl, inr, arith}
+use Rattle.std.proofs.Common.{◌≡◌, ℕ, ◌+◌, ◌-◌, ◌<◌, ◌≤◌, Bool, true, false, cond, if◌then◌else◌}
+use Rattle.std.proofs.Common.{List, [], ◌∷◌, filter, length, Option, Some, None, option_map}
+use Rattle.std.proofs.Common.{slice_get, refl, sym, ap, subst, ◌∙◌, inl, inr, arith}
 use mathlib.Core.Bool.{false≢true}
 use Rattle.std.proofs.lemmas.Bool.{cases_Bool, cond-false}
 use Rattle.std.proofs.lemmas.Bool.Decides.{nat_tests}
@@ -22,26 +24,30 @@ use Rattle.tk_store.specs.Table.{Boxed, KeptMap, Shows, slot_of, slots_of, AreHo
 use Rattle.tk_store.specs.Walk.{is_above, above}
 use Rattle.tk_store.proofs.EntryLaws.{AllIn-entries}
 use Rattle.tk_store.proofs.FactSetLaws.{tied}
-use Rattle.tk_store.proofs.PutLaws.{some_injective, none_is_not_some}
 use Rattle.tk_store.proofs.WalkLaws.{at_end}
 use Rattle.tk_store.proofs.SlotLaws.{get_held}
 use Rattle.tk_store.proofs.TableLaws.{at, first_in, none_in, up_of, up_is}
+use Rattle.std.proofs.lemmas.Option.{none-some as none_is_not_some, same_Some as some_injective}
 
-drops_one : (a b : Bool) (x y n m : ℕ) → a ≡ false → b ≡ true → n ≤ m → x ≡ (if a then n + 1 else n) → y ≡ (if b then m + 1 else m) → x < y
+drops_one : (a b : Bool) (x y n m : ℕ) → a ≡ false → b ≡ true → n ≤ m → x ≡ (if a then n + 1 else n)
+    → y ≡ (if b then m + 1 else m) → x < y
 drops_one true b x y n m e f le g h = absurd (false≢true (sym e))
 drops_one false true x y n m e f le g h = omega (arith, le, g, h)
 drops_one false false x y n m e f le g h = absurd (false≢true f)
 
-length_step : {X : Type 0} (t : Bool) (e : X) (xs : List X) → length (cond t (e ∷ xs) xs) ≡ (if t then length xs + 1 else length xs)
+length_step : {X : Type 0} (t : Bool) (e : X) (xs : List X)
+    → length (cond t (e ∷ xs) xs) ≡ (if t then length xs + 1 else length xs)
 length_step true e xs = omega arith
 length_step false e xs = refl
 
-keeps_less : (a b : Bool) (x y n m : ℕ) → (a ≡ true → b ≡ true) → n ≤ m → x ≡ (if a then n + 1 else n) → y ≡ (if b then m + 1 else m) → x ≤ y
+keeps_less : (a b : Bool) (x y n m : ℕ) → (a ≡ true → b ≡ true) → n ≤ m
+    → x ≡ (if a then n + 1 else n) → y ≡ (if b then m + 1 else m) → x ≤ y
 keeps_less true b x y n m more le g h = (let f = more refl in subst (λ (t : Bool). y ≡ (if t then m + 1 else m) → x ≤ y) (sym f) (λ k. omega (arith, le, g, k)) h)
 keeps_less false true x y n m more le g h = omega (arith, le, g, h)
 keeps_less false false x y n m more le g h = omega (arith, le, g, h)
 
-keeps_lower : (a b : Bool) (x y n m : ℕ) → (a ≡ true → b ≡ true) → n < m → x ≡ (if a then n + 1 else n) → y ≡ (if b then m + 1 else m) → x < y
+keeps_lower : (a b : Bool) (x y n m : ℕ) → (a ≡ true → b ≡ true) → n < m
+    → x ≡ (if a then n + 1 else n) → y ≡ (if b then m + 1 else m) → x < y
 keeps_lower true b x y n m more le g h = (let f = more refl in subst (λ (t : Bool). y ≡ (if t then m + 1 else m) → x < y) (sym f) (λ k. omega (arith, le, g, k)) h)
 keeps_lower false true x y n m more le g h = omega (arith, le, g, h)
 keeps_lower false false x y n m more le g h = omega (arith, le, g, h)
@@ -52,7 +58,9 @@ module _ {X : Type 0} (p q : Dot × X → Bool) (more : (e : Dot × X) → p e �
   filter_most (e ∷ es) = keeps_less (p e) (q e) _ _ (length (filter p es)) (length (filter q es)) (more e) (filter_most es) (length_step (p e) e (filter p es)) (length_step (q e) e (filter q es))
 
   -- a list that lacks an entry is shorter
-  filter_less : (es : List (Dot × X)) (d : Dot) (b : X) → find dot_cmp d es ≡ Some b → ((x : X) → q (d, x) ≡ true) → ((x : X) → p (d, x) ≡ false) → length (filter p es) < length (filter q es)
+  filter_less : (es : List (Dot × X)) (d : Dot) (b : X) → find dot_cmp d es ≡ Some b
+      → ((x : X) → q (d, x) ≡ true) → ((x : X) → p (d, x) ≡ false)
+      → length (filter p es) < length (filter q es)
   filter_less [] d b here on off = absurd (none_is_not_some b here)
   filter_less (e ∷ es) d b here on off = elim (cases_Bool (eq_by_cmp dot_cmp d e.0)) [
     | inl same ↦ drops_one (p e) (q e) _ _ (length (filter p es)) (length (filter q es))
@@ -63,17 +71,21 @@ module _ {X : Type 0} (p q : Dot × X → Bool) (more : (e : Dot × X) → p e �
   ]
 
 -- two tests that agree on the entries keep the same
-filter_same : {X : Type 0} (F : sets.FinMap dot_cmp X) (p q : Dot × X → Bool) (es : List (Dot × X)) → AllIn F es → ((d : Dot) (b : X) → sets.get F d ≡ Some b → p (d, b) ≡ q (d, b)) → filter p es ≡ filter q es
+filter_same : {X : Type 0} (F : sets.FinMap dot_cmp X) (p q : Dot × X → Bool) (es : List (Dot × X))
+    → AllIn F es → ((d : Dot) (b : X) → sets.get F d ≡ Some b → p (d, b) ≡ q (d, b))
+    → filter p es ≡ filter q es
 filter_same F p q [] all same = refl
 filter_same F p q (e ∷ es) all same =
     ap (λ (t : Bool). cond t (e ∷ filter p es) (filter p es)) (same e.0 e.1 all.0)
     ∙ ap (λ (l : List (Dot × _)). cond (q e) (e ∷ l) l) (filter_same F p q es all.1 same)
 
-above_trans : (a : Option Dot) (d : Dot) → IsAbove a d → (e : Dot) → is_lt (dot_cmp d e) ≡ true → IsAbove a e
+above_trans : (a : Option Dot) (d : Dot) → IsAbove a d → (e : Dot) → is_lt (dot_cmp d e) ≡ true
+    → IsAbove a e
 above_trans None d up e h = tt
 above_trans (Some c) d up e h = both_lt c d e up h
   where
-    both_lt : (c d e : Dot) → is_lt (dot_cmp c d) ≡ true → is_lt (dot_cmp d e) ≡ true → is_lt (dot_cmp c e) ≡ true
+    both_lt : (c d e : Dot) → is_lt (dot_cmp c d) ≡ true → is_lt (dot_cmp d e) ≡ true
+        → is_lt (dot_cmp c e) ≡ true
     both_lt c d e h i = grind (arith, nat_tests)
 
 not_itself : (d : Dot) → is_lt (dot_cmp d d) ≡ false
@@ -81,10 +93,13 @@ not_itself d = ap is_lt (tied_itself dot_cmp_total d)
 
 module _ (m : KeptMap) (F : Slots) (seen : slots_of m ≡ F) (after : Option Dot) where
   -- a fact that is held is a value of the map
-  fact_kept : (q : Dot) (b : Body) → sets.get (held_in F) q ≡ Some b → (x : Boxed) × (sets.get m q ≡ Some (Some x)) × (x.value.1 ≡ b)
+  fact_kept : (q : Dot) (b : Body) → sets.get (held_in F) q ≡ Some b
+      → (x : Boxed) × (sets.get m q ≡ Some (Some x)) × (x.value.1 ≡ b)
   fact_kept q b h = by_kept (sets.get m q) refl (sym (ap held_slot (at m F seen q)) ∙ sym (get_held F q) ∙ h)
     where
-      by_kept : (o : Option (Option Boxed)) → sets.get m q ≡ o → held_slot (option_map slot_of o) ≡ Some b → (x : Boxed) × (sets.get m q ≡ Some (Some x)) × (x.value.1 ≡ b)
+      by_kept : (o : Option (Option Boxed)) → sets.get m q ≡ o
+          → held_slot (option_map slot_of o) ≡ Some b
+          → (x : Boxed) × (sets.get m q ≡ Some (Some x)) × (x.value.1 ≡ b)
       by_kept None here k = absurd (none_is_not_some b k)
       by_kept (Some None) here k = absurd (none_is_not_some b k)
       by_kept (Some (Some x)) here k = (x, here, some_injective x.value.1 b k)
@@ -93,11 +108,13 @@ module _ (m : KeptMap) (F : Slots) (seen : slots_of m ≡ F) (after : Option Dot
   passes_out next = at_end (held_in F) after (none_in after (sets.entries (held_in F)) (sets.entries_sorted (held_in F))
       (λ q c h up. (let x = fact_kept q c (sets.get-entries (held_in F) q ∙ h) in next q x.0 (up_of after q c up) x.1)))
 
-  fewer : (d : Dot) (k : Option Boxed) → sets.get m d ≡ Some k → IsAbove after d → length (above F (Some d)) < length (above F after)
+  fewer : (d : Dot) (k : Option Boxed) → sets.get m d ≡ Some k → IsAbove after d
+      → length (above F (Some d)) < length (above F after)
   fewer d k here up = filter_less (is_above (Some d)) (is_above after) (λ e h. up_is after e.0 e.1 (above_trans after d up e.0 h)) (sets.entries F) d (slot_of k)
       (sym (sets.get-entries F d) ∙ at m F seen d ∙ ap (option_map slot_of) here) (λ x. up_is after d x up) (λ x. not_itself d)
 
-  pub passes_on : AreHome m → (d : Dot) (k : Option Boxed) (r : SlotRef) → Passes m after (Some (d, k)) → Shows r k → PassesOn F after (Some (d, r))
+  pub passes_on : AreHome m → (d : Dot) (k : Option Boxed) (r : SlotRef)
+      → Passes m after (Some (d, k)) → Shows r k → PassesOn F after (Some (d, r))
   passes_on home d (Some b) (ref.Held f) next shows =
       let held : sets.get (held_in F) d ≡ Some b.value.1 = get_held F d ∙ ap held_slot (at m F seen d ∙ ap (option_map slot_of) next.0) in
       let first : slice_get (above (held_in F) after) 0 ≡ Some (d, b.value.1) =
@@ -112,17 +129,20 @@ module _ (m : KeptMap) (F : Slots) (seen : slots_of m ≡ F) (after : Option Dot
       two_nones : (x : Boxed) → Some None ≡ Some (Some x) → ⊥
       two_nones x e = cc
 
-      not_lower : (q : Dot) → is_lt (dot_cmp q d) ≡ false → eq_by_cmp dot_cmp q d ≡ false → is_lt (dot_cmp d q) ≡ true
+      not_lower : (q : Dot) → is_lt (dot_cmp q d) ≡ false → eq_by_cmp dot_cmp q d ≡ false
+          → is_lt (dot_cmp d q) ≡ true
       not_lower q h e = grind (arith, nat_tests)
 
-      same : (q : Dot) (c : Body) → sets.get (held_in F) q ≡ Some c → is_above after (q, c) ≡ is_above (Some d) (q, c)
+      same : (q : Dot) (c : Body) → sets.get (held_in F) q ≡ Some c
+          → is_above after (q, c) ≡ is_above (Some d) (q, c)
       same q c h =
           let x = fact_kept q c h in
           same_tests (is_above after (q, c)) (is_above (Some d) (q, c))
           (λ up. not_lower q (next.2 q x.0 (up_of after q c up) x.1) (other q x.0 x.1))
           (λ up. up_is after q c (above_trans after d next.1 q up))
         where
-          other : (q : Dot) (x : Boxed) → sets.get m q ≡ Some (Some x) → eq_by_cmp dot_cmp q d ≡ false
+          other : (q : Dot) (x : Boxed) → sets.get m q ≡ Some (Some x)
+              → eq_by_cmp dot_cmp q d ≡ false
           other q x here = elim (cases_Bool (eq_by_cmp dot_cmp q d)) [
             | inl same ↦ absurd (two_nones x (sym next.0 ∙ ap (sets.get m) (sym (tied q d same)) ∙ here))
             | inr apart ↦ apart

@@ -1,7 +1,9 @@
 -- What a search for facts that a vector does not cover may pass over. Key results:
 --   seeks_one, seeks_past, seeks_none   one step of the search
 --   enough, all_of_them                 when the search may stop
-use Rattle.std.proofs.Common.{◌≡◌, ℕ, zero, suc, ◌<◌, ◌≤◌, Bool, true, false, ◌&&◌, not, cond, nat_le, List, [], ◌∷◌, ◌++◌, map, filter, take, length, slice_get, Option, Some, None, refl, sym, ap, subst, ◌∙◌, arith}
+use Rattle.std.proofs.Common.{◌≡◌, ℕ, zero, suc, ◌<◌, ◌≤◌, Bool, true, false, ◌&&◌, not, cond}
+use Rattle.std.proofs.Common.{nat_le, List, [], ◌∷◌, ◌++◌, map, filter, take, length, slice_get}
+use Rattle.std.proofs.Common.{Option, Some, None, refl, sym, ap, subst, ◌∙◌, arith}
 use Rattle.std.proofs.Math.Seq.{take-append_seam}
 use Rattle.std.proofs.lemmas.List.{append_assoc, length-append}
 use Rattle.std.proofs.lemmas.Bool.{true≢false}
@@ -19,11 +21,14 @@ use Rattle.tk_store.specs.Seeking.{SeeksAt, GoesOn, noted}
 use Rattle.tk_store.proofs.WalkLaws.{goes_on, at_end}
 
 -- two tests that agree on the elements that a third test keeps, keep the same of them
-same_kept : {X : Type 0} (p q r : X → Bool) (es : List X) → ((x : X) → (q x && p x) ≡ (r x && p x)) → filter p (filter q es) ≡ filter p (filter r es)
+same_kept : {X : Type 0} (p q r : X → Bool) (es : List X) → ((x : X) → (q x && p x) ≡ (r x && p x))
+    → filter p (filter q es) ≡ filter p (filter r es)
 same_kept p q r [] h = refl
 same_kept p q r (e ∷ es) h = by_tests (same_kept p q r es h) (p e) (q e) (r e) refl (h e)
   where
-    by_tests : filter p (filter q es) ≡ filter p (filter r es) → (a b c : Bool) → p e ≡ a → (b && a) ≡ (c && a) → filter p (cond b (e ∷ filter q es) (filter q es)) ≡ filter p (cond c (e ∷ filter r es) (filter r es))
+    by_tests : filter p (filter q es) ≡ filter p (filter r es) → (a b c : Bool) → p e ≡ a
+        → (b && a) ≡ (c && a)
+        → filter p (cond b (e ∷ filter q es) (filter q es)) ≡ filter p (cond c (e ∷ filter r es) (filter r es))
     by_tests rest true true true is k = ap (λ t. cond t (e ∷ filter p (filter q es)) (filter p (filter q es))) is ∙ ap (λ l. e ∷ l) rest ∙ sym (ap (λ t. cond t (e ∷ filter p (filter r es)) (filter p (filter r es))) is)
     by_tests rest true true false is k = absurd (true≢false k)
     by_tests rest true false true is k = absurd (true≢false (sym k))
@@ -34,28 +39,34 @@ same_kept p q r (e ∷ es) h = by_tests (same_kept p q r es h) (p e) (q e) (r e)
     by_tests rest false false false is k = rest
 
 -- a stricter test keeps no more elements
-no_more : {X : Type 0} (p q : X → Bool) (es : List X) → ((x : X) → p x ≡ true → q x ≡ true) → length (filter p es) ≤ length (filter q es)
+no_more : {X : Type 0} (p q : X → Bool) (es : List X) → ((x : X) → p x ≡ true → q x ≡ true)
+    → length (filter p es) ≤ length (filter q es)
 no_more p q [] h = omega arith
 no_more p q (e ∷ es) h = by_tests (no_more p q es h) (p e) (q e) (h e)
   where
-    by_tests : length (filter p es) ≤ length (filter q es) → (a b : Bool) → (a ≡ true → b ≡ true) → length (cond a (e ∷ filter p es) (filter p es)) ≤ length (cond b (e ∷ filter q es) (filter q es))
+    by_tests : length (filter p es) ≤ length (filter q es) → (a b : Bool) → (a ≡ true → b ≡ true)
+        → length (cond a (e ∷ filter p es) (filter p es)) ≤ length (cond b (e ∷ filter q es) (filter q es))
     by_tests rest true true k = omega arith
     by_tests rest true false k = absurd (true≢false (sym (k refl)))
     by_tests rest false true k = omega arith
     by_tests rest false false k = rest
 
 -- a vector that covers a region up to a dot j covers all between a dot of the region and j
-covered_between : (d j x : Dot) (n : ℕ) → j.region ≡ d.region → d.serial ≤ j.serial → (x.region ≡ d.region → n ≡ j.serial)
+covered_between : (d j x : Dot) (n : ℕ) → j.region ≡ d.region → d.serial ≤ j.serial
+    → (x.region ≡ d.region → n ≡ j.serial)
     → (is_lt (dot_cmp d x) && not (nat_le x.serial n)) ≡ (is_lt (dot_cmp j x) && not (nat_le x.serial n))
 covered_between d j x n same le here = grind (arith, nat_tests)
 
-above_later : (d j x : Dot) → j.region ≡ d.region → d.serial ≤ j.serial → is_lt (dot_cmp j x) ≡ true → is_lt (dot_cmp d x) ≡ true
+above_later : (d j x : Dot) → j.region ≡ d.region → d.serial ≤ j.serial → is_lt (dot_cmp j x) ≡ true
+    → is_lt (dot_cmp d x) ≡ true
 above_later d j x same le h = grind (arith, nat_tests)
 
-beyond_serial : (v : Vector) (f : Dot × Slot) → entry v f.0.region < f.0.serial → is_beyond v f ≡ true
+beyond_serial : (v : Vector) (f : Dot × Slot) → entry v f.0.region < f.0.serial
+    → is_beyond v f ≡ true
 beyond_serial v f h = grind (arith, nat_tests)
 
-covered_serial : (v : Vector) (f : Dot × Slot) → f.0.serial ≤ entry v f.0.region → is_beyond v f ≡ false
+covered_serial : (v : Vector) (f : Dot × Slot) → f.0.serial ≤ entry v f.0.region
+    → is_beyond v f ≡ false
 covered_serial v f h = grind (arith, nat_tests)
 
 module _ (F : Slots) (v : Vector) (after : Option Dot) (f : Dot × Slot) (first : slice_get (above F after) 0 ≡ Some f) where
@@ -65,7 +76,8 @@ module _ (F : Slots) (v : Vector) (after : Option Dot) (f : Dot × Slot) (first 
   fewer : length (above F (Some f.0)) < length (above F after)
   fewer = let more = ap length went_on in omega arith
 
-  seeks_one : entry v f.0.region < f.0.serial → map dot_of (beyond F v after) ≡ f.0 ∷ map dot_of (beyond F v (Some f.0))
+  seeks_one : entry v f.0.region < f.0.serial
+      → map dot_of (beyond F v after) ≡ f.0 ∷ map dot_of (beyond F v (Some f.0))
   seeks_one free =
       ap (λ l. map dot_of (filter (is_beyond v) l)) went_on
       ∙ ap (λ t. map dot_of (cond t (f ∷ beyond F v (Some f.0)) (beyond F v (Some f.0)))) (beyond_serial v f free)
@@ -77,14 +89,16 @@ module _ (F : Slots) (v : Vector) (after : Option Dot) (f : Dot × Slot) (first 
         let more = fewer in
         omega arith
 
-    seeks_past : j.serial ≡ entry v f.0.region → map dot_of (beyond F v after) ≡ map dot_of (beyond F v (Some j))
+    seeks_past : j.serial ≡ entry v f.0.region
+        → map dot_of (beyond F v after) ≡ map dot_of (beyond F v (Some j))
     seeks_past is =
         ap (λ l. map dot_of (filter (is_beyond v) l)) went_on
         ∙ ap (λ t. map dot_of (cond t (f ∷ beyond F v (Some f.0)) (beyond F v (Some f.0)))) (covered_serial v f (omega arith))
         ∙ ap (map dot_of) (same_kept (is_beyond v) (is_above (Some f.0)) (is_above (Some j)) (sets.entries F)
         (λ x. covered_between f.0 j x.0 (entry v x.0.region) same le (λ here. ap (entry v) here ∙ sym is)))
 
-  pub seeks : (at : Dot) (is : Bool) → GoesOn v f.0 at is → SeeksAt F v after at is × (length (above F (Some at)) < length (above F after))
+  pub seeks : (at : Dot) (is : Bool) → GoesOn v f.0 at is
+      → SeeksAt F v after at is × (length (above F (Some at)) < length (above F after))
   seeks at true c = (
     subst (λ (d : Dot). map dot_of (beyond F v after) ≡ d ∷ map dot_of (beyond F v (Some d))) (sym c.0) (seeks_one c.1),
     subst (λ (d : Dot). length (above F (Some d)) < length (above F after)) (sym c.0) fewer,
@@ -95,7 +109,8 @@ module _ (F : Slots) (v : Vector) (after : Option Dot) (f : Dot × Slot) (first 
       let le : f.0.serial ≤ at.serial = omega (arith, serial, c.1) in
       (seeks_past at region le serial, fewer_past at region le)
 
-pub seeks_none : (F : Slots) (v : Vector) (after : Option Dot) → slice_get (above F after) 0 ≡ None → map dot_of (beyond F v after) ≡ []
+pub seeks_none : (F : Slots) (v : Vector) (after : Option Dot) → slice_get (above F after) 0 ≡ None
+    → map dot_of (beyond F v after) ≡ []
 seeks_none F v after h = ap (λ l. map dot_of (filter (is_beyond v) l)) (at_end F after h)
 
 -- ---- one step of the search
@@ -105,10 +120,12 @@ pub record Found (F : Slots) (v : Vector) (limit : ℕ) (found : List Dot) (plac
   pub whole : found ++ map dot_of (beyond F v place) ≡ all
   pub low : length found ≤ limit
 
-pub found_none : (F : Slots) (v : Vector) (limit : ℕ) (found : List Dot) (place : Option Dot) → found ≡ [] → Found F v limit found place (map dot_of (beyond F v place))
+pub found_none : (F : Slots) (v : Vector) (limit : ℕ) (found : List Dot) (place : Option Dot)
+    → found ≡ [] → Found F v limit found place (map dot_of (beyond F v place))
 found_none F v limit found place none = record { whole = ap (λ l. l ++ map dot_of (beyond F v place)) none; low = omega (arith, ap length none) }
 
-pub found_more : (F : Slots) (v : Vector) (limit : ℕ) (found more : List Dot) (place : Option Dot) (all : List Dot) (at : Dot) (is : Bool) → Found F v limit found place all → length found < limit
+pub found_more : (F : Slots) (v : Vector) (limit : ℕ) (found more : List Dot) (place : Option Dot) (all : List Dot) (at : Dot) (is : Bool)
+    → Found F v limit found place all → length found < limit
     → SeeksAt F v place at is → more ≡ noted found at is → Found F v limit more (Some at) all
 found_more F v limit found more place all at true f low seeks is = record {
   whole = ap (λ l. l ++ map dot_of (beyond F v (Some at))) is ∙ append_assoc found (at ∷ []) (map dot_of (beyond F v (Some at))) ∙ ap (λ l. found ++ l) (sym seeks) ∙ f.whole;
@@ -121,7 +138,8 @@ found_more F v limit found more place all at false f low seeks is = record {
 
 -- ---- the end of the search
 
-pub enough : {X : Type 0} (found rest all : List X) (limit : ℕ) → found ++ rest ≡ all → length found ≤ limit → limit ≤ length found → found ≡ take limit all
+pub enough : {X : Type 0} (found rest all : List X) (limit : ℕ) → found ++ rest ≡ all
+    → length found ≤ limit → limit ≤ length found → found ≡ take limit all
 enough found rest all limit is low high =
     let same : length found ≡ limit = omega arith in
     sym (take-append_seam found rest) ∙ ap (λ n. take n (found ++ rest)) same ∙ ap (take limit) is
@@ -136,5 +154,6 @@ append_none : {X : Type 0} (xs : List X) → xs ++ [] ≡ xs
 append_none [] = refl
 append_none (x ∷ xs) = ap (λ l. x ∷ l) (append_none xs)
 
-pub all_of_them : {X : Type 0} (found rest all : List X) (limit : ℕ) → found ++ rest ≡ all → rest ≡ [] → length found ≤ limit → found ≡ take limit all
+pub all_of_them : {X : Type 0} (found rest all : List X) (limit : ℕ) → found ++ rest ≡ all
+    → rest ≡ [] → length found ≤ limit → found ≡ take limit all
 all_of_them found rest all limit is none low = sym (take_past found limit low) ∙ ap (take limit) (sym (append_none found) ∙ ap (λ l. found ++ l) (sym none) ∙ is)

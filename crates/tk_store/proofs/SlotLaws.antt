@@ -3,54 +3,46 @@
 --   held_put, held_skip, held_taken   what is held after a slot was put or taken
 --   held_most                         no more facts are held than slots are known
 --   held_none                         no slots
-use Rattle.std.proofs.Common.{◌≡◌, ◌+◌, ◌-◌, ◌≤◌, Bool, true, false, cond, ◌&&◌, T, List, [], ◌∷◌, length, Option, Some, None, is_some, refl, sym, ap, subst, ◌∙◌, arith}
+use Rattle.std.proofs.Common.{◌≡◌, ◌+◌, ◌-◌, ◌≤◌, Bool, true, false, cond, T, List, [], ◌∷◌, length}
+use Rattle.std.proofs.Common.{Option, Some, None, is_some, refl, sym, ap, subst, ◌∙◌, arith}
 use Rattle.std.proofs.lemmas.Bool.{true≢false}
 use Rattle.std.proofs.lemmas.Cmp.{tied_itself}
 use Rattle.std.specs.Ordering.{eq_by_cmp, is_eq, is_lt}
-use Rattle.std.specs.declared.cmp.Ordering.{Ordering}
-use Rattle.std.specs.declared.cmp.Ordering.TheVariants.{Less, Equal, Greater}
 use Rattle.std.specs.FinMap as map
 use Rattle.std.specs.FinMap.Entries.{below_all}
 use Rattle.tk_handle.specs.declared.dot.Dot.{Dot}
 use Rattle.tk_handle.specs.Dot.{dot_cmp, dot_cmp_total, dot_cmp-IsAntisymmetric}
 use Rattle.tk_fact.specs.declared.body.Body.{Body}
-use Rattle.tk_store.specs.Slots.{Slot, Slots, Held, Skipped, held_slot, is_skipped_slot, is_skipped, held_entries, held_in, without_fact}
+use Rattle.tk_store.specs.Slots.{Slot, Slots, Held, Skipped, held_slot, is_skipped_slot, is_skipped}
+use Rattle.tk_store.specs.Slots.{held_entries, held_in, without_fact}
 use Rattle.tk_store.proofs.FactSetLaws.{tied}
-use Rattle.tk_store.proofs.PutLaws.{none_is_not_some}
-
-both : (a b : Bool) → T (a && b) → T a × T b
-both true b h = (tt, h)
-both false b h = absurd h
-
-and : (a b : Bool) → T a → T b → T (a && b)
-and true b p q = q
-and false b p q = p
+use Rattle.tk_handle.proofs.TestLaws.{and, both, not_tied as not_equal}
+use Rattle.std.proofs.lemmas.Option.{none-some as none_is_not_some}
 
 -- ---- the list of what is held
 
-below_held : (d : Dot) (es : List (Dot × Slot)) → T (below_all dot_cmp d es) → T (below_all dot_cmp d (held_entries es))
+below_held : (d : Dot) (es : List (Dot × Slot)) → T (below_all dot_cmp d es)
+    → T (below_all dot_cmp d (held_entries es))
 below_held d [] low = tt
 below_held d ((e, Held b) ∷ es) low = (let l = both _ _ low in and (is_lt (dot_cmp d e)) _ l.0 (below_held d es l.1))
 below_held d ((e, Skipped) ∷ es) low = below_held d es (both _ _ low).1
 
-pub sorted_held : (es : List (Dot × Slot)) → T (map.is_sorted dot_cmp es) → T (map.is_sorted dot_cmp (held_entries es))
+pub sorted_held : (es : List (Dot × Slot)) → T (map.is_sorted dot_cmp es)
+    → T (map.is_sorted dot_cmp (held_entries es))
 sorted_held [] s = tt
 sorted_held ((e, Held b) ∷ es) s = (let l = both _ _ s in and (below_all dot_cmp e (held_entries es)) _ (below_held e es l.0) (sorted_held es l.1))
 sorted_held ((e, Skipped) ∷ es) s = sorted_held es (both _ _ s).1
 
-not_equal : (o : Ordering) → T (is_lt o) → is_eq o ≡ false
-not_equal Less h = refl
-not_equal Equal h = absurd h
-not_equal Greater h = refl
-
 -- a dot below a list is not found in it
-pub absent_below : {X : Type 0} (d : Dot) (es : List (Dot × X)) → T (below_all dot_cmp d es) → map.find dot_cmp d es ≡ None
+pub absent_below : {X : Type 0} (d : Dot) (es : List (Dot × X)) → T (below_all dot_cmp d es)
+    → map.find dot_cmp d es ≡ None
 absent_below d [] low = refl
 absent_below d (e ∷ es) low =
     let l = both _ _ low in
     ap (λ t. cond t (Some e.1) (map.find dot_cmp d es)) (not_equal (dot_cmp d e.0) l.0) ∙ absent_below d es l.1
 
-pub find_held : (q : Dot) (es : List (Dot × Slot)) → T (map.is_sorted dot_cmp es) → map.find dot_cmp q (held_entries es) ≡ held_slot (map.find dot_cmp q es)
+pub find_held : (q : Dot) (es : List (Dot × Slot)) → T (map.is_sorted dot_cmp es)
+    → map.find dot_cmp q (held_entries es) ≡ held_slot (map.find dot_cmp q es)
 find_held q [] s = refl
 find_held q ((e, Held b) ∷ es) s =
     elim (eq_by_cmp dot_cmp q e) as (λ t. cond t (Some b) (map.find dot_cmp q (held_entries es)) ≡ held_slot (cond t (Some (Held b)) (map.find dot_cmp q es))) [
@@ -86,7 +78,8 @@ held_most S =
 
 -- ---- slots put and taken
 
-slot_if : (t : Bool) (s : Slot) (o : Option Slot) → held_slot (cond t (Some s) o) ≡ cond t (held_slot (Some s)) (held_slot o)
+slot_if : (t : Bool) (s : Slot) (o : Option Slot)
+    → held_slot (cond t (Some s) o) ≡ cond t (held_slot (Some s)) (held_slot o)
 slot_if true s o = refl
 slot_if false s o = refl
 
@@ -94,7 +87,8 @@ none_if : (t : Bool) (o : Option Slot) → held_slot (cond t None o) ≡ cond t 
 none_if true o = refl
 none_if false o = refl
 
-pub held_put : (S : Slots) (d : Dot) (b : Body) → held_in (map.insert S d (Held b)) ≡ map.insert (held_in S) d b
+pub held_put : (S : Slots) (d : Dot) (b : Body)
+    → held_in (map.insert S d (Held b)) ≡ map.insert (held_in S) d b
 held_put S d b = map.same_map dot_cmp_total dot_cmp-IsAntisymmetric _ _ (λ q.
     get_held (map.insert S d (Held b)) q
     ∙ ap held_slot (map.get-insert dot_cmp_total S d (Held b) q)
@@ -119,7 +113,8 @@ held_taken S d = map.same_map dot_cmp_total dot_cmp-IsAntisymmetric _ _ (λ q.
     ∙ sym (map.get-remove dot_cmp_total (held_in S) d q))
 
 -- removing at a free dot changes nothing
-pub remove_free : {X : Type 0} (F : map.FinMap dot_cmp X) (d : Dot) → map.get F d ≡ None → map.remove F d ≡ F
+pub remove_free : {X : Type 0} (F : map.FinMap dot_cmp X) (d : Dot) → map.get F d ≡ None
+    → map.remove F d ≡ F
 remove_free F d free = map.same_map dot_cmp_total dot_cmp-IsAntisymmetric _ _ (λ q.
     map.get-remove dot_cmp_total F d q
     ∙ elim (eq_by_cmp dot_cmp q d) as (λ t. eq_by_cmp dot_cmp q d ≡ t → cond t None (map.get F q) ≡ map.get F q) [
@@ -127,7 +122,8 @@ remove_free F d free = map.same_map dot_cmp_total dot_cmp-IsAntisymmetric _ _ (�
       | false ↦ λ _. refl
     ] refl)
 
-pub len_less : {X : Type 0} (F : map.FinMap dot_cmp X) (d : Dot) (x : X) → map.get F d ≡ Some x → map.len (map.remove F d) + 1 ≡ map.len F
+pub len_less : {X : Type 0} (F : map.FinMap dot_cmp X) (d : Dot) (x : X) → map.get F d ≡ Some x
+    → map.len (map.remove F d) + 1 ≡ map.len F
 len_less F d x there =
     let less : map.len (map.remove F d) ≡ map.len F - 1 = map.len-remove dot_cmp_total F d ∙ ap (λ o. cond (is_some o) (map.len F - 1) (map.len F)) there in
     let again : map.insert (map.remove F d) d x ≡ F = map.same_map dot_cmp_total dot_cmp-IsAntisymmetric _ _ (λ q.
@@ -145,10 +141,12 @@ held_none S none = map.same_map dot_cmp_total dot_cmp-IsAntisymmetric _ _ (λ q.
     get_held S q ∙ ap held_slot (ap (λ (R : Slots). map.get R q) none ∙ map.get-empty dot_cmp q) ∙ sym (map.get-empty dot_cmp q))
 
 -- the fact at a dot is taken out
-pub held_without : (S : Slots) (d : Dot) → held_in (without_fact S d (map.get S d)) ≡ map.remove (held_in S) d
+pub held_without : (S : Slots) (d : Dot)
+    → held_in (without_fact S d (map.get S d)) ≡ map.remove (held_in S) d
 held_without S d = by_slot (map.get S d) refl
   where
-    by_slot : (o : Option Slot) → map.get S d ≡ o → held_in (without_fact S d o) ≡ map.remove (held_in S) d
+    by_slot : (o : Option Slot) → map.get S d ≡ o
+        → held_in (without_fact S d o) ≡ map.remove (held_in S) d
     by_slot None at = held_taken S d
     by_slot (Some (Held b)) at = held_taken S d
     by_slot (Some Skipped) at = sym (remove_free (held_in S) d (get_held S d ∙ ap held_slot at))
@@ -160,14 +158,16 @@ marked_is None h = absurd (true≢false (sym h))
 marked_is (Some (Held b)) h = absurd (true≢false (sym h))
 marked_is (Some Skipped) h = refl
 
-pub without_unmarked : (S : Slots) (d : Dot) (o : Option Slot) → is_skipped_slot o ≡ false → without_fact S d o ≡ map.remove S d
+pub without_unmarked : (S : Slots) (d : Dot) (o : Option Slot) → is_skipped_slot o ≡ false
+    → without_fact S d o ≡ map.remove S d
 without_unmarked S d None h = refl
 without_unmarked S d (Some (Held b)) h = refl
 without_unmarked S d (Some Skipped) h = absurd (true≢false h)
 
 -- ---- slots none of which is a mark
 
-whole_slot : (o : Option Slot) (b : Body) → is_skipped_slot o ≡ false → held_slot o ≡ Some b → o ≡ Some (Held b)
+whole_slot : (o : Option Slot) (b : Body) → is_skipped_slot o ≡ false → held_slot o ≡ Some b
+    → o ≡ Some (Held b)
 whole_slot None b h k = absurd (none_is_not_some b k)
 whole_slot (Some (Held c)) b h k = ap (λ (x : Option Body). cond (is_some x) (whole x) (Some Skipped)) k
   where
@@ -182,8 +182,10 @@ whole_none (Some (Held c)) h k = absurd (none_is_not_some c (sym k))
 whole_none (Some Skipped) h k = absurd (true≢false h)
 
 -- the slot at a dot, among slots without marks
-pub whole_held : (S : Slots) (d : Dot) (b : Body) → is_skipped S d ≡ false → map.get (held_in S) d ≡ Some b → map.get S d ≡ Some (Held b)
+pub whole_held : (S : Slots) (d : Dot) (b : Body) → is_skipped S d ≡ false
+    → map.get (held_in S) d ≡ Some b → map.get S d ≡ Some (Held b)
 whole_held S d b whole at = whole_slot (map.get S d) b whole (sym (get_held S d) ∙ at)
 
-pub whole_free : (S : Slots) (d : Dot) → is_skipped S d ≡ false → map.get (held_in S) d ≡ None → map.get S d ≡ None
+pub whole_free : (S : Slots) (d : Dot) → is_skipped S d ≡ false → map.get (held_in S) d ≡ None
+    → map.get S d ≡ None
 whole_free S d whole at = whole_none (map.get S d) whole (sym (get_held S d) ∙ at)

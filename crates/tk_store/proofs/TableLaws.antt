@@ -6,14 +6,14 @@
 --   table_put, table_marked, table_skipped, table_taken   the table stays one
 --   walks_on, walks_out           one step of a walk
 --   last_serial_is                the greatest serial of a region
-use Rattle.std.proofs.Common.{◌≡◌, ℕ, ◌+◌, ◌-◌, ◌<◌, ◌≤◌, Bool, true, false, cond, ◌&&◌, T, List, [], ◌∷◌, filter, map, length, Option, Some, None, IsSome, is_some, option_map, slice_get, refl, sym, ap, subst, ◌∙◌, inl, inr, arith}
-use mathlib.Core.Bool.{false≢true}
-use Rattle.std.proofs.lemmas.Bool.{cases_Bool, cond-true, cond-false, cases_lt}
+use Rattle.std.proofs.Common.{◌≡◌, ℕ, ◌+◌, ◌-◌, ◌<◌, ◌≤◌, Bool, true, false, cond, ◌&&◌, T, List}
+use Rattle.std.proofs.Common.{[], ◌∷◌, filter, map, length, Option, Some, None, IsSome, is_some}
+use Rattle.std.proofs.Common.{option_map, slice_get, refl, sym, ap, subst, ◌∙◌, inl, inr, arith}
+use Rattle.std.proofs.lemmas.Bool.{false≢true, cases_Bool, cond-true, cond-false, cases_lt}
 use Rattle.std.proofs.lemmas.List.{length-map}
 use Rattle.std.proofs.lemmas.Cmp.{tied_itself}
 use Rattle.std.specs.Ordering.{eq_by_cmp, is_eq, is_lt, ordering_reverse}
-use Rattle.std.specs.declared.cmp.Ordering.{Ordering}
-use Rattle.std.specs.declared.cmp.Ordering.TheVariants.{Less, Equal, Greater}
+use Rattle.std.proofs.Common.{Ordering, Less, Equal, Greater}
 use Rattle.std.specs.FinMap as sets
 use Rattle.std.specs.FinMap.{find}
 use Rattle.std.specs.FinMap.Entries.{below_all}
@@ -32,32 +32,30 @@ use Rattle.tk_store.specs.Walk.{is_above, above}
 use Rattle.tk_store.proofs.EntryLaws.{AllIn-entries}
 use Rattle.tk_store.proofs.FactSetLaws.{tied}
 use Rattle.tk_store.proofs.NextDotLaws.{at_most, at_most_last_serial}
-use Rattle.tk_store.proofs.PutLaws.{some_injective, none_is_not_some, len_new}
+use Rattle.tk_store.proofs.PutLaws.{len_new}
 use Rattle.tk_store.proofs.WalkLaws.{goes_on, at_end}
-use Rattle.tk_store.proofs.SlotLaws.{get_held, held_put, held_skip, held_taken, held_most, held_none, remove_free, len_less}
-
-both : (a b : Bool) → T (a && b) → T a × T b
-both true b h = (tt, h)
-both false b h = absurd h
-
-is_true : (b : Bool) → T b → b ≡ true
-is_true true h = refl
-is_true false h = absurd h
+use Rattle.tk_store.proofs.SlotLaws.{get_held, held_put, held_skip, held_taken, held_most}
+use Rattle.tk_store.proofs.SlotLaws.{held_none, remove_free, len_less}
+use Rattle.tk_handle.proofs.TestLaws.{both, is_true}
+use Rattle.std.proofs.lemmas.Option.{none-some as none_is_not_some, same_Some as some_injective}
 
 -- ---- the slots of a table
 
 abbrev said : Dot × Option Boxed → Dot × Slot
 said e = (e.0, slot_of e.1)
 
-below_said : (d : Dot) (es : List (Dot × (Option Boxed))) → below_all dot_cmp d (map said es) ≡ below_all dot_cmp d es
+below_said : (d : Dot) (es : List (Dot × (Option Boxed)))
+    → below_all dot_cmp d (map said es) ≡ below_all dot_cmp d es
 below_said d [] = refl
 below_said d (e ∷ es) = ap (λ b. is_lt (dot_cmp d e.0) && b) (below_said d es)
 
-sorted_said : (es : List (Dot × (Option Boxed))) → sets.is_sorted dot_cmp (map said es) ≡ sets.is_sorted dot_cmp es
+sorted_said : (es : List (Dot × (Option Boxed)))
+    → sets.is_sorted dot_cmp (map said es) ≡ sets.is_sorted dot_cmp es
 sorted_said [] = refl
 sorted_said (e ∷ es) = ap (λ b. b && sets.is_sorted dot_cmp (map said es)) (below_said e.0 es) ∙ ap (λ b. below_all dot_cmp e.0 es && b) (sorted_said es)
 
-find_said : (q : Dot) (es : List (Dot × (Option Boxed))) → find dot_cmp q (map said es) ≡ option_map slot_of (find dot_cmp q es)
+find_said : (q : Dot) (es : List (Dot × (Option Boxed)))
+    → find dot_cmp q (map said es) ≡ option_map slot_of (find dot_cmp q es)
 find_said q [] = refl
 find_said q (e ∷ es) =
     elim (eq_by_cmp dot_cmp q e.0) as (λ t. cond t (Some (slot_of e.1)) (find dot_cmp q (map said es)) ≡ option_map slot_of (cond t (Some e.1) (find dot_cmp q es))) [
@@ -68,7 +66,8 @@ find_said q (e ∷ es) =
 entries_said : (m : KeptMap) → sets.entries (slots_of m) ≡ map said (sets.entries m)
 entries_said m = sets.entries-from_sorted dot_cmp _ (subst T (sym (sorted_said (sets.entries m))) (sets.entries_sorted m))
 
-pub get_slots : (m : KeptMap) (q : Dot) → sets.get (slots_of m) q ≡ option_map slot_of (sets.get m q)
+pub get_slots : (m : KeptMap) (q : Dot)
+    → sets.get (slots_of m) q ≡ option_map slot_of (sets.get m q)
 get_slots m q = sets.get-entries (slots_of m) q ∙ ap (find dot_cmp q) (entries_said m) ∙ find_said q (sets.entries m) ∙ ap (option_map slot_of) (sym (sets.get-entries m q))
 
 pub slots_none : (m : KeptMap) → m ≡ sets.empty → slots_of m ≡ sets.empty
@@ -99,13 +98,15 @@ module _ (m : KeptMap) (F : Slots) (seen : slots_of m ≡ F) where
       by_kept (Some k) h = absurd (none_is_not_some (slot_of k) (sym h))
 
   -- what a look-up returns is the slot at the dot
-  pub shown_kept : AreHome m → (d : Dot) (r : SlotRef) (k : Option Boxed) → sets.get m d ≡ Some k → Shows r k → (Some (slot_of k) ≡ Some (shown_slot r)) × HasDot d r
+  pub shown_kept : AreHome m → (d : Dot) (r : SlotRef) (k : Option Boxed) → sets.get m d ≡ Some k
+      → Shows r k → (Some (slot_of k) ≡ Some (shown_slot r)) × HasDot d r
   shown_kept home d (ref.Held f) (Some b) here shows = (ap (λ (x : Dot × Body). Some (Held x.1)) (sym shows), ap (λ (x : Dot × Body). x.0) shows ∙ home d b here)
   shown_kept home d (ref.Held f) None here shows = absurd shows
   shown_kept home d ref.Skipped (Some b) here shows = absurd shows
   shown_kept home d ref.Skipped None here shows = (refl, tt)
 
-  pub shown : AreHome m → (d : Dot) (r : SlotRef) (k : Option Boxed) → sets.get m d ≡ Some k → Shows r k → IsShown d (Some r) (sets.get F d)
+  pub shown : AreHome m → (d : Dot) (r : SlotRef) (k : Option Boxed) → sets.get m d ≡ Some k
+      → Shows r k → IsShown d (Some r) (sets.get F d)
   shown home d r k here shows = (let s = shown_kept home d r k here shows in (at d ∙ ap (option_map slot_of) here ∙ s.0, s.1))
 
   pub shown_none : (d : Dot) → sets.get m d ≡ None → sets.get F d ≡ None
@@ -114,16 +115,21 @@ module _ (m : KeptMap) (F : Slots) (seen : slots_of m ≡ F) where
   -- ---- putting and taking out
 
   module _ (n : KeptMap) (d : Dot) where
-    pub put_slots : (k : Option Boxed) → ((q : Dot) → sets.get n q ≡ cond (eq_by_cmp dot_cmp q d) (Some k) (sets.get m q)) → slots_of n ≡ sets.insert F d (slot_of k)
+    pub put_slots : (k : Option Boxed)
+        → ((q : Dot) → sets.get n q ≡ cond (eq_by_cmp dot_cmp q d) (Some k) (sets.get m q))
+        → slots_of n ≡ sets.insert F d (slot_of k)
     put_slots k is = sets.same_map dot_cmp_total dot_cmp-IsAntisymmetric _ _ (λ q.
         get_slots n q ∙ ap (option_map slot_of) (is q)
         ∙ mapped (eq_by_cmp dot_cmp q d) (Some k) (sets.get m q) ∙ ap (cond (eq_by_cmp dot_cmp q d) (Some (slot_of k))) (sym (at q)) ∙ sym (sets.get-insert dot_cmp_total F d (slot_of k) q))
       where
-        mapped : (t : Bool) (o p : Option (Option Boxed)) → option_map slot_of (cond t o p) ≡ cond t (option_map slot_of o) (option_map slot_of p)
+        mapped : (t : Bool) (o p : Option (Option Boxed))
+            → option_map slot_of (cond t o p) ≡ cond t (option_map slot_of o) (option_map slot_of p)
         mapped true o p = refl
         mapped false o p = refl
 
-    pub put_home : (k : Option Boxed) → ((q : Dot) → sets.get n q ≡ cond (eq_by_cmp dot_cmp q d) (Some k) (sets.get m q)) → ((b : Boxed) → k ≡ Some b → b.value.0 ≡ d) → AreHome m → AreHome n
+    pub put_home : (k : Option Boxed)
+        → ((q : Dot) → sets.get n q ≡ cond (eq_by_cmp dot_cmp q d) (Some k) (sets.get m q))
+        → ((b : Boxed) → k ≡ Some b → b.value.0 ≡ d) → AreHome m → AreHome n
     put_home k is here home q c h = elim (cases_Bool (eq_by_cmp dot_cmp q d)) [
       | inl same ↦
           let e : k ≡ Some c = some_injective k (Some c) (sym (is q ∙ cond-true _ _ _ same) ∙ h) in
@@ -136,7 +142,8 @@ module _ (m : KeptMap) (F : Slots) (seen : slots_of m ≡ F) where
         get_slots n q ∙ ap (option_map slot_of) (ap (λ (x : KeptMap). sets.get x q) is ∙ sets.get-remove dot_cmp_total m d q)
         ∙ mapped (eq_by_cmp dot_cmp q d) (sets.get m q) ∙ ap (cond (eq_by_cmp dot_cmp q d) None) (sym (at q)) ∙ sym (sets.get-remove dot_cmp_total F d q))
       where
-        mapped : (t : Bool) (p : Option (Option Boxed)) → option_map slot_of (cond t None p) ≡ cond t None (option_map slot_of p)
+        mapped : (t : Bool) (p : Option (Option Boxed))
+            → option_map slot_of (cond t None p) ≡ cond t None (option_map slot_of p)
         mapped true p = refl
         mapped false p = refl
 
@@ -158,7 +165,8 @@ held_known None h = h
 held_known (Some s) h = refl
 
 -- a value is written over another
-pub set_over : (m n : KeptMap) (d : Dot) (k : Option Boxed) → IsSome (sets.get m d) → ((q : Dot) → sets.get n q ≡ cond (eq_by_cmp dot_cmp q d) (option_map (λ _. k) (sets.get m q)) (sets.get m q))
+pub set_over : (m n : KeptMap) (d : Dot) (k : Option Boxed) → IsSome (sets.get m d)
+    → ((q : Dot) → sets.get n q ≡ cond (eq_by_cmp dot_cmp q d) (option_map (λ _. k) (sets.get m q)) (sets.get m q))
     → (q : Dot) → sets.get n q ≡ cond (eq_by_cmp dot_cmp q d) (Some k) (sets.get m q)
 set_over m n d k there is q =
     is q ∙ elim (eq_by_cmp dot_cmp q d) as (λ t. eq_by_cmp dot_cmp q d ≡ t → cond t (option_map (λ _. k) (sets.get m q)) (sets.get m q) ≡ cond t (Some k) (sets.get m q)) [
@@ -170,7 +178,8 @@ set_over m n d k there is q =
     over None h = absurd (false≢true h)
     over (Some x) h = refl
 
-pub inserted : (m n : KeptMap) (d : Dot) (k : Option Boxed) → n ≡ sets.insert m d k → (q : Dot) → sets.get n q ≡ cond (eq_by_cmp dot_cmp q d) (Some k) (sets.get m q)
+pub inserted : (m n : KeptMap) (d : Dot) (k : Option Boxed) → n ≡ sets.insert m d k → (q : Dot)
+    → sets.get n q ≡ cond (eq_by_cmp dot_cmp q d) (Some k) (sets.get m q)
 inserted m n d k is q = ap (λ (x : KeptMap). sets.get x q) is ∙ sets.get-insert dot_cmp_total m d k q
 
 pub table_none : (m : KeptMap) → m ≡ sets.empty → IsTable m 0
@@ -191,7 +200,8 @@ module _ (m : KeptMap) (held : ℕ) (table : IsTable m held) (F : Slots) (seen :
       omega (arith, most, as_many, count)
 
   module _ (n : KeptMap) (d : Dot) where
-    pub table_put : (b : Boxed) → sets.get F d ≡ None → n ≡ sets.insert m d (Some b) → b.value.0 ≡ d → IsTable n (held + 1)
+    pub table_put : (b : Boxed) → sets.get F d ≡ None → n ≡ sets.insert m d (Some b) → b.value.0 ≡ d
+        → IsTable n (held + 1)
     table_put b free is home = record {
       home = put_home m F seen n d (Some b) (inserted m n d (Some b) is) (λ c e. ap (λ (k : Option Boxed). dot_of k d) (sym e) ∙ home) table.home;
       counted = ap (λ (k : ℕ). k + 1) count ∙ sym (ap (λ (s : Slots). sets.len (held_in s)) (put_slots m F seen n d (Some b) (inserted m n d (Some b) is)) ∙ ap (λ (f : sets.FinMap dot_cmp Body). sets.len f) (held_put F d b.value.1)
@@ -211,7 +221,9 @@ module _ (m : KeptMap) (held : ℕ) (table : IsTable m held) (F : Slots) (seen :
         no_fact : (c : Boxed) → None ≡ Some c → ⊥
         no_fact c e = cc
 
-    pub table_skipped : (x : Body) → held_slot (sets.get F d) ≡ Some x → ((q : Dot) → sets.get n q ≡ cond (eq_by_cmp dot_cmp q d) (Some None) (sets.get m q)) → IsTable n (held - 1)
+    pub table_skipped : (x : Body) → held_slot (sets.get F d) ≡ Some x
+        → ((q : Dot) → sets.get n q ≡ cond (eq_by_cmp dot_cmp q d) (Some None) (sets.get m q))
+        → IsTable n (held - 1)
     table_skipped x there is = record {
       home = put_home m F seen n d None is (λ c e. absurd (no_fact c e)) table.home;
       counted =
@@ -223,7 +235,8 @@ module _ (m : KeptMap) (held : ℕ) (table : IsTable m held) (F : Slots) (seen :
         no_fact : (c : Boxed) → None ≡ Some c → ⊥
         no_fact c e = cc
 
-    pub table_taken : (x : Body) → held_slot (sets.get F d) ≡ Some x → n ≡ sets.remove m d → IsTable n (held - 1)
+    pub table_taken : (x : Body) → held_slot (sets.get F d) ≡ Some x → n ≡ sets.remove m d
+        → IsTable n (held - 1)
     table_taken x there is = record {
       home = taken_home m F seen n d is table.home;
       counted =
@@ -238,15 +251,18 @@ module _ (m : KeptMap) (held : ℕ) (table : IsTable m held) (F : Slots) (seen :
 
 -- ---- taking out
 
-pub value_some : {A : Type 0} (o : Option (Option A)) (x : A) → value_of o ≡ Some x → o ≡ Some (Some x)
+pub value_some : {A : Type 0} (o : Option (Option A)) (x : A) → value_of o ≡ Some x
+    → o ≡ Some (Some x)
 value_some None x h = absurd (none_is_not_some x h)
 value_some (Some None) x h = absurd (none_is_not_some x h)
 value_some (Some (Some y)) x h = ap (λ o. Some o) h
 
-pub taken_value : (m n : KeptMap) (d : Dot) (b : Boxed) → sets.get m d ≡ Some (Some b) → n ≡ without_value m d (sets.get m d) → n ≡ sets.remove m d
+pub taken_value : (m n : KeptMap) (d : Dot) (b : Boxed) → sets.get m d ≡ Some (Some b)
+    → n ≡ without_value m d (sets.get m d) → n ≡ sets.remove m d
 taken_value m n d b kept rest = rest ∙ ap (without_value m d) kept
 
-pub no_value_left : (m n : KeptMap) (d : Dot) (o : Option (Option Boxed)) → value_of o ≡ None → n ≡ without_value m d o → n ≡ m
+pub no_value_left : (m n : KeptMap) (d : Dot) (o : Option (Option Boxed)) → value_of o ≡ None
+    → n ≡ without_value m d o → n ≡ m
 no_value_left m n d None h rest = rest
 no_value_left m n d (Some None) h rest = rest
 no_value_left m n d (Some (Some b)) h rest = absurd (none_is_not_some b (sym h))
@@ -260,7 +276,8 @@ removed_none F d none = sets.same_map dot_cmp_total dot_cmp-IsAntisymmetric _ _ 
       | inr apart ↦ sym (cond-false _ _ _ apart)
     ]
 
-pub no_fact_left : (m : KeptMap) (F : Slots) → slots_of m ≡ F → (d : Dot) (o : Option (Option Boxed)) → sets.get m d ≡ o → value_of o ≡ None
+pub no_fact_left : (m : KeptMap) (F : Slots) → slots_of m ≡ F
+    → (d : Dot) (o : Option (Option Boxed)) → sets.get m d ≡ o → value_of o ≡ None
     → (◌≡◌ {A = Option (Dot × Body)} None (option_map (λ (b : Body). (d, b)) (held_slot (sets.get F d)))) × (F ≡ without_fact F d (sets.get F d))
 no_fact_left m F seen d None here h =
     let free : sets.get F d ≡ None = at m F seen d ∙ ap (option_map slot_of) here in
@@ -274,7 +291,8 @@ no_fact_left m F seen d (Some (Some b)) here h = absurd (none_is_not_some b (sym
 
 module _ {X : Type 0} where
   -- each element of a list is above a dot that is below the list
-  pub below_found : (k : Dot) (es : List (Dot × X)) (q : Dot) (c : X) → T (below_all dot_cmp k es) → find dot_cmp q es ≡ Some c → is_lt (dot_cmp k q) ≡ true
+  pub below_found : (k : Dot) (es : List (Dot × X)) (q : Dot) (c : X) → T (below_all dot_cmp k es)
+      → find dot_cmp q es ≡ Some c → is_lt (dot_cmp k q) ≡ true
   below_found k [] q c low h = absurd (none_is_not_some c h)
   below_found k (e ∷ es) q c low h =
       let l = both _ _ low in
@@ -284,7 +302,8 @@ module _ {X : Type 0} where
       ]
 
   -- no element of the list is left out
-  pub found_past : (e : Dot × X) (es : List (Dot × X)) (q : Dot) (c : X) → T (below_all dot_cmp e.0 es) → find dot_cmp q es ≡ Some c → find dot_cmp q (e ∷ es) ≡ Some c
+  pub found_past : (e : Dot × X) (es : List (Dot × X)) (q : Dot) (c : X)
+      → T (below_all dot_cmp e.0 es) → find dot_cmp q es ≡ Some c → find dot_cmp q (e ∷ es) ≡ Some c
   found_past e es q c low h = cond-false _ _ _ (apart (dot_cmp e.0 q) (dot_cmp q e.0) (dot_cmp_total.antisymm q e.0) (below_found e.0 es q c low h)) ∙ h
     where
       apart : (o p : Ordering) → p ≡ ordering_reverse o → is_lt o ≡ true → is_eq p ≡ false
@@ -292,7 +311,8 @@ module _ {X : Type 0} where
       apart Equal p e h = absurd (false≢true h)
       apart Greater p e h = absurd (false≢true h)
 
-  pub first_in : (a : Option Dot) (es : List (Dot × X)) (d : Dot) (b : X) → T (sets.is_sorted dot_cmp es) → find dot_cmp d es ≡ Some b → is_above a (d, b) ≡ true
+  pub first_in : (a : Option Dot) (es : List (Dot × X)) (d : Dot) (b : X)
+      → T (sets.is_sorted dot_cmp es) → find dot_cmp d es ≡ Some b → is_above a (d, b) ≡ true
       → ((q : Dot) (c : X) → find dot_cmp q es ≡ Some c → is_above a (q, c) ≡ true → is_lt (dot_cmp q d) ≡ false) → slice_get (filter (is_above a) es) 0 ≡ Some (d, b)
   first_in a [] d b s here up least = absurd (none_is_not_some b here)
   first_in a (e ∷ es) d b s here up least =
@@ -312,14 +332,17 @@ module _ {X : Type 0} where
             ]
       ]
     where
-      moved : (a : Option Dot) (e : Dot × X) (d : Dot) (b : X) → d ≡ e.0 → e.1 ≡ b → is_above a (d, b) ≡ true → is_above a e ≡ true
+      moved : (a : Option Dot) (e : Dot × X) (d : Dot) (b : X) → d ≡ e.0 → e.1 ≡ b
+          → is_above a (d, b) ≡ true → is_above a e ≡ true
       moved None e d b i j up = refl
       moved (Some x) e d b i j up = ap (λ (y : Dot). is_lt (dot_cmp x y)) (sym i) ∙ up
 
       pair : (x : Dot) (y : X) (d : Dot) (b : X) → d ≡ x → y ≡ b → ◌≡◌ {A = Dot × X} (x, y) (d, b)
       pair x y d b i j = ap (λ (z : Dot). (z, y)) (sym i) ∙ ap (λ (z : X). (d, z)) j
 
-  pub none_in : (a : Option Dot) (es : List (Dot × X)) → T (sets.is_sorted dot_cmp es) → ((q : Dot) (c : X) → find dot_cmp q es ≡ Some c → is_above a (q, c) ≡ true → ⊥) → slice_get (filter (is_above a) es) 0 ≡ None
+  pub none_in : (a : Option Dot) (es : List (Dot × X)) → T (sets.is_sorted dot_cmp es)
+      → ((q : Dot) (c : X) → find dot_cmp q es ≡ Some c → is_above a (q, c) ≡ true → ⊥)
+      → slice_get (filter (is_above a) es) 0 ≡ None
   none_in a [] s none = refl
   none_in a (e ∷ es) s none =
       let l = both _ _ s in
@@ -342,13 +365,15 @@ module _ (m : KeptMap) (F : Slots) (seen : slots_of m ≡ F) (after : Option Dot
   there : (q : Dot) (c : Slot) → find dot_cmp q (sets.entries F) ≡ Some c → IsSome (sets.get m q)
   there q c h = held_there m F seen q (ap is_some (sets.get-entries F q ∙ h))
 
-  first : (d : Dot) (k : Option Boxed) → IsNext m after (Some (d, k)) → slice_get (above F after) 0 ≡ Some (d, slot_of k)
+  first : (d : Dot) (k : Option Boxed) → IsNext m after (Some (d, k))
+      → slice_get (above F after) 0 ≡ Some (d, slot_of k)
   first d k next =
       let here : sets.get F d ≡ Some (slot_of k) = at m F seen d ∙ ap (option_map slot_of) next.held in
       first_in after (sets.entries F) d (slot_of k) (sets.entries_sorted F) (sym (sets.get-entries F d) ∙ here) (up_is after d (slot_of k) next.above)
       (λ q c h up. next.least q (up_of after q c up) (there q c h))
 
-  pub walks_on : AreHome m → (d : Dot) (k : Option Boxed) (r : SlotRef) → IsNext m after (Some (d, k)) → Shows r k → WalksOn F after (Some (d, r))
+  pub walks_on : AreHome m → (d : Dot) (k : Option Boxed) (r : SlotRef)
+      → IsNext m after (Some (d, k)) → Shows r k → WalksOn F after (Some (d, r))
   walks_on home d k r next shows =
       let s = shown_kept m F seen home d r k next.held shows in
       let at_first : slice_get (above F after) 0 ≡ Some (d, shown_slot r) = first d k next ∙ ap (λ (o : Option Slot). option_map (λ (x : Slot). (d, x)) o) s.0 in
@@ -360,7 +385,8 @@ module _ (m : KeptMap) (F : Slots) (seen : slots_of m ≡ F) (after : Option Dot
 
 -- ---- the greatest serial
 
-pub last_serial_is : (m : KeptMap) (F : Slots) → slots_of m ≡ F → (r n : ℕ) → IsLast m r n → n ≡ last_serial r (sets.entries F)
+pub last_serial_is : (m : KeptMap) (F : Slots) → slots_of m ≡ F → (r n : ℕ) → IsLast m r n
+    → n ≡ last_serial r (sets.entries F)
 last_serial_is m F seen r n last =
     let low : last_serial r (sets.entries F) ≤ n = at_most F r n (sets.entries F) (AllIn-entries F) (λ q b h same. last.greatest q same (held_there m F seen q (ap is_some h))) in
     elim (cases_lt 0 n) [
@@ -368,6 +394,7 @@ last_serial_is m F seen r n last =
       | inr none ↦ omega arith
     ]
   where
-    counts : 0 < n → (o : Option Slot) → sets.get F (record { region = r; serial = n }) ≡ o → n ≤ last_serial r (sets.entries F)
+    counts : 0 < n → (o : Option Slot) → sets.get F (record { region = r; serial = n }) ≡ o
+        → n ≤ last_serial r (sets.entries F)
     counts some None h = absurd (false≢true (sym (ap is_some (sym (at m F seen (record { region = r; serial = n })) ∙ h)) ∙ of_some _ (sets.get m (record { region = r; serial = n })) (last.there some)))
     counts some (Some b) h = at_most_last_serial r (sets.entries F) (record { region = r; serial = n }) b refl (sym (sets.get-entries F (record { region = r; serial = n })) ∙ h)

@@ -1,10 +1,9 @@
 -- A walk by dots: what is above the first fact above a dot is the rest of what is above that dot.
 --   above_next   a walk that goes on from its last fact sees each fact once, and ends
 --   steps_on     one call of the walk
-use Rattle.std.proofs.Common.{◌≡◌, Bool, true, false, ◌&&◌, cond, T, List, [], ◌∷◌, filter, slice_get, Option, Some, None, refl, sym, ap, subst, ◌∙◌}
+use Rattle.std.proofs.Common.{◌≡◌, Bool, true, false, cond, T, List, [], ◌∷◌, filter, slice_get}
+use Rattle.std.proofs.Common.{Option, Some, None, refl, sym, ap, subst, ◌∙◌}
 use Rattle.std.specs.Ordering.{is_lt, ordering_reverse}
-use Rattle.std.specs.declared.cmp.Ordering.{Ordering}
-use Rattle.std.specs.declared.cmp.Ordering.TheVariants.{Less, Equal, Greater}
 use Rattle.std.specs.FinMap as map
 use Rattle.std.specs.FinMap.Entries.{below_all}
 use Rattle.std.proofs.lemmas.Cmp.{tied_itself}
@@ -18,23 +17,12 @@ use Rattle.tk_store.specs.Table.{IsStep}
 use Rattle.tk_store.specs.Walk.{is_above, above}
 use Rattle.std.proofs.lemmas.Bool.{true≢false}
 use Rattle.tk_store.proofs.SlotLaws.{entries_held}
-
-both : (a b : Bool) → T (a && b) → T a × T b
-both true b h = (tt, h)
-both false b h = absurd h
-
-is_true : (b : Bool) → T b → b ≡ true
-is_true true h = refl
-is_true false h = absurd h
-
-less : (o : Ordering) → T (is_lt o) → o ≡ Less
-less Less p = refl
-less Equal p = absurd p
-less Greater p = absurd p
+use Rattle.tk_handle.proofs.TestLaws.{both, is_true, lesser as less}
 
 module _ {X : Type 0} where
   -- a test that keeps e keeps all of a list above e
-  keeps_all : (a : Option Dot) (e : Dot × X) (es : List (Dot × X)) → is_above a e ≡ true → T (below_all dot_cmp e.0 es) → filter (is_above a) es ≡ es
+  keeps_all : (a : Option Dot) (e : Dot × X) (es : List (Dot × X)) → is_above a e ≡ true
+      → T (below_all dot_cmp e.0 es) → filter (is_above a) es ≡ es
   keeps_all a e [] h low = refl
   keeps_all a e (x ∷ es) h low =
       let l = both _ _ low in
@@ -45,7 +33,9 @@ module _ {X : Type 0} where
       past (Some d) h = ap is_lt (dot_cmp_total.trans d e.0 x.0 (less _ (subst T (sym h) tt)) (less _ (both _ _ low).0))
 
   -- an entry below all of a list is not above the first fact that a walk of the list finds
-  first_is_above : (a : Option Dot) (e : Dot × X) (es : List (Dot × X)) (f : Dot × X) (rest : List (Dot × X)) → T (below_all dot_cmp e.0 es) → filter (is_above a) es ≡ f ∷ rest → is_above (Some f.0) e ≡ false
+  first_is_above : (a : Option Dot) (e : Dot × X) (es : List (Dot × X)) (f : Dot × X) (rest : List (Dot × X))
+      → T (below_all dot_cmp e.0 es) → filter (is_above a) es ≡ f ∷ rest
+      → is_above (Some f.0) e ≡ false
   first_is_above a e [] f rest low h = absurd (nothing h)
     where
       nothing : ¬ ([] ≡ f ∷ rest)
@@ -59,7 +49,9 @@ module _ {X : Type 0} where
       heads : {y z : Dot × X} {ys zs : List (Dot × X)} → y ∷ ys ≡ z ∷ zs → y ≡ z
       heads k = cc
 
-  walk : (a : Option Dot) (es : List (Dot × X)) (f : Dot × X) (rest : List (Dot × X)) → T (map.is_sorted dot_cmp es) → filter (is_above a) es ≡ f ∷ rest → filter (is_above (Some f.0)) es ≡ rest
+  walk : (a : Option Dot) (es : List (Dot × X)) (f : Dot × X) (rest : List (Dot × X))
+      → T (map.is_sorted dot_cmp es) → filter (is_above a) es ≡ f ∷ rest
+      → filter (is_above (Some f.0)) es ≡ rest
   walk a [] f rest sorted h = absurd (nothing h)
     where
       nothing : ¬ ([] ≡ f ∷ rest)
@@ -83,13 +75,15 @@ module _ {X : Type 0} where
       tails : {y z : Dot × X} {ys zs : List (Dot × X)} → y ∷ ys ≡ z ∷ zs → ys ≡ zs
       tails k = cc
 
-      keeps_low : (xs : List (Dot × X)) → T (below_all dot_cmp e.0 xs) → filter (is_above (Some e.0)) xs ≡ xs
+      keeps_low : (xs : List (Dot × X)) → T (below_all dot_cmp e.0 xs)
+          → filter (is_above (Some e.0)) xs ≡ xs
       keeps_low [] low = refl
       keeps_low (x ∷ xs) low =
           ap (λ t. cond t (x ∷ filter (is_above (Some e.0)) xs) (filter (is_above (Some e.0)) xs)) (is_true _ (both _ _ low).0) ∙ ap (λ l. x ∷ l) (keeps_low xs (both _ _ low).1)
 
   -- a walk that goes on from the fact that it returned sees each fact once, and ends
-  pub above_next : (F : map.FinMap dot_cmp X) (a : Option Dot) (f : Dot × X) (rest : List (Dot × X)) → above F a ≡ f ∷ rest → above F (Some f.0) ≡ rest
+  pub above_next : (F : map.FinMap dot_cmp X) (a : Option Dot) (f : Dot × X) (rest : List (Dot × X))
+      → above F a ≡ f ∷ rest → above F (Some f.0) ≡ rest
   above_next F a f rest h = walk a (map.entries F) f rest (map.entries_sorted F) h
 
   pub above_none : (F : map.FinMap dot_cmp X) → above F None ≡ map.entries F
@@ -99,7 +93,8 @@ module _ {X : Type 0} where
       all [] = refl
       all (e ∷ es) = ap (λ l. e ∷ l) (all es)
 
-  first_is : (es : List (Dot × X)) (f : Dot × X) → slice_get es 0 ≡ Some f → (rest : List (Dot × X)) × (es ≡ f ∷ rest)
+  first_is : (es : List (Dot × X)) (f : Dot × X) → slice_get es 0 ≡ Some f
+      → (rest : List (Dot × X)) × (es ≡ f ∷ rest)
   first_is [] f h = absurd (nothing h)
     where
       nothing : ¬ (None ≡ Some f)
@@ -109,7 +104,8 @@ module _ {X : Type 0} where
       somes : {x y : Dot × X} → Some x ≡ Some y → x ≡ y
       somes k = cc
 
-  pub goes_on : (F : map.FinMap dot_cmp X) (a : Option Dot) (f : Dot × X) → slice_get (above F a) 0 ≡ Some f → above F a ≡ f ∷ above F (Some f.0)
+  pub goes_on : (F : map.FinMap dot_cmp X) (a : Option Dot) (f : Dot × X)
+      → slice_get (above F a) 0 ≡ Some f → above F a ≡ f ∷ above F (Some f.0)
   goes_on F a f h = let r : (rest : List (Dot × X)) × (above F a ≡ f ∷ rest) = first_is (above F a) f h in r.1 ∙ ap (λ l. f ∷ l) (sym (above_next F a f r.0 r.1))
 
   none_left : (es : List (Dot × X)) → slice_get es 0 ≡ None → es ≡ []
@@ -119,19 +115,24 @@ module _ {X : Type 0} where
       nothing : ¬ (Some e ≡ None)
       nothing h = cc
 
-  pub at_end : (F : map.FinMap dot_cmp X) (a : Option Dot) → slice_get (above F a) 0 ≡ None → above F a ≡ []
+  pub at_end : (F : map.FinMap dot_cmp X) (a : Option Dot) → slice_get (above F a) 0 ≡ None
+      → above F a ≡ []
   at_end F a h = none_left (above F a) h
 
   -- one call of the walk returns the next fact and leaves the rest
-  pub steps_on : (F : map.FinMap dot_cmp X) (a : Option Dot) (now new : List (Dot × X)) (d : Dot) (f : Dot × X) → above F a ≡ now → slice_get (above F a) 0 ≡ Some f → d ≡ f.0 → new ≡ above F (Some d) → now ≡ f ∷ new
+  pub steps_on : (F : map.FinMap dot_cmp X) (a : Option Dot) (now new : List (Dot × X)) (d : Dot) (f : Dot × X)
+      → above F a ≡ now → slice_get (above F a) 0 ≡ Some f → d ≡ f.0 → new ≡ above F (Some d)
+      → now ≡ f ∷ new
   steps_on F a now new d f old here same after = sym old ∙ goes_on F a f here ∙ ap (λ (e : Dot). f ∷ above F (Some e)) (sym same) ∙ ap (λ l. f ∷ l) (sym after)
 
-  pub none_on : (F : map.FinMap dot_cmp X) (a : Option Dot) (now : List (Dot × X)) → above F a ≡ now → slice_get (above F a) 0 ≡ None → now ≡ []
+  pub none_on : (F : map.FinMap dot_cmp X) (a : Option Dot) (now : List (Dot × X)) → above F a ≡ now
+      → slice_get (above F a) 0 ≡ None → now ≡ []
   none_on F a now old h = sym old ∙ at_end F a h
 
 -- ---- walking the facts among slots
 
-above_held : (a : Option Dot) (es : List (Dot × Slot)) → filter (is_above a) (held_entries es) ≡ held_entries (filter (is_above a) es)
+above_held : (a : Option Dot) (es : List (Dot × Slot))
+    → filter (is_above a) (held_entries es) ≡ held_entries (filter (is_above a) es)
 above_held a [] = refl
 above_held a ((d, Held b) ∷ es) = by_test (is_above a (d, b)) (is_above a (d, Held b)) (same a) (above_held a es)
   where
@@ -139,7 +140,8 @@ above_held a ((d, Held b) ∷ es) = by_test (is_above a (d, b)) (is_above a (d, 
     same None = refl
     same (Some x) = refl
 
-    by_test : (t u : Bool) → t ≡ u → filter (is_above a) (held_entries es) ≡ held_entries (filter (is_above a) es)
+    by_test : (t u : Bool) → t ≡ u
+        → filter (is_above a) (held_entries es) ≡ held_entries (filter (is_above a) es)
         → cond t ((d, b) ∷ filter (is_above a) (held_entries es)) (filter (is_above a) (held_entries es)) ≡ held_entries (cond u ((d, Held b) ∷ filter (is_above a) es) (filter (is_above a) es))
     by_test true true i h = ap (λ (l : List (Dot × Body)). (d, b) ∷ l) h
     by_test false false i h = h
@@ -159,7 +161,9 @@ abbrev pub IsFirstHeld : SlotRef → Option (Dot × Body) → Type 0
 IsFirstHeld (ref.Held f) o = Some f.now ≡ o
 IsFirstHeld ref.Skipped o = Unit {0}
 
-pub step_held : (S : Slots) (place after : Option Dot) (d : Dot) (r : SlotRef) → above (held_in S) place ≡ above (held_in S) after → IsStep S place d r → IsFirstHeld r (slice_get (above (held_in S) after) 0)
+pub step_held : (S : Slots) (place after : Option Dot) (d : Dot) (r : SlotRef)
+    → above (held_in S) place ≡ above (held_in S) after → IsStep S place d r
+    → IsFirstHeld r (slice_get (above (held_in S) after) 0)
 step_held S place after d (ref.Held f) same step = sym step ∙ ap (λ (l : List (Dot × Body)). slice_get l 0) same
 step_held S place after d ref.Skipped same step = tt
 

@@ -4,7 +4,9 @@
 --   whole_beyond                  the dots that a vector does not cover are those of the set
 --   empty_held, known_kept        an empty store, and a call that changes nothing
 --   agree_is, below_is            two whole stores agree, and are ordered, as their sets are
-use Rattle.std.proofs.Common.{◌≡◌, ◌≢◌, ◌↔◌, ◌≤◌, ◌+◌, ℕ, max, ◌==◌, if◌then◌else◌, Bool, true, false, cond, not, nat_le, List, [], ◌∷◌, map, filter, Option, Some, None, IsSome, is_some, Result, Ok, Err, refl, sym, ap, subst, ◌∙◌}
+use Rattle.std.proofs.Common.{◌≡◌, ◌≢◌, ◌↔◌, ◌≤◌, ◌+◌, ℕ, max, ◌==◌, if◌then◌else◌, Bool, true}
+use Rattle.std.proofs.Common.{false, cond, not, nat_le, List, [], ◌∷◌, map, filter, Option, Some}
+use Rattle.std.proofs.Common.{None, IsSome, is_some, Result, Ok, Err, refl, sym, ap, subst, ◌∙◌}
 use Rattle.std.proofs.lemmas.Bool.{true≢false}
 use Rattle.std.specs.Ordering.{is_lt}
 use Rattle.std.specs.FinMap as sets
@@ -18,7 +20,8 @@ use Rattle.tk_store.specs.FactSet.{Agree, IsSubset, dot_of}
 use Rattle.tk_store.specs.Front.{IsFront, dot_at}
 use Rattle.tk_store.specs.NextDot.{last_serial, next_serial}
 use Rattle.tk_store.specs.SlotOrder.{SlotBelow, SlotAgrees, StoreBelow, StoresAgree}
-use Rattle.tk_store.specs.Slots.{Slot, Held, Skipped, held_slot, held_entries, is_skipped, is_skipped_slot}
+use Rattle.tk_store.specs.Slots.{Slot, Held, Skipped, held_slot, held_entries, is_skipped}
+use Rattle.tk_store.specs.Slots.{is_skipped_slot}
 use Rattle.tk_store.specs.StoreFields.{StoreFields, empty_store, held_facts, IsWhole, with_fact}
 use Rattle.tk_store.specs.Walk.{is_above}
 use Rattle.tk_store.specs.declared.store.Added.{Added}
@@ -26,9 +29,10 @@ use Rattle.tk_store.specs.declared.store.Added.TheVariants as added
 use Rattle.tk_store.specs.declared.store.AddError.{AddError}
 use Rattle.tk_store.specs.declared.store.AddError.TheVariants.{Conflict, Memory}
 use Rattle.tk_store.proofs.EntryLaws.{AllIn-entries}
-use Rattle.tk_store.proofs.PutLaws.{by_dot, none_is_not_some, some_injective}
+use Rattle.tk_store.proofs.PutLaws.{by_dot}
 use Rattle.tk_store.proofs.SlotLaws.{get_held, held_none, held_put, entries_held}
 use Rattle.tk_store.specs.FactSet.{AllIn}
+use Rattle.std.proofs.lemmas.Option.{none-some as none_is_not_some, same_Some as some_injective}
 
 -- ---- the slot at a dot
 
@@ -46,7 +50,8 @@ module _ (P : StoreFields) (whole : IsWhole P) where
   put_whole : (d : Dot) (b : Body) → IsWhole (with_fact P d b)
   put_whole d b q = by_dot (λ o. is_skipped_slot o ≡ false) P.slots d (Held b) q (λ same. refl) (whole q)
 
-  pub whole_adds : (f : Dot × Body) (r : Result Added AddError) (Q : StoreFields) → AddsTo P f r Q → Adds (held_facts P) f r (held_facts Q) × IsWhole Q
+  pub whole_adds : (f : Dot × Body) (r : Result Added AddError) (Q : StoreFields) → AddsTo P f r Q
+      → Adds (held_facts P) f r (held_facts Q) × IsWhole Q
   whole_adds f (Ok added.New) Q adds = (
     (get_held P.slots f.0 ∙ ap held_slot adds.0, ap held_facts adds.1 ∙ held_put P.slots f.0 f.1),
     subst IsWhole (sym adds.1) (put_whole f.0 f.1),
@@ -56,7 +61,8 @@ module _ (P : StoreFields) (whole : IsWhole P) where
     subst IsWhole (sym adds.1) whole,
   )
     where
-      by_slot : (o : Option Slot) → is_skipped_slot o ≡ false → HasFact f.1 o → held_slot o ≡ Some f.1
+      by_slot : (o : Option Slot) → is_skipped_slot o ≡ false → HasFact f.1 o
+          → held_slot o ≡ Some f.1
       by_slot None h has = absurd has
       by_slot (Some (Held c)) h has = ap (λ (x : Body). Some x) has
       by_slot (Some Skipped) h has = absurd (true≢false h)
@@ -65,7 +71,8 @@ module _ (P : StoreFields) (whole : IsWhole P) where
     subst IsWhole (sym adds.1) whole,
   )
     where
-      by_slot : (o : Option Slot) → sets.get P.slots f.0 ≡ o → is_skipped_slot o ≡ false → RefusesFact f.1 o → (b : Body) × (sets.get (held_facts P) f.0 ≡ Some b) × (b ≢ f.1)
+      by_slot : (o : Option Slot) → sets.get P.slots f.0 ≡ o → is_skipped_slot o ≡ false
+          → RefusesFact f.1 o → (b : Body) × (sets.get (held_facts P) f.0 ≡ Some b) × (b ≢ f.1)
       by_slot None at h refuses = absurd refuses
       by_slot (Some (Held c)) at h refuses = (c, get_held P.slots f.0 ∙ ap held_slot at, refuses)
       by_slot (Some Skipped) at h refuses = absurd (true≢false h)
@@ -94,7 +101,8 @@ module _ (P : StoreFields) (whole : IsWhole P) where
   all_plain : NoMarks (sets.entries P.slots)
   all_plain = no_marks (sets.entries P.slots) (AllIn-entries P.slots)
 
-  serials : (r : ℕ) (es : List (Dot × Slot)) → NoMarks es → last_serial r (held_entries es) ≡ last_serial r es
+  serials : (r : ℕ) (es : List (Dot × Slot)) → NoMarks es
+      → last_serial r (held_entries es) ≡ last_serial r es
   serials r [] a = refl
   serials r ((d, Held b) ∷ es) a = ap (λ n. max (if d.region == r then d.serial else 0) n) (serials r es a.1)
   serials r ((d, Skipped) ∷ es) a = absurd (true≢false a.0)
@@ -104,7 +112,8 @@ module _ (P : StoreFields) (whole : IsWhole P) where
 
   -- ---- the dots that a vector does not cover
 
-  dots_kept : (p : Dot → Bool) (es : List (Dot × Slot)) → NoMarks es → map dot_of (filter (λ e. p e.0) (held_entries es)) ≡ map dot_of (filter (λ e. p e.0) es)
+  dots_kept : (p : Dot → Bool) (es : List (Dot × Slot)) → NoMarks es
+      → map dot_of (filter (λ e. p e.0) (held_entries es)) ≡ map dot_of (filter (λ e. p e.0) es)
   dots_kept p [] a = refl
   dots_kept p ((d, Held b) ∷ es) a =
       elim (p d) as (λ t. map dot_of (cond t ((d, b) ∷ filter (λ e. p e.0) (held_entries es)) (filter (λ e. p e.0) (held_entries es))) ≡ map dot_of (cond t ((d, Held b) ∷ filter (λ e. p e.0) es) (filter (λ e. p e.0) es))) [
@@ -118,7 +127,8 @@ module _ (P : StoreFields) (whole : IsWhole P) where
   wanted v None d = not (nat_le d.serial (entry v d.region))
   wanted v (Some a) d = cond (is_lt (dot_cmp a d)) (not (nat_le d.serial (entry v d.region))) false
 
-  one_filter : {X : Type 0} (v : Vector) (after : Option Dot) (es : List (Dot × X)) → filter (is_beyond v) (filter (is_above after) es) ≡ filter (λ e. wanted v after e.0) es
+  one_filter : {X : Type 0} (v : Vector) (after : Option Dot) (es : List (Dot × X))
+      → filter (is_beyond v) (filter (is_above after) es) ≡ filter (λ e. wanted v after e.0) es
   one_filter v after [] = refl
   one_filter v None (e ∷ es) = ap (λ l. cond (not (nat_le e.0.serial (entry v e.0.region))) (e ∷ l) l) (one_filter v None es)
   one_filter v (Some a) (e ∷ es) =
@@ -127,7 +137,8 @@ module _ (P : StoreFields) (whole : IsWhole P) where
         | false ↦ one_filter v (Some a) es
       ]
 
-  pub whole_beyond : (v : Vector) (after : Option Dot) → map dot_of (beyond P.slots v after) ≡ map dot_of (beyond (held_facts P) v after)
+  pub whole_beyond : (v : Vector) (after : Option Dot)
+      → map dot_of (beyond P.slots v after) ≡ map dot_of (beyond (held_facts P) v after)
   whole_beyond v after =
       ap (map dot_of) (one_filter v after (sets.entries P.slots))
       ∙ sym (dots_kept (wanted v after) (sets.entries P.slots) all_plain)
@@ -136,14 +147,16 @@ module _ (P : StoreFields) (whole : IsWhole P) where
 -- ---- two whole stores
 
 module _ (P Q : StoreFields) (p : IsWhole P) (q : IsWhole Q) where
-  agree_slots : (a b : Option Slot) → is_skipped_slot a ≡ false → is_skipped_slot b ≡ false → SlotAgrees a b → (x y : Body) → held_slot a ≡ Some x → held_slot b ≡ Some y → x ≡ y
+  agree_slots : (a b : Option Slot) → is_skipped_slot a ≡ false → is_skipped_slot b ≡ false
+      → SlotAgrees a b → (x y : Body) → held_slot a ≡ Some x → held_slot b ≡ Some y → x ≡ y
   agree_slots None b h k s x y i j = absurd (none_is_not_some x i)
   agree_slots (Some (Held c)) None h k s x y i j = absurd (none_is_not_some y j)
   agree_slots (Some (Held c)) (Some (Held d)) h k s x y i j = sym (some_injective c x i) ∙ s ∙ some_injective d y j
   agree_slots (Some (Held c)) (Some Skipped) h k s x y i j = absurd (true≢false k)
   agree_slots (Some Skipped) b h k s x y i j = absurd (true≢false h)
 
-  slots_agree : (a b : Option Slot) → is_skipped_slot a ≡ false → is_skipped_slot b ≡ false → ((x y : Body) → held_slot a ≡ Some x → held_slot b ≡ Some y → x ≡ y) → SlotAgrees a b
+  slots_agree : (a b : Option Slot) → is_skipped_slot a ≡ false → is_skipped_slot b ≡ false
+      → ((x y : Body) → held_slot a ≡ Some x → held_slot b ≡ Some y → x ≡ y) → SlotAgrees a b
   slots_agree None b h k s = tt
   slots_agree (Some x) None h k s = tt
   slots_agree (Some (Held c)) (Some (Held d)) h k s = s c d refl refl
@@ -156,14 +169,16 @@ module _ (P Q : StoreFields) (p : IsWhole P) (q : IsWhole Q) where
     λ agree d. slots_agree (sets.get P.slots d) (sets.get Q.slots d) (p d) (q d) (λ x y at there. agree d x y (get_held P.slots d ∙ at) (get_held Q.slots d ∙ there)),
   )
 
-  below_slots : (a b : Option Slot) → is_skipped_slot a ≡ false → is_skipped_slot b ≡ false → SlotBelow a b → (x : Body) → held_slot a ≡ Some x → held_slot b ≡ Some x
+  below_slots : (a b : Option Slot) → is_skipped_slot a ≡ false → is_skipped_slot b ≡ false
+      → SlotBelow a b → (x : Body) → held_slot a ≡ Some x → held_slot b ≡ Some x
   below_slots None b h k s x i = absurd (none_is_not_some x i)
   below_slots (Some (Held c)) None h k s x i = absurd s
   below_slots (Some (Held c)) (Some (Held d)) h k s x i = ap (λ (y : Body). Some y) (sym s) ∙ i
   below_slots (Some (Held c)) (Some Skipped) h k s x i = absurd (true≢false k)
   below_slots (Some Skipped) b h k s x i = absurd (true≢false h)
 
-  slots_below : (a b : Option Slot) → is_skipped_slot a ≡ false → is_skipped_slot b ≡ false → ((x : Body) → held_slot a ≡ Some x → held_slot b ≡ Some x) → SlotBelow a b
+  slots_below : (a b : Option Slot) → is_skipped_slot a ≡ false → is_skipped_slot b ≡ false
+      → ((x : Body) → held_slot a ≡ Some x → held_slot b ≡ Some x) → SlotBelow a b
   slots_below None b h k s = tt
   slots_below (Some (Held c)) None h k s = absurd (none_is_not_some c (s c refl))
   slots_below (Some (Held c)) (Some (Held d)) h k s = some_injective c d (sym (s c refl))
@@ -185,7 +200,8 @@ pub empty_whole : (P : StoreFields) → P ≡ empty_store → IsWhole P
 empty_whole P is d = ap (λ (Q : StoreFields). is_skipped Q.slots d) is ∙ ap is_skipped_slot (sets.get-empty dot_cmp d)
 
 -- adding a fact at a dot that is held changes nothing
-pub known_kept : (P Q : StoreFields) (f : Dot × Body) (r : Result Added AddError) → IsSome (sets.get (held_facts P) f.0) → AddsTo P f r Q → Q ≡ P
+pub known_kept : (P Q : StoreFields) (f : Dot × Body) (r : Result Added AddError)
+    → IsSome (sets.get (held_facts P) f.0) → AddsTo P f r Q → Q ≡ P
 known_kept P Q f (Ok added.New) known adds = absurd (true≢false (sym known ∙ ap is_some (get_held P.slots f.0 ∙ ap held_slot adds.0)))
 known_kept P Q f (Ok added.Held) known adds = adds.1
 known_kept P Q f (Err Conflict) known adds = adds.1

@@ -1,7 +1,8 @@
 -- The store of a set of facts. Key results:
 --   held_whole_store   it holds these facts
 --   whole_is           a store that skips nothing, with the horizon 0, is that of its facts
-use Rattle.std.proofs.Common.{◌≡◌, ◌&&◌, true, false, cond, T, List, [], ◌∷◌, map, Option, Some, None, option_map, refl, sym, ap, subst, ◌∙◌}
+use Rattle.std.proofs.Common.{◌≡◌, ◌&&◌, true, false, cond, T, List, [], ◌∷◌, map, Option, Some}
+use Rattle.std.proofs.Common.{None, option_map, refl, sym, ap, subst, ◌∙◌}
 use Rattle.std.proofs.lemmas.Bool.{true≢false}
 use Rattle.std.specs.Ordering.{eq_by_cmp, is_lt}
 use Rattle.std.specs.FinMap as sets
@@ -16,15 +17,18 @@ use Rattle.tk_store.specs.StoreFields.{StoreFields, held_facts, IsWhole}
 use Rattle.tk_store.specs.WholeStores.{as_slot, whole_store}
 use Rattle.tk_store.proofs.SlotLaws.{get_held}
 
-below_as : (d : Dot) (es : List (Dot × Body)) → below_all dot_cmp d (map as_slot es) ≡ below_all dot_cmp d es
+below_as : (d : Dot) (es : List (Dot × Body))
+    → below_all dot_cmp d (map as_slot es) ≡ below_all dot_cmp d es
 below_as d [] = refl
 below_as d (e ∷ es) = ap (λ b. is_lt (dot_cmp d e.0) && b) (below_as d es)
 
-sorted_as : (es : List (Dot × Body)) → sets.is_sorted dot_cmp (map as_slot es) ≡ sets.is_sorted dot_cmp es
+sorted_as : (es : List (Dot × Body))
+    → sets.is_sorted dot_cmp (map as_slot es) ≡ sets.is_sorted dot_cmp es
 sorted_as [] = refl
 sorted_as (e ∷ es) = ap (λ b. b && sets.is_sorted dot_cmp (map as_slot es)) (below_as e.0 es) ∙ ap (λ b. below_all dot_cmp e.0 es && b) (sorted_as es)
 
-find_as : (q : Dot) (es : List (Dot × Body)) → find dot_cmp q (map as_slot es) ≡ option_map Held (find dot_cmp q es)
+find_as : (q : Dot) (es : List (Dot × Body))
+    → find dot_cmp q (map as_slot es) ≡ option_map Held (find dot_cmp q es)
 find_as q [] = refl
 find_as q (e ∷ es) =
     elim (eq_by_cmp dot_cmp q e.0) as (λ t. cond t (Some (Held e.1)) (find dot_cmp q (map as_slot es)) ≡ option_map Held (cond t (Some e.1) (find dot_cmp q es))) [
@@ -35,7 +39,8 @@ find_as q (e ∷ es) =
 entries_as : (F : FactSet) → sets.entries (whole_store F).slots ≡ map as_slot (sets.entries F)
 entries_as F = sets.entries-from_sorted dot_cmp _ (subst T (sym (sorted_as (sets.entries F))) (sets.entries_sorted F))
 
-pub get_whole_store : (F : FactSet) (q : Dot) → sets.get (whole_store F).slots q ≡ option_map Held (sets.get F q)
+pub get_whole_store : (F : FactSet) (q : Dot)
+    → sets.get (whole_store F).slots q ≡ option_map Held (sets.get F q)
 get_whole_store F q = sets.get-entries (whole_store F).slots q ∙ ap (find dot_cmp q) (entries_as F) ∙ find_as q (sets.entries F) ∙ ap (option_map Held) (sym (sets.get-entries F q))
 
 back : (o : Option Body) → held_slot (option_map Held o) ≡ o

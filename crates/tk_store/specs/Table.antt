@@ -8,7 +8,6 @@ use Rattle.std.specs.Prelude.{◌≡◌, ◌<◌, ℕ, [], length, map, slice_ge
 use Rattle.std.proofs.Common.{Box, Global}
 use Rattle.std.specs.FinMap as sets
 use Rattle.tk_handle.specs.declared.dot.Dot.{Dot}
-use Rattle.tk_handle.specs.Dot.{dot_cmp}
 use Rattle.tk_dots.specs.Marks.{MarkedMap}
 use Rattle.tk_fact.specs.declared.body.Body.{Body}
 use Rattle.tk_store.specs.Slots.{Slot, Slots, Held, Skipped, held_in}

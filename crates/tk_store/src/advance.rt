@@ -27,7 +27,7 @@ fn run_end(table: &Table, dot: Dot) -> u64
                     return serial;
                 }
             }
-            None => unreachable!(),
+            None => unreachable!("the next serial is in range"),
         }
     }
     Serial::GREATEST

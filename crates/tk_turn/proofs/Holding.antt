@@ -22,7 +22,8 @@ use Rattle.std.proofs.lemmas.Bool.{cases_eq}
 use Rattle.std.proofs.lemmas.List.{get_or-set_same, get_or-set_other, get_or_read_under}
 use Rattle.tk_turn.specs.Outcomes.{Decides}
 use Rattle.tk_turn.specs.Links.{LinkFields, new_link}
-use Rattle.tk_turn.specs.Turns.{AreChangedAt, AreDecidedAt, AreDistinct, EachIsOwn, IsIn, MayDecide, NoneHeld, OthersStay}
+use Rattle.tk_turn.specs.Turns.{AreChangedAt, AreDecidedAt, AreDistinct, EachIsOwn, IsIn, MayDecide}
+use Rattle.tk_turn.specs.Turns.{NoneHeld, OthersStay}
 
 -- whether a place is among others
 is_in : (k : ℕ) (places : List ℕ) → IsIn k places ⊎ (IsIn k places → ⊥)

@@ -1,6 +1,8 @@
 -- What contracts see of a connection, by the bytes that it keeps.
-use Rattle.std.proofs.Common.{◌≡◌, ℕ, ◌+◌, ◌-◌, ◌≤◌, ◌<◌, Bool, true, List, [], ◌∷◌, ◌++◌, take, drop, length, arith, refl, sym, ap, ◌∙◌}
-use Rattle.std.proofs.lemmas.List.{take-append-drop, take-append-le, drop-append-le, drop-drop, drop_all, take_all, length-take-le, length-drop}
+use Rattle.std.proofs.Common.{◌≡◌, ℕ, ◌+◌, ◌-◌, ◌≤◌, ◌<◌, Bool, true, List, [], ◌∷◌, ◌++◌, take}
+use Rattle.std.proofs.Common.{drop, length, arith, refl, sym, ap, ◌∙◌}
+use Rattle.std.proofs.lemmas.List.{take-append-drop, take-append-le, drop-append-le, drop-drop}
+use Rattle.std.proofs.lemmas.List.{drop_all, take_all, length-take-le, length-drop}
 use Rattle.tk_turn.specs.Links.{LinkFields, ends_without}
 
 -- two connections with the same parts are the same
@@ -49,7 +51,8 @@ sent_front ready sent count =
     ∙ ap (λ x. take count (drop sent ready) ++ x) (drop-drop count sent ready)
 
 -- replies that are dropped end the connection
-pub ends_if_some : (held : List ℕ) (is_last : Bool) → 0 < length held → true ≡ ends_without held is_last
+pub ends_if_some : (held : List ℕ) (is_last : Bool) → 0 < length held
+    → true ≡ ends_without held is_last
 ends_if_some [] is_last some = absurd (omega arith)
 ends_if_some (b ∷ bs) is_last some = refl
 
@@ -61,7 +64,8 @@ ends_if_held output ready is_last some =
     ends_if_some (drop ready output) is_last (omega arith)
 
 -- nothing is held back once it is dropped
-pub none_left : (output : List ℕ) (ready : ℕ) → ready ≤ length output → drop ready (take ready output) ≡ []
+pub none_left : (output : List ℕ) (ready : ℕ) → ready ≤ length output
+    → drop ready (take ready output) ≡ []
 none_left output ready upper =
     let long : length (take ready output) ≡ ready = length-take-le ready output upper in
     drop_all ready (take ready output) (omega arith)

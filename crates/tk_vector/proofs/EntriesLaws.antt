@@ -4,7 +4,9 @@
 --   rising_entries a vector is the vector of its entries
 --   more_written   writing one entry more
 --   more_fits      the entries written so far, and one more, have a spelling
-use Rattle.std.proofs.Common.{◌≡◌, ℕ, suc, ◌+◌, ◌-◌, ◌<◌, ◌≤◌, Bool, true, false, ◌&&◌, T, nat_lt, List, [], ◌∷◌, ◌++◌, get_or, slice_get, length, take, Some, refl, sym, ap, subst, ◌∙◌, add-one, append_assoc, arith}
+use Rattle.std.proofs.Common.{◌≡◌, ℕ, suc, ◌+◌, ◌-◌, ◌<◌, ◌≤◌, Bool, true, false, ◌&&◌, T, nat_lt}
+use Rattle.std.proofs.Common.{List, [], ◌∷◌, ◌++◌, get_or, slice_get, length, take, Some, refl, sym}
+use Rattle.std.proofs.Common.{ap, subst, ◌∙◌, add-one, append_assoc, arith}
 use Rattle.std.specs.List.{AllByRecursion, IsAllAdjacentAnswer, flat_map}
 use Rattle.std.specs.Ordering.{nat_cmp, is_lt}
 use Rattle.std.specs.declared.cmp.Ordering.TheVariants.{Less}
@@ -20,6 +22,7 @@ use Rattle.tk_handle.specs.Ranges.{IsRegion, greatest_region}
 use Rattle.tk_handle.proofs.SortedEntriesLaws.{rises}
 use Rattle.tk_vector.specs.VectorBytes.{entry_field, rising}
 use Rattle.tk_vector.specs.VersionVector.{Vector}
+use Rattle.tk_handle.proofs.TestLaws.{and as both, is_true as true_of}
 
 abbrev Entries : Type 0
 Entries = List (ℕ × ℕ)
@@ -31,10 +34,6 @@ left false b p = p
 right : (a b : Bool) → T (a && b) → T b
 right true b p = p
 right false b p = absurd p
-
-both : (a b : Bool) → T a → T b → T (a && b)
-both true b p q = q
-both false b p q = p
 
 below : (a b : ℕ) → T (is_lt (nat_cmp a b)) → a < b
 below a b h = grind (arith, nat_tests)
@@ -48,22 +47,21 @@ lt_from_test a b h = grind (arith, nat_tests)
 not_less : (a b : ℕ) → nat_cmp a b ≡ Less → ¬ (false ≡ nat_lt a b)
 not_less a b h e = grind (arith, nat_tests)
 
-true_of : (b : Bool) → T b → b ≡ true
-true_of true h = refl
-true_of false h = absurd h
-
 -- the first i + 1 entries are the first i, and the next
-one_more : (es : Entries) (i : ℕ) (e : ℕ × ℕ) → i < length es → e ≡ get_or es i e → take (i + 1) es ≡ take i es ++ (e ∷ [])
+one_more : (es : Entries) (i : ℕ) (e : ℕ × ℕ) → i < length es → e ≡ get_or es i e
+    → take (i + 1) es ≡ take i es ++ (e ∷ [])
 one_more es i e within is = (take_at_read es i e within).1 ∙ ap (λ x. take i es ++ (x ∷ [])) (sym is)
 
-all_append : (es fs : Entries) → AllByRecursion entry_field.Fits es → AllByRecursion entry_field.Fits fs → AllByRecursion entry_field.Fits (es ++ fs)
+all_append : (es fs : Entries) → AllByRecursion entry_field.Fits es
+    → AllByRecursion entry_field.Fits fs → AllByRecursion entry_field.Fits (es ++ fs)
 all_append [] fs a b = b
 all_append (e ∷ es) fs a b = (a.0, all_append es fs a.1 b)
 
 -- ---- how many entries there are
 
 -- regions that rise differ at least as much as their places
-spread : (e : ℕ × ℕ) (es : Entries) (last : ℕ × ℕ) → T (is_sorted nat_cmp (e ∷ es)) → slice_get (e ∷ es) (length es) ≡ Some last → e.0 + length es ≤ last.0
+spread : (e : ℕ × ℕ) (es : Entries) (last : ℕ × ℕ) → T (is_sorted nat_cmp (e ∷ es))
+    → slice_get (e ∷ es) (length es) ≡ Some last → e.0 + length es ≤ last.0
 spread e [] last h at = let same : e ≡ last = some_is e last at in subst (λ (x : ℕ × ℕ). e.0 + 0 ≤ x.0) same (omega arith)
 spread e (f ∷ es) last h at =
     let above = left (below_all nat_cmp e.0 (f ∷ es)) (is_sorted nat_cmp (f ∷ es)) h in
@@ -72,7 +70,9 @@ spread e (f ∷ es) last h at =
     omega arith
 
 -- there are no more entries than regions
-pub few : (es : Entries) (first last : ℕ × ℕ) → T (is_sorted nat_cmp es) → slice_get es 0 ≡ Some first → slice_get es (length es - 1) ≡ Some last → IsRegion first.0 → last.0 ≤ greatest_region → length es < 65536
+pub few : (es : Entries) (first last : ℕ × ℕ) → T (is_sorted nat_cmp es)
+    → slice_get es 0 ≡ Some first → slice_get es (length es - 1) ≡ Some last → IsRegion first.0
+    → last.0 ≤ greatest_region → length es < 65536
 few [] first last h one other low high = omega arith
 few (e ∷ es) first last h one other low high =
     let at : length (e ∷ es) - 1 ≡ length es = omega arith in
@@ -84,13 +84,16 @@ few (e ∷ es) first last h one other low high =
 -- ---- whether the regions rise
 
 -- a number below b is below each element that b is below
-below_all_from : (a b : ℕ) (es : Entries) → a < b → T (below_all nat_cmp b es) → T (below_all nat_cmp a es)
+below_all_from : (a b : ℕ) (es : Entries) → a < b → T (below_all nat_cmp b es)
+    → T (below_all nat_cmp a es)
 below_all_from a b [] lt h = tt
 below_all_from a b (e ∷ es) lt h =
     let next = below b e.0 (left _ _ h) in
     both _ _ (is_below a e.0 (omega arith)) (below_all_from a b es lt (right _ _ h))
 
-neighbours : (es : Entries) → ((k : ℕ) (d : ℕ × ℕ) → suc k < length es → (get_or es k d).0 < (get_or es (suc k) d).0) → T (is_sorted nat_cmp es)
+neighbours : (es : Entries)
+    → ((k : ℕ) (d : ℕ × ℕ) → suc k < length es → (get_or es k d).0 < (get_or es (suc k) d).0)
+    → T (is_sorted nat_cmp es)
 neighbours [] h = tt
 neighbours (e ∷ []) h = tt
 neighbours (e ∷ f ∷ es) h =
@@ -120,7 +123,8 @@ rising_entries v =
 -- ---- the entries in bytes
 
 -- the bytes written after one more entry
-pub more_written : (es : Entries) (i : ℕ) (e : ℕ × ℕ) (old before after : List ℕ) → i < length es → e ≡ get_or es i e
+pub more_written : (es : Entries) (i : ℕ) (e : ℕ × ℕ) (old before after : List ℕ) → i < length es
+    → e ≡ get_or es i e
     → before ≡ old ++ flat_map entry_field.spell (take i es) → after ≡ before ++ entry_field.spell e
     → after ≡ old ++ flat_map entry_field.spell (take (i + 1) es)
 more_written es i e old before after within is so_far one =
@@ -130,6 +134,7 @@ more_written es i e old before after within is so_far one =
     ∙ sym (flat_map-append entry_field.spell (take i es) (e ∷ [])) ∙ ap (flat_map entry_field.spell) (sym (one_more es i e within is)))
 
 -- the entries written so far, and one more, have a spelling
-pub more_fits : (es : Entries) (i : ℕ) (e : ℕ × ℕ) → i < length es → e ≡ get_or es i e → AllByRecursion entry_field.Fits (take i es) → entry_field.Fits e
+pub more_fits : (es : Entries) (i : ℕ) (e : ℕ × ℕ) → i < length es → e ≡ get_or es i e
+    → AllByRecursion entry_field.Fits (take i es) → entry_field.Fits e
     → AllByRecursion entry_field.Fits (take (i + 1) es)
 more_fits es i e within is so_far fits = subst (AllByRecursion entry_field.Fits) (sym (one_more es i e within is)) (all_append (take i es) (e ∷ []) so_far (fits, tt))

@@ -4,21 +4,21 @@
 --                                                    both
 --   raised_more, kept_join                           the loop that raises each entry
 --   vector_laws                                      what the law function states
-use Rattle.std.proofs.Common.{◌≡◌, ℕ, zero, suc, ◌+◌, ◌<◌, ◌≤◌, true, false, cond, max, T, List, [], ◌∷◌, length, get_or, Option, Some, None, unwrap_or, refl, sym, ap, subst, ◌∙◌, arith, inl, inr}
+use Rattle.std.proofs.Common.{◌≡◌, ℕ, zero, suc, ◌+◌, ◌<◌, ◌≤◌, true, false, cond, max, T, List, []}
+use Rattle.std.proofs.Common.{◌∷◌, length, get_or, Option, Some, None, unwrap_or, refl, sym, ap}
+use Rattle.std.proofs.Common.{subst, ◌∙◌, arith, inl, inr}
 use Rattle.std.proofs.lemmas.Bool.{cases_lt, cases_Bool, cond-true, cond-false}
 use Rattle.std.specs.Ordering.{nat_cmp, eq_by_cmp, is_eq, ordering_reverse}
 use Rattle.tk_handle.proofs.SortedEntriesLaws.{find_at_place, rises}
-use Rattle.std.specs.declared.cmp.Ordering.{Ordering}
-use Rattle.std.specs.declared.cmp.Ordering.TheVariants.{Less, Equal, Greater}
 use Rattle.std.specs.Cmp.{nat_cmp_total}
 use Rattle.std.proofs.lemmas.Cmp.{tied_itself}
-use Rattle.std.proofs.lemmas.Bool.{true≢false}
 use Rattle.std.specs.FinMap as map
 use Rattle.tk_vector.specs.VersionVector.{Vector, entry, raised}
 use Rattle.tk_vector.specs.VectorOrder.{AtMost, Below, AllAtMost, RaisedBy}
 use Rattle.std.specs.Prelude.{⊤}
 use Rattle.tk_vector.specs.Join.{IsJoin, JoinLaws}
 use Rattle.tk_vector.proofs.VersionVectorLaws.{raised_above, raised_within}
+use Rattle.tk_handle.proofs.TestLaws.{equal_of}
 
 at_most_itself : (o : Option ℕ) → AtMost o o
 at_most_itself None = tt
@@ -45,16 +45,12 @@ below_trans u v w h k r = at_most_trans (map.get u r) (map.get v r) (map.get w r
 pub below_antisymmetric : (v w : Vector) → Below v w → Below w v → v ≡ w
 below_antisymmetric v w h k = map.same_map nat_cmp_total map.nat_cmp-IsAntisymmetric v w (λ r. at_most_both (map.get v r) (map.get w r) (h r) (k r))
 
-equal_of : (o : Ordering) → is_eq o ≡ true → o ≡ Equal
-equal_of Less e = absurd (true≢false (sym e))
-equal_of Equal e = refl
-equal_of Greater e = absurd (true≢false (sym e))
-
 tied : (q r : ℕ) → eq_by_cmp nat_cmp q r ≡ true → q ≡ r
 tied q r h = map.nat_cmp-IsAntisymmetric q r (equal_of (nat_cmp q r) h)
 
 -- P holds of what is at region q after an insertion at r, by whether q is r
-by_region : (P : Option ℕ → Type 0) (v : Vector) (r n q : ℕ) → (q ≡ r → P (Some n)) → P (map.get v q) → P (map.get (map.insert v r n) q)
+by_region : (P : Option ℕ → Type 0) (v : Vector) (r n q : ℕ) → (q ≡ r → P (Some n))
+    → P (map.get v q) → P (map.get (map.insert v r n) q)
 by_region P v r n q here there =
     subst P (sym (map.get-insert nat_cmp_total v r n q))
     (elim (eq_by_cmp nat_cmp q r) as (λ t. eq_by_cmp nat_cmp q r ≡ t → P (cond t (Some n) (map.get v q))) [ true ↦ λ e. here (tied q r e) | false ↦ λ _. there ] refl)
@@ -83,7 +79,8 @@ raised_has v r n some = elim (cases_lt (entry v r) n) [
   | inr ge ↦ subst (λ (w : Vector). AtMost (Some n) (map.get w r)) (sym (raised_within v r n ge)) (entry_high (map.get v r) n some ge)
 ]
 
-pub raised_below : (v w : Vector) (r n : ℕ) → Below v w → AtMost (Some n) (map.get w r) → Below (raised v r n) w
+pub raised_below : (v w : Vector) (r n : ℕ) → Below v w → AtMost (Some n) (map.get w r)
+    → Below (raised v r n) w
 raised_below v w r n low high q = elim (cases_lt (entry v r) n) [
   | inl lt ↦ subst (λ (u : Vector). AtMost (map.get u q) (map.get w q)) (sym (raised_above v r n lt))
       (by_region (λ o. AtMost o (map.get w q)) v r n q (λ same. subst (λ (k : ℕ). AtMost (Some n) (map.get w k)) (sym same) high) (low q))
@@ -92,7 +89,9 @@ raised_below v w r n low high q = elim (cases_lt (entry v r) n) [
 
 -- ---- raising each of some entries
 
-pub raised_more : (V : Vector) (es : List (ℕ × ℕ)) (N M : Vector) (i r n : ℕ) → RaisedBy V es N i → i < length es → ((d : ℕ × ℕ) → get_or es i d ≡ (r, n)) → 0 < n → M ≡ raised N r n → RaisedBy V es M (i + 1)
+pub raised_more : (V : Vector) (es : List (ℕ × ℕ)) (N M : Vector) (i r n : ℕ) → RaisedBy V es N i
+    → i < length es → ((d : ℕ × ℕ) → get_or es i d ≡ (r, n)) → 0 < n → M ≡ raised N r n
+    → RaisedBy V es M (i + 1)
 raised_more V es N M i r n so within here some is = record {
   above = subst (Below V) (sym is) (below_trans V N (raised N r n) so.above (raised_keeps N r n));
   least = λ c low all. subst (λ (u : Vector). Below u c) (sym is) (raised_below N c r n (so.least c low all)
@@ -106,7 +105,9 @@ raised_more V es N M i r n so within here some is = record {
 }
 
 -- what is found in a list whose entries are each at most c's is at most c's entry
-found_below : (es : List (ℕ × ℕ)) (c : Vector) (q : ℕ) → ((k : ℕ) (d : ℕ × ℕ) → k < length es → AtMost (Some (get_or es k d).1) (map.get c (get_or es k d).0)) → AtMost (map.find nat_cmp q es) (map.get c q)
+found_below : (es : List (ℕ × ℕ)) (c : Vector) (q : ℕ)
+    → ((k : ℕ) (d : ℕ × ℕ) → k < length es → AtMost (Some (get_or es k d).1) (map.get c (get_or es k d).0))
+    → AtMost (map.find nat_cmp q es) (map.get c q)
 found_below [] c q all = tt
 found_below (e ∷ es) c q all = elim (cases_Bool (eq_by_cmp nat_cmp q e.0)) [
   | inl here ↦ subst (λ o. AtMost o (map.get c q)) (sym (cond-true (eq_by_cmp nat_cmp q e.0) (Some e.1) (map.find nat_cmp q es) here))
@@ -116,19 +117,24 @@ found_below (e ∷ es) c q all = elim (cases_Bool (eq_by_cmp nat_cmp q e.0)) [
 ]
 
 module _ (es : List (ℕ × ℕ)) (W : Vector) (seen : (q : ℕ) → map.get W q ≡ map.find nat_cmp q es) (found : (k : ℕ) (d : ℕ × ℕ) → k < length es → map.get W (get_or es k d).0 ≡ Some (get_or es k d).1) where
-  pub each_below : (c : Vector) → Below W c → (k : ℕ) (d : ℕ × ℕ) → k < length es → AtMost (Some (get_or es k d).1) (map.get c (get_or es k d).0)
+  pub each_below : (c : Vector) → Below W c → (k : ℕ) (d : ℕ × ℕ) → k < length es
+      → AtMost (Some (get_or es k d).1) (map.get c (get_or es k d).0)
   each_below c low k d lt = subst (λ o. AtMost o (map.get c (get_or es k d).0)) (found k d lt) (low (get_or es k d).0)
 
-  pub all_below : (c : Vector) → ((k : ℕ) (d : ℕ × ℕ) → k < length es → AtMost (Some (get_or es k d).1) (map.get c (get_or es k d).0)) → Below W c
+  pub all_below : (c : Vector)
+      → ((k : ℕ) (d : ℕ × ℕ) → k < length es → AtMost (Some (get_or es k d).1) (map.get c (get_or es k d).0))
+      → Below W c
   all_below c all q = subst (λ o. AtMost o (map.get c q)) (sym (seen q)) (found_below es c q all)
 
   pub raised_all : (V N : Vector) → RaisedBy V es N (length es) → IsJoin Below V W N
   raised_all V N so = record { left = so.above; right = all_below N so.has; least = λ c low high. so.least c low (each_below c high) }
 
-  pub raised_some : (V N : Vector) (i : ℕ) → RaisedBy V es N i → (c : Vector) → Below V c → Below W c → Below N c
+  pub raised_some : (V N : Vector) (i : ℕ) → RaisedBy V es N i → (c : Vector) → Below V c
+      → Below W c → Below N c
   raised_some V N i so c low high = so.least c low (each_below c high)
 
-  pub is_below : (V : Vector) → (AllAtMost es (length es) V → Below W V) × (Below W V → AllAtMost es (length es) V)
+  pub is_below : (V : Vector)
+      → (AllAtMost es (length es) V → Below W V) × (Below W V → AllAtMost es (length es) V)
   is_below V = (all_below V, each_below V)
 
 -- ---- the least vector above two
@@ -150,11 +156,13 @@ topped_keeps v r n q = by_region (AtMost (map.get v q)) v r (max n (entry v r)) 
 topped_has : (v : Vector) (r n : ℕ) → AtMost (Some n) (map.get (topped v r n) r)
 topped_has v r n = subst (AtMost (Some n)) (sym (map.get-insert nat_cmp_total v r (max n (entry v r)) r ∙ ap (λ o. cond (is_eq o) (Some (max n (entry v r))) (map.get v r)) (tied_itself nat_cmp_total r))) (omega arith)
 
-topped_below : (v w : Vector) (r n : ℕ) → Below v w → AtMost (Some n) (map.get w r) → Below (topped v r n) w
+topped_below : (v w : Vector) (r n : ℕ) → Below v w → AtMost (Some n) (map.get w r)
+    → Below (topped v r n) w
 topped_below v w r n low high q = by_region (λ o. AtMost o (map.get w q)) v r (max n (entry v r)) q
     (λ same. subst (λ (k : ℕ). AtMost (Some (max n (entry v r))) (map.get w k)) (sym same) (two (map.get v r) (map.get w r) (low r) high)) (low q)
   where
-    two : (o p : Option ℕ) → AtMost o p → AtMost (Some n) p → AtMost (Some (max n (unwrap_or o 0))) p
+    two : (o p : Option ℕ) → AtMost o p → AtMost (Some n) p
+        → AtMost (Some (max n (unwrap_or o 0))) p
     two o None h k = absurd k
     two None (Some m) h k = omega arith
     two (Some l) (Some m) h k = omega arith
@@ -163,7 +171,8 @@ with_keeps : (v : Vector) (es : List (ℕ × ℕ)) → Below v (with_entries v e
 with_keeps v [] = below_itself v
 with_keeps v (e ∷ es) = below_trans v (with_entries v es) (topped (with_entries v es) e.0 e.1) (with_keeps v es) (topped_keeps (with_entries v es) e.0 e.1)
 
-with_has : (v : Vector) (es : List (ℕ × ℕ)) (q : ℕ) → AtMost (map.find nat_cmp q es) (map.get (with_entries v es) q)
+with_has : (v : Vector) (es : List (ℕ × ℕ)) (q : ℕ)
+    → AtMost (map.find nat_cmp q es) (map.get (with_entries v es) q)
 with_has v [] q = tt
 with_has v (e ∷ es) q = elim (cases_Bool (eq_by_cmp nat_cmp q e.0)) [
   | inl here ↦ subst (λ o. AtMost o (map.get (with_entries v (e ∷ es)) q)) (sym (cond-true (eq_by_cmp nat_cmp q e.0) (Some e.1) (map.find nat_cmp q es) here))
@@ -172,23 +181,27 @@ with_has v (e ∷ es) q = elim (cases_Bool (eq_by_cmp nat_cmp q e.0)) [
       (at_most_trans (map.find nat_cmp q es) (map.get (with_entries v es) q) _ (with_has v es q) (topped_keeps (with_entries v es) e.0 e.1 q))
 ]
 
-with_below : (v w : Vector) (es : List (ℕ × ℕ)) → Below v w → AllAtMost es (length es) w → Below (with_entries v es) w
+with_below : (v w : Vector) (es : List (ℕ × ℕ)) → Below v w → AllAtMost es (length es) w
+    → Below (with_entries v es) w
 with_below v w [] low all = low
 with_below v w (e ∷ es) low all = topped_below (with_entries v es) w e.0 e.1 (with_below v w es low (λ k d lt. all (suc k) d (omega arith))) (all 0 e (omega arith))
 
 -- the element at a place in range does not depend on the default
-pub get_or-any : (es : List (ℕ × ℕ)) (k : ℕ) (x y : ℕ × ℕ) → k < length es → get_or es k x ≡ get_or es k y
+pub get_or-any : (es : List (ℕ × ℕ)) (k : ℕ) (x y : ℕ × ℕ) → k < length es
+    → get_or es k x ≡ get_or es k y
 get_or-any [] k x y h = absurd (omega arith)
 get_or-any (e ∷ es) zero x y h = refl
 get_or-any (e ∷ es) (suc k) x y h = get_or-any es k x y (omega arith)
 
 -- each entry of a list that rises is found by its key
-found_there : (es : List (ℕ × ℕ)) → T (map.is_sorted nat_cmp es) → (k : ℕ) (d : ℕ × ℕ) → k < length es → map.find nat_cmp (get_or es k d).0 es ≡ Some (get_or es k d).1
+found_there : (es : List (ℕ × ℕ)) → T (map.is_sorted nat_cmp es) → (k : ℕ) (d : ℕ × ℕ)
+    → k < length es → map.find nat_cmp (get_or es k d).0 es ≡ Some (get_or es k d).1
 found_there es sorted k d lt = find_at_place nat_cmp (get_or es k d).0 es k lt
     (λ j x less. nat_cmp_total.antisymm (get_or es k d).0 (get_or es j x).0 ∙ ap ordering_reverse (ap (nat_cmp (get_or es j x).0) (ap (λ (e : ℕ × ℕ). e.0) (get_or-any es k d x lt)) ∙ rises nat_cmp es sorted j k x less lt))
     (λ x. ap (nat_cmp (get_or es k d).0) (ap (λ (e : ℕ × ℕ). e.0) (get_or-any es k x d lt)) ∙ tied_itself nat_cmp_total (get_or es k d).0) d
 
-pub found_entries : (W : Vector) (k : ℕ) (d : ℕ × ℕ) → k < length (map.entries W) → map.get W (get_or (map.entries W) k d).0 ≡ Some (get_or (map.entries W) k d).1
+pub found_entries : (W : Vector) (k : ℕ) (d : ℕ × ℕ) → k < length (map.entries W)
+    → map.get W (get_or (map.entries W) k d).0 ≡ Some (get_or (map.entries W) k d).1
 found_entries W k d lt = map.get-entries W (get_or (map.entries W) k d).0 ∙ found_there (map.entries W) (map.entries_sorted W) k d lt
 
 pub join_of : (v w : Vector) → (c : Vector) × IsJoin Below v w c
@@ -209,16 +222,19 @@ module _ (es : List (ℕ × ℕ)) (W : Vector) (sorted : T (map.is_sorted nat_cm
   seen_at : (q : ℕ) → map.get W q ≡ map.find nat_cmp q es
   seen_at q = map.get-entries W q ∙ ap (map.find nat_cmp q) kept_entries
 
-  found_at : (k : ℕ) (d : ℕ × ℕ) → k < length es → map.get W (get_or es k d).0 ≡ Some (get_or es k d).1
+  found_at : (k : ℕ) (d : ℕ × ℕ) → k < length es
+      → map.get W (get_or es k d).0 ≡ Some (get_or es k d).1
   found_at k d lt = seen_at (get_or es k d).0 ∙ found_there es sorted k d lt
 
-  pub kept_below : (V : Vector) → (AllAtMost es (length es) V → Below W V) × (Below W V → AllAtMost es (length es) V)
+  pub kept_below : (V : Vector)
+      → (AllAtMost es (length es) V → Below W V) × (Below W V → AllAtMost es (length es) V)
   kept_below = is_below es W seen_at found_at
 
   pub kept_join : (V N : Vector) → RaisedBy V es N (length es) → IsJoin Below V W N
   kept_join = raised_all es W seen_at found_at
 
-  pub kept_some : (V N : Vector) (i : ℕ) → RaisedBy V es N i → (c : Vector) → Below V c → Below W c → Below N c
+  pub kept_some : (V N : Vector) (i : ℕ) → RaisedBy V es N i → (c : Vector) → Below V c → Below W c
+      → Below N c
   kept_some = raised_some es W seen_at found_at
 
 pub vector_laws : JoinLaws Below (λ a b. ⊤)

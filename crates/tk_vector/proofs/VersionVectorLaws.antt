@@ -2,7 +2,8 @@
 --   raised_above, raised_within                   raising, by cases
 --   lowered_none, lowered_below, lowered_within   lowering, by cases
 --   entry_raised, entry_lowered, entry_empty      the entries afterwards
-use Rattle.std.proofs.Common.{◌≡◌, ℕ, ◌<◌, ◌≤◌, ◌==◌, arith, ap, refl, ◌∙◌, Bool, true, false, cond, if◌then◌else◌, max, min, Option, Some, None, unwrap_or, inl, inr}
+use Rattle.std.proofs.Common.{◌≡◌, ℕ, ◌<◌, ◌≤◌, ◌==◌, arith, ap, refl, ◌∙◌, Bool, true, false, cond}
+use Rattle.std.proofs.Common.{if◌then◌else◌, max, min, Option, Some, None, unwrap_or, inl, inr}
 use Rattle.std.specs.Ordering.{nat_cmp, is_lt, is_eq, eq_by_cmp}
 use Rattle.std.specs.Cmp.{nat_cmp_total}
 use Rattle.std.specs.FinMap as map
@@ -37,31 +38,36 @@ entry_absent v r h = ap (λ o. unwrap_or o 0) h
 pub lowered_none : (v : Vector) (r n : ℕ) → n ≡ 0 → lowered v r n ≡ map.remove v r
 lowered_none v r n z = ap (λ k. lowered v r k) z
 
-pub lowered_below : (v : Vector) (r n : ℕ) → 0 < n → n < entry v r → lowered v r n ≡ map.insert v r n
+pub lowered_below : (v : Vector) (r n : ℕ) → 0 < n → n < entry v r
+    → lowered v r n ≡ map.insert v r n
 lowered_below v r n p h = grind (arith, nat_tests)
 
 pub lowered_within : (v : Vector) (r n : ℕ) → 0 < n → entry v r ≤ n → lowered v r n ≡ v
 lowered_within v r n p h = grind (arith, nat_tests)
 
 -- the entries after an insertion
-entry_insert : (v : Vector) (r n q : ℕ) → entry (map.insert v r n) q ≡ (if q == r then n else entry v q)
+entry_insert : (v : Vector) (r n q : ℕ)
+    → entry (map.insert v r n) q ≡ (if q == r then n else entry v q)
 entry_insert v r n q = ap (λ o. unwrap_or o 0) (map.get-insert nat_cmp_total v r n q) ∙ inside (eq_by_cmp nat_cmp q r) (q == r) (number_tied q r) (map.get v q)
   where
-    inside : (s t : Bool) → s ≡ t → (o : Option ℕ) → unwrap_or (cond s (Some n) o) 0 ≡ (if t then n else unwrap_or o 0)
+    inside : (s t : Bool) → s ≡ t → (o : Option ℕ)
+        → unwrap_or (cond s (Some n) o) 0 ≡ (if t then n else unwrap_or o 0)
     inside true t e o = rw (← e) refl
     inside false t e o = rw (← e) refl
 
 entry_remove : (v : Vector) (r q : ℕ) → entry (map.remove v r) q ≡ (if q == r then 0 else entry v q)
 entry_remove v r q = ap (λ o. unwrap_or o 0) (map.get-remove nat_cmp_total v r q) ∙ inside (eq_by_cmp nat_cmp q r) (q == r) (number_tied q r) (map.get v q)
   where
-    inside : (s t : Bool) → s ≡ t → (o : Option ℕ) → unwrap_or (cond s None o) 0 ≡ (if t then 0 else unwrap_or o 0)
+    inside : (s t : Bool) → s ≡ t → (o : Option ℕ)
+        → unwrap_or (cond s None o) 0 ≡ (if t then 0 else unwrap_or o 0)
     inside true t e o = rw (← e) refl
     inside false t e o = rw (← e) refl
 
 pub entry_empty : (r : ℕ) → entry map.empty r ≡ 0
 entry_empty r = ap (λ o. unwrap_or o 0) (map.get-empty nat_cmp r)
 
-pub entry_raised : (v : Vector) (r n q : ℕ) → entry (raised v r n) q ≡ (if q == r then max n (entry v r) else entry v q)
+pub entry_raised : (v : Vector) (r n q : ℕ)
+    → entry (raised v r n) q ≡ (if q == r then max n (entry v r) else entry v q)
 entry_raised v r n q = elim (cases_lt (entry v r) n) [
   | inl lt ↦ ap (λ w. entry w q) (raised_above v r n lt) ∙ entry_insert v r n q ∙ grind (arith, nat_tests)
   | inr ge ↦ ap (λ w. entry w q) (raised_within v r n ge) ∙ kept (entry v q) (entry v r) ge (λ same. ap (entry v) same)
@@ -70,7 +76,8 @@ entry_raised v r n q = elim (cases_lt (entry v r) n) [
     kept : (x y : ℕ) → n ≤ y → (q ≡ r → x ≡ y) → x ≡ (if q == r then max n y else x)
     kept x y le same = grind (arith, nat_tests)
 
-pub entry_lowered : (v : Vector) (r n q : ℕ) → entry (lowered v r n) q ≡ (if q == r then min n (entry v r) else entry v q)
+pub entry_lowered : (v : Vector) (r n q : ℕ)
+    → entry (lowered v r n) q ≡ (if q == r then min n (entry v r) else entry v q)
 entry_lowered v r n q = elim (cases_lt 0 n) [
   | inl some ↦ elim (cases_lt n (entry v r)) [
     | inl lt ↦ ap (λ w. entry w q) (lowered_below v r n some lt) ∙ entry_insert v r n q ∙ grind (arith, nat_tests)

@@ -5,8 +5,8 @@ use Rattle.std.proofs.lemmas.Option.{cond_some}
 use Rattle.std.specs.Ordering.{nat_cmp}
 use Rattle.std.specs.FinMap as map
 use Rattle.tk_format.specs.Exact.{IsExact}
-use Rattle.tk_format.specs.Laws.{u16_exact, u64_exact, both_exact, only_exact, after_exact}
-use Rattle.tk_format.specs.Laws.{counted_exact, partly_exact}
+use Rattle.tk_format.specs.NumberLaws.{u16_exact, u64_exact}
+use Rattle.tk_format.specs.Laws.{both_exact, only_exact, after_exact, counted_exact, partly_exact}
 use Rattle.tk_handle.specs.Ranges.{is_region, is_serial}
 use Rattle.tk_vector.specs.VersionVector.{Vector}
 use Rattle.tk_vector.specs.VectorBytes.{magic, entry_field, listed, rising, vector}

@@ -1,4 +1,4 @@
-use Rattle.std.proofs.Common.{◌≡◌, nat_lt, ◌+◌, length, map, ap, ◌∙◌, take}
+use Rattle.std.proofs.Common.{◌≡◌, nat_lt, length, map, ap, ◌∙◌, take}
 use Rattle.std.proofs.lemmas.Result.{IfOk-weaker, on_ok_weaker}
 use Rattle.tk_store.specs.Beyond.{beyond}
 use Rattle.tk_store.specs.FactSet.{dot_of}

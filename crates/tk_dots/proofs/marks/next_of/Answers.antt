@@ -1,4 +1,4 @@
-use Rattle.std.proofs.Common.{◌≡◌, ap, sym, ◌∙◌, subst, Option, Some, None, refl}
+use Rattle.std.proofs.Common.{subst, Option, refl}
 use Rattle.tk_handle.specs.declared.dot.Dot.{Dot}
 use Rattle.tk_dots.specs.Marks.{marked}
 use Rattle.tk_dots.specs.Runs.{IsNextIn}

@@ -1,13 +1,13 @@
-use Rattle.std.proofs.Common.{◌≡◌, ◌∙◌, ap, sym, subst, arith, ℕ, ◌==◌, ◌≤◌, ◌<◌, max, ◌+◌, cond, length, get_or, is_some, Option, Some, None, IsSome}
+use Rattle.std.proofs.Common.{◌≡◌, ◌∙◌, ap, sym, subst, arith, ◌==◌, cond}
+use Rattle.std.proofs.Common.{get_or, is_some, Option, Some, None}
 use Rattle.std.specs.BTreeMap.{get}
-use Rattle.tk_handle.specs.declared.dot.Dot.{Dot}
 use Rattle.tk_handle.specs.Dot.{dot_cmp}
-use Rattle.tk_dots.specs.Pages.{Slots, slot_in, cell, IsPage}
-use Rattle.tk_dots.proofs.PageLaws.{cells_updated, cells_kept, pages_updated, same_lookups, none_of, on_ok, on_err, on_both, page_one, page_put}
+use Rattle.tk_dots.specs.Pages.{Slots, slot_in, IsPage}
+use Rattle.tk_dots.proofs.PageLaws.{cells_updated, cells_kept, pages_updated, same_lookups, on_ok}
+use Rattle.tk_dots.proofs.PageLaws.{on_err, on_both, page_one, page_put}
 use Rattle.tk_dots.proofs.pages.put_in.Goals as goal
-
-some_same : {A : Type 0} (x y : A) → Some x ≡ Some y → x ≡ y
-some_same x y h = cc
+use Rattle.std.proofs.lemmas.Option.{same_Some as some_same}
+use Rattle.tk_handle.proofs.TestLaws.{none_of}
 
 pub returns-in_err-insert-clause-pages : goal.returns-in_err-insert-clause-pages
 returns-in_err-insert-clause-pages g c = λ k v at. c.requires.pages k v (sym (same_lookups c.args.pages.now c.insert.new.self c.in_err-insert.ensures.err k) ∙ at)

@@ -1,13 +1,11 @@
-use Rattle.std.proofs.Common.{◌≡◌, ◌∙◌, ap, sym, subst, arith, ℕ, ◌==◌, ◌≤◌, ◌<◌, max, ◌+◌, cond, length, get_or, is_some, Option, Some, None, IsSome}
+use Rattle.std.proofs.Common.{◌≡◌, ◌∙◌, ap, sym, subst, arith, ◌==◌, cond}
+use Rattle.std.proofs.Common.{is_some, Option, Some, None}
 use Rattle.std.specs.BTreeMap.{get}
-use Rattle.tk_handle.specs.declared.dot.Dot.{Dot}
 use Rattle.tk_handle.specs.Dot.{dot_cmp}
 use Rattle.tk_dots.specs.Pages.{Slots, slot_in, cell, IsPage}
 use Rattle.tk_dots.proofs.PageLaws.{cells_updated, pages_updated, page_set}
 use Rattle.tk_dots.proofs.pages.set_in.Goals as goal
-
-some_same : {A : Type 0} (x y : A) → Some x ≡ Some y → x ≡ y
-some_same x y h = cc
+use Rattle.std.proofs.lemmas.Option.{same_Some as some_same}
 
 pub returns-in-Some-clause-cells : goal.returns-in-Some-clause-cells
 returns-in-Some-clause-cells g c =

@@ -1,19 +1,14 @@
-use Rattle.std.proofs.Common.{◌≡◌, ◌∙◌, ap, sym, subst, arith, ℕ, ◌==◌, ◌≤◌, ◌<◌, max, ◌+◌, cond, length, get_or, is_some, Option, Some, None, IsSome, Bool, true, false}
+use Rattle.std.proofs.Common.{◌≡◌, ◌∙◌, ap, sym, subst, arith, ℕ, ◌==◌, ◌<◌, cond}
+use Rattle.std.proofs.Common.{length, is_some, Option, Some, None, Bool, true}
+use Rattle.std.proofs.Common.{false, eqb-true as nat_same}
 use Rattle.std.specs.BTreeMap.{get}
-use Rattle.tk_handle.specs.declared.dot.Dot.{Dot}
 use Rattle.tk_handle.specs.Dot.{dot_cmp}
-use Rattle.tk_dots.specs.Pages.{Slots, slot_in, cell, IsPage}
+use Rattle.tk_dots.specs.Pages.{Slots, slot_in, IsPage}
 use Rattle.std.proofs.lemmas.List.{get_or_past}
 use Rattle.std.proofs.lemmas.Bool.Decides.{nat_tests}
-use Rattle.tk_dots.proofs.CellLaws.{nat_same}
 use Rattle.tk_dots.proofs.PageLaws.{cells_updated, pages_updated, taken_out, page_taken}
 use Rattle.tk_dots.proofs.pages.take_in.Goals as goal
-
-some_same : {A : Type 0} (x y : A) → Some x ≡ Some y → x ≡ y
-some_same x y h = cc
-
-none_is : {A : Type 0} (x : A) → None ≡ Some x → ⊥
-none_is x h = cc
+use Rattle.std.proofs.lemmas.Option.{none-some as none_is, same_Some as some_same}
 
 some_left : (n : ℕ) (b : Bool) → b ≡ (n == 0) → b ≡ false → 0 < n
 some_left n b e h = grind (arith, nat_tests)

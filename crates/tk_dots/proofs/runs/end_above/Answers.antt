@@ -1,11 +1,13 @@
-use Rattle.std.proofs.Common.{◌≡◌, ◌∙◌, ◌+◌, ℕ, ap, sym, arith}
+use Rattle.std.proofs.Common.{◌≡◌, ◌∙◌, ◌+◌, ℕ, ap, sym}
 use Rattle.tk_handle.specs.declared.dot.Dot.{Dot}
 use Rattle.tk_dots.specs.Runs.{dot_of}
 use Rattle.tk_dots.proofs.PlaceLaws.{dot_is}
 use Rattle.tk_dots.proofs.RunLaws.{end_some, end_none}
 use Rattle.tk_dots.proofs.runs.end_above.Goals as goal
 
-next_is : (next d : Dot) (region serial : ℕ) → next ≡ record { region = region; serial = serial + 1 } → region ≡ d.region → serial ≡ d.serial → next ≡ dot_of d.region (d.serial + 1)
+next_is : (next d : Dot) (region serial : ℕ)
+    → next ≡ record { region = region; serial = serial + 1 } → region ≡ d.region → serial ≡ d.serial
+    → next ≡ dot_of d.region (d.serial + 1)
 next_is next d region serial is e f = is ∙ dot_is (dot_of region (serial + 1)) (dot_of d.region (d.serial + 1)) e (ap (λ (n : ℕ). n + 1) f)
 
 pub returns-in-Some-get-clause-end : goal.returns-in-Some-get-clause-end

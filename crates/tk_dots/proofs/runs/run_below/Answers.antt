@@ -1,4 +1,4 @@
-use Rattle.std.proofs.Common.{◌≡◌, ◌∙◌, ap, sym, arith}
+use Rattle.std.proofs.Common.{◌∙◌, sym}
 use Rattle.tk_dots.proofs.RunLaws.{below_is, below_other, below_none, nat_test, nat_apart}
 use Rattle.tk_dots.proofs.runs.run_below.Goals as goal
 

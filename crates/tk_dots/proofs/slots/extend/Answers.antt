@@ -1,4 +1,5 @@
-use Rattle.std.proofs.Common.{◌∙◌, ap, sym, arith, get_or, None, Some, List, Option, ◌==◌, cond, ℕ, length, vec_len, ◌≡◌}
+use Rattle.std.proofs.Common.{◌∙◌, ap, arith, get_or, None, Some, List, Option, ◌==◌, cond}
+use Rattle.std.proofs.Common.{length, ◌≡◌}
 use Rattle.tk_dots.proofs.SlotLaws.{push_none, push_some}
 use Rattle.tk_dots.proofs.slots.extend.Goals as goal
 

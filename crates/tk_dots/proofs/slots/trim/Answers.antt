@@ -1,4 +1,4 @@
-use Rattle.std.proofs.Common.{◌∙◌, ap, sym, arith, rules, get_or, None, Some, List, Option, ◌≡◌, ◌++◌, ◌∷◌, []}
+use Rattle.std.proofs.Common.{◌∙◌, ap, sym, arith, rules, get_or, None, Some, List, Option, ◌≡◌}
 use Rattle.tk_dots.proofs.SlotLaws.{push_none}
 use Rattle.tk_dots.proofs.slots.trim.Goals as goal
 

@@ -1,4 +1,5 @@
-use Rattle.std.proofs.Common.{◌≡◌, ◌<◌, ◌≤◌, ◌+◌, ◌-◌, ℕ, [], ◌∷◌, ◌++◌, None, Some, List, Option, slice_index_or, vec_len, vec_capacity, length, get_or}
+use Rattle.std.proofs.Common.{◌≡◌, ◌≤◌, ◌-◌, ℕ, None}
+use Rattle.std.proofs.Common.{slice_index_or, vec_len}
 use Rattle.tk_dots.proofs.slots.trim.Given as goal
 
 abbrev pub invariant-loop-slots : goal.invariant-loop-slots

@@ -1,12 +1,14 @@
 use Rattle.std.specs.FinMap as map
-use Rattle.std.specs.declared.alloc.AllocError.{AllocError}
-use Rattle.std.proofs.Common.{OnErr, Result, Ok, Err, ◌≡◌, ◌++◌, ◌∷◌, ◌<◌, ◌≤◌, [], List, sym, ◌∙◌, ap, arith, length, append-nil, Vec, Global, vec_capacity}
+use Rattle.std.proofs.Common.{◌≡◌, ◌++◌, ◌∷◌, ◌<◌, ◌≤◌, [], List, sym, ◌∙◌, ap, arith, length}
+use Rattle.std.proofs.Common.{append-nil, Vec, Global, vec_capacity}
 use Rattle.tk_handle.specs.declared.dot.Dot.{Dot}
 use Rattle.tk_family.specs.Rows.{table, links_of}
 use Rattle.tk_family.specs.Puts.{with_link, Pushes}
-use Rattle.tk_family.proofs.Gathering.{Gathering-starts, Gathering-turns, Gathering-ends, Gathering-short, AreChildren-from, AreChildren-none}
+use Rattle.tk_family.proofs.Gathering.{Gathering-starts, Gathering-turns, Gathering-ends}
+use Rattle.tk_family.proofs.Gathering.{Gathering-short, AreChildren-from, AreChildren-none}
 use Rattle.tk_family.proofs.gather.gather_into.Goals as goal
 use Rattle.tk_family.proofs.gather.gather_into.Goals.{in-Some+in_ok-push_children, in_default}
+use Rattle.tk_handle.proofs.TestLaws.{always_err as on_err}
 
 pub loop-i-init : goal.loop-i-init
 loop-i-init c =
@@ -41,10 +43,6 @@ loop-i-preserved c =
         | in_default w ↦ rw w.list-is c.loop-i.invariant.capacity
       ];
     }
-
-on_err : (P : Type 0) (r : Result (Unit {0}) AllocError) → P → OnErr r P
-on_err P (Ok u) p = tt
-on_err P (Err e) p = p
 
 pub returns-in_err-push-clause-full : goal.returns-in_err-push-clause-full
 returns-in_err-push-clause-full c =

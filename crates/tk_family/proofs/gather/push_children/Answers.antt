@@ -1,5 +1,5 @@
-use Rattle.std.specs.declared.alloc.AllocError.{AllocError}
-use Rattle.std.proofs.Common.{OnErr, Result, Ok, Err, ◌≡◌, ◌≤◌, ◌++◌, ◌∷◌, [], cond, Some, Option, List, Vec, Global, sym, ◌∙◌, ap, subst, arith, length, vec_capacity}
+use Rattle.std.proofs.Common.{◌≡◌, ◌≤◌, ◌++◌, ◌∷◌, [], cond, Some, Option, List, Vec, Global, sym}
+use Rattle.std.proofs.Common.{◌∙◌, ap, subst, arith, length, vec_capacity}
 use Rattle.tk_handle.specs.declared.dot.Dot.{Dot}
 use Rattle.tk_family.specs.declared.children.Child.{Child}
 use Rattle.tk_family.specs.Children.{users_in, token_at}
@@ -7,9 +7,11 @@ use Rattle.tk_family.specs.Puts.{fits_at}
 use Rattle.tk_family.specs.Rows.{table, links_of, firsts_of, grant_kind}
 use Rattle.tk_family.specs.Takes.{IsShort}
 use Rattle.tk_family.proofs.ChildLaws.{dots_of, span_is}
-use Rattle.tk_family.proofs.Hanging.{Pushing, listed, Pushing-from, Pushing-first, Pushing-turns, Pushing-ends, Pushing-short}
+use Rattle.tk_family.proofs.Hanging.{Pushing, listed, Pushing-from, Pushing-first, Pushing-turns}
+use Rattle.tk_family.proofs.Hanging.{Pushing-ends, Pushing-short}
 use Rattle.tk_family.proofs.gather.push_children.Goals as goal
 use Rattle.tk_family.proofs.gather.push_children.Goals.{in-Some+in_ok-push_fitting, in_default}
+use Rattle.tk_handle.proofs.TestLaws.{always_err as on_err}
 
 pub loop-child-init : goal.loop-child-init
 loop-child-init c =
@@ -45,10 +47,6 @@ loop-child-preserved c =
           (c.in_ok-push_fitting-2.ensures.ok ∙ ap (λ (e : Dot). cond (fits_at (f e) c.args.above.now) (c.loop-child.list.items ++ e ∷ []) c.loop-child.list.items) c.dot.ensures);
       capacity = omega (arith, c.loop-child.invariant.capacity, c.in_ok-push_fitting-2.ensures.capacity);
     }
-
-on_err : (P : Type 0) (r : Result (Unit {0}) AllocError) → P → OnErr r P
-on_err P (Ok u) p = tt
-on_err P (Err e) p = p
 
 pub returns-in_err-push_fitting-clause-full : goal.returns-in_err-push_fitting-clause-full
 returns-in_err-push_fitting-clause-full c =

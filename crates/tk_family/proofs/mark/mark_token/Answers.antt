@@ -1,14 +1,10 @@
-use Rattle.std.proofs.Common.{OnErr, Result, Ok, Err}
-use Rattle.std.specs.declared.alloc.AllocError.{AllocError}
 use Rattle.tk_family.specs.Rows.{table}
 use Rattle.tk_family.specs.Puts.{NothingSeen}
 use Rattle.tk_family.proofs.Columns.{Alike-blank, Alike-same, NothingSeen-alike, present-blank}
-use Rattle.tk_family.proofs.Marking.{MarksOne-from, MarksOne-seen, IsCountedAs-marked, AlikeButMarks-marked, code_row}
+use Rattle.tk_family.proofs.Marking.{MarksOne-from, MarksOne-seen, IsCountedAs-marked}
+use Rattle.tk_family.proofs.Marking.{AlikeButMarks-marked, code_row}
 use Rattle.tk_family.proofs.mark.mark_token.Goals as goal
-
-on_err : (P : Type 0) (r : Result (Unit {0}) AllocError) → P → OnErr r P
-on_err P (Ok u) p = tt
-on_err P (Err e) p = p
+use Rattle.tk_handle.proofs.TestLaws.{always_err as on_err}
 
 pub recount-requires-clause-counted : goal.recount-requires-clause-counted
 recount-requires-clause-counted c =

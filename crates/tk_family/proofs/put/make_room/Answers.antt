@@ -1,4 +1,5 @@
-use Rattle.std.proofs.Common.{◌≡◌, Bool, true, false, cond, Option, None, Some, IsSome, refl, sym, subst, arith}
+use Rattle.std.proofs.Common.{◌≡◌, Bool, true, false, cond, Option, None, Some, IsSome, refl, sym}
+use Rattle.std.proofs.Common.{subst, arith}
 use Rattle.std.proofs.lemmas.Grind.{common_steps}
 use Rattle.tk_handle.specs.declared.dot.Dot.{Dot}
 use Rattle.tk_family.specs.declared.row.Row.{Row}
@@ -14,7 +15,8 @@ some_blank : (row : Option Row) → IsSome (or_blank row)
 some_blank None = refl
 some_blank (Some row) = refl
 
-made_there : (T N : Rows) (at : Dot) → ((q : Dot) → N q ≡ cond (dot_eq at q) (or_blank (T q)) (T q)) → IsSome (N at)
+made_there : (T N : Rows) (at : Dot) → ((q : Dot) → N q ≡ cond (dot_eq at q) (or_blank (T q)) (T q))
+    → IsSome (N at)
 made_there T N at h = subst (λ (row : Option Row). IsSome row) (sym (h at)) (subst (λ (b : Bool). IsSome (cond b (or_blank (T at)) (T at))) (sym (dot_eq-same at)) (some_blank (T at)))
 
 -- a row that was there before is still there
@@ -22,11 +24,13 @@ some_either : (b : Bool) (row : Option Row) → IsSome row → IsSome (cond b (o
 some_either true row is = some_blank row
 some_either false row is = is
 
-stays_there : (T N : Rows) (at p : Dot) → ((q : Dot) → N q ≡ cond (dot_eq at q) (or_blank (T q)) (T q)) → IsSome (T p) → IsSome (N p)
+stays_there : (T N : Rows) (at p : Dot)
+    → ((q : Dot) → N q ≡ cond (dot_eq at q) (or_blank (T q)) (T q)) → IsSome (T p) → IsSome (N p)
 stays_there T N at p h is = subst (λ (row : Option Row). IsSome row) (sym (h p)) (some_either (dot_eq at p) (T p) is)
 
 -- the dot that a link names has the row that was made
-named_there : (N : Rows) (above : Dot) (found named : Option Dot) → found ≡ named → found ≡ Some above → IsSome (N above) → (p : Dot) → named ≡ Some p → IsSome (N p)
+named_there : (N : Rows) (above : Dot) (found named : Option Dot) → found ≡ named
+    → found ≡ Some above → IsSome (N above) → (p : Dot) → named ≡ Some p → IsSome (N p)
 named_there N above found named same is here p e =
     let at : above ≡ p = cc in
     subst (λ (q : Dot). IsSome (N q)) at here

@@ -2,7 +2,8 @@ use Rattle.std.proofs.Common.{sym, ◌∙◌, refl, subst}
 use Rattle.tk_family.specs.Children.{others_in}
 use Rattle.tk_family.specs.Rows.{RowMap, Rows, table, links_of, firsts_of}
 use Rattle.tk_family.proofs.HangLaws.{Hangs-same}
-use Rattle.tk_family.proofs.Taking.{Ready, Ready-whole, Ready-none, HasUses-cleared, codes_links, Takes-from}
+use Rattle.tk_family.proofs.Taking.{Ready, Ready-whole, Ready-none, HasUses-cleared, codes_links}
+use Rattle.tk_family.proofs.Taking.{Takes-from}
 use Rattle.tk_family.proofs.take.take_link.Goals as goal
 use Rattle.tk_family.proofs.take.take_link.Goals.{in-Some, in_default}
 

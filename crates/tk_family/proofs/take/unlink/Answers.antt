@@ -12,7 +12,8 @@ use Rattle.tk_family.specs.Uses.{uses_by}
 use Rattle.tk_family.specs.Writes.{without_link}
 use Rattle.tk_family.proofs.Columns.{no_name}
 use Rattle.tk_family.proofs.HangLaws.{Hangs-code, named_token}
-use Rattle.tk_family.proofs.Unlinking.{Loose-code, Loose-from, Unlinks-from, Hangs-unlinked, link_row, IsCountedAs-unhangs, IsCount-bare}
+use Rattle.tk_family.proofs.Unlinking.{Loose-code, Loose-from, Unlinks-from, Hangs-unlinked}
+use Rattle.tk_family.proofs.Unlinking.{link_row, IsCountedAs-unhangs, IsCount-bare}
 use Rattle.tk_family.proofs.take.unlink.Goals as goal
 use Rattle.tk_family.proofs.take.unlink.Goals.{in-Some, in_default}
 
@@ -30,7 +31,9 @@ recount-requires-clause-coded c = λ code h.
     link_row (table c.unhang.new.rows code) Code (kept.link code ∙ c.requires.coded c.in-Some.above code (sym (kept.code c.in-Some.above) ∙ h))
 
 -- the rows after each branch
-rows_after : (N : Rows) (d : Dot) (m n : RowMap) → m ≡ n → ((q : Dot) → N q ≡ cond (dot_eq d q) (without_link (table m q)) (table m q)) → (q : Dot) → N q ≡ cond (dot_eq d q) (without_link (table n q)) (table n q)
+rows_after : (N : Rows) (d : Dot) (m n : RowMap) → m ≡ n
+    → ((q : Dot) → N q ≡ cond (dot_eq d q) (without_link (table m q)) (table m q)) → (q : Dot)
+    → N q ≡ cond (dot_eq d q) (without_link (table n q)) (table n q)
 rows_after N d m n is h = subst (λ (x : RowMap). (q : Dot) → N q ≡ cond (dot_eq d q) (without_link (table x q)) (table x q)) is h
 
 pub returns-clause-unlinks : goal.returns-clause-unlinks

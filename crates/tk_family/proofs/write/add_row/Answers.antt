@@ -1,22 +1,17 @@
-use Rattle.std.proofs.Common.{sym, ap, ◌∙◌, ◌≡◌, false, is_some, Option, None, Some, Result, Ok, Err, OnOk, OnErr, refl, arith}
+use Rattle.std.proofs.Common.{sym, ap, ◌∙◌, ◌≡◌, false, is_some, Result, Ok, Err, OnOk, OnErr}
+use Rattle.std.proofs.Common.{arith}
 use Rattle.std.specs.FinMap as map
 use Rattle.std.specs.Option.{option_copied}
 use Rattle.tk_family.proofs.Writing.{added, longer}
 use Rattle.tk_family.proofs.write.add_row.Goals as goal
-
-on_ok : {A E P Q : Type 0} (r : Result A E) → OnOk r P → (P → Q) → OnOk r Q
-on_ok (Ok a) h f = f h
-on_ok (Err e) h f = tt
-
-none_of : {A : Type 0} (o : Option A) → is_some o ≡ false → o ≡ None
-none_of None h = refl
-none_of (Some a) h = absurd (cc)
+use Rattle.tk_handle.proofs.TestLaws.{none_of, on_ok}
 
 pub returns-clause-ok : goal.returns-clause-ok
 returns-clause-ok c = on_ok c.put.result c.put.ensures.ok (λ is.
     added c.args.rows.now c.put.new.self c.args.at c.pack.result is (sym c.get.ensures ∙ ap option_copied (none_of c.get.result (sym c.is_some.ensures ∙ c.if-is_some.false))) (c.pack.ensures ∙ c.new.ensures))
 
-either : {A E : Type 0} {P Q R : Type 0} (r : Result A E) → OnOk r P → OnErr r Q → (P → R) → (Q → R) → R
+either : {A E : Type 0} {P Q R : Type 0} (r : Result A E) → OnOk r P → OnErr r Q → (P → R) → (Q → R)
+    → R
 either (Ok a) p q f g = f p
 either (Err e) p q f g = g q
 

@@ -1,8 +1,11 @@
 use Rattle.std.proofs.Common.{◌∙◌, None, arith}
 use Rattle.std.proofs.lemmas.Bool.Decides.{nat_tests}
-use Rattle.tk_format.proofs.DecimalLaws.{is_decimal_in, no_plus, no_zero, no_nothing, no_text, parsed}
+use Rattle.tk_format.proofs.DecimalLaws.{is_decimal_in, no_plus, no_zero, no_nothing, no_text}
+use Rattle.tk_format.proofs.DecimalLaws.{parsed}
 use Rattle.tk_format.proofs.decimal.digits.Goals as goal
-use Rattle.tk_format.proofs.decimal.digits.Goals.{then-first-eq43-via-then-first-eq43, then-first-eq43-via-else-first-eq43+then-text-gt1, then-first-eq48, else-first-eq48}
+use Rattle.tk_format.proofs.decimal.digits.Goals.{then-first-eq43-via-then-first-eq43}
+use Rattle.tk_format.proofs.decimal.digits.Goals.{then-first-eq43-via-else-first-eq43+then-text-gt1}
+use Rattle.tk_format.proofs.decimal.digits.Goals.{then-first-eq48, else-first-eq48}
 
 pub returns-in_default : goal.returns-in_default
 returns-in_default c = is_decimal_in c.args.text.now None (no_nothing c.args.text.now (omega arith))

@@ -1,4 +1,5 @@
-use Rattle.std.proofs.Common.{◌≡◌, ℕ, Bool, true, false, cond, List, [], ◌∷◌, ◌++◌, All, Contains, Bor, bytes_eq, lit<, map, refl, sym, ap, ◌∙◌}
+use Rattle.std.proofs.Common.{◌≡◌, ℕ, Bool, true, false, cond, List, [], ◌∷◌, ◌++◌, All, Contains}
+use Rattle.std.proofs.Common.{Bor, bytes_eq, lit<, map, refl, sym, ap, ◌∙◌}
 use Rattle.std.specs.declared.cmp.Ordering.TheVariants.{Less}
 use Rattle.std.specs.Cmp.Lexicographic.{nat_list_eq_equiv, on_texts, same_text, texts_ties}
 use Rattle.std.specs.List.{AllByRecursion, dedup, dedup_from, join_by, join_with_byte}
@@ -26,12 +27,14 @@ abbrev texts_of : List Token → List (List ℕ)
 texts_of = map (λ t. t.now)
 
 -- the texts of a list that a test chose are the chosen texts
-texts_of-cond : (b : Bool) (us vs : List Token) → texts_of (cond b us vs) ≡ cond b (texts_of us) (texts_of vs)
+texts_of-cond : (b : Bool) (us vs : List Token)
+    → texts_of (cond b us vs) ≡ cond b (texts_of us) (texts_of vs)
 texts_of-cond true us vs = refl
 texts_of-cond false us vs = refl
 
 -- removing duplicates behind a first token commutes with taking the texts
-texts_of-dedup_from : (xs : List Token) (k : Token) → texts_of (dedup_from same_token k xs) ≡ dedup_from bytes_eq k.now (texts_of xs)
+texts_of-dedup_from : (xs : List Token) (k : Token)
+    → texts_of (dedup_from same_token k xs) ≡ dedup_from bytes_eq k.now (texts_of xs)
 texts_of-dedup_from [] k = refl
 texts_of-dedup_from (x ∷ xs) k = rw (texts_of-cond, texts_of-dedup_from xs k, texts_of-dedup_from xs x)
 
@@ -41,18 +44,21 @@ texts_of-dedup [] = refl
 texts_of-dedup (x ∷ xs) = texts_of-dedup_from xs x
 
 -- tokens above another token stay above it, seen as texts
-above_texts : (k : Token) (xs : List Token) → AllByRecursion (λ y. byte_cmp k.now y.now ≡ Less) xs → AllByRecursion (λ y. byte_cmp k.now y ≡ Less) (texts_of xs)
+above_texts : (k : Token) (xs : List Token) → AllByRecursion (λ y. byte_cmp k.now y.now ≡ Less) xs
+    → AllByRecursion (λ y. byte_cmp k.now y ≡ Less) (texts_of xs)
 above_texts k [] h = tt
 above_texts k (x ∷ xs) h = (h.0, above_texts k xs h.1)
 
 -- tokens that rise, seen as texts, rise
-rising_texts : (xs : List Token) → IsStrictlySortedBy (λ a b. byte_cmp a.now b.now) xs → Rises (texts_of xs)
+rising_texts : (xs : List Token) → IsStrictlySortedBy (λ a b. byte_cmp a.now b.now) xs
+    → Rises (texts_of xs)
 unfolding IsStrictlySortedBy
 rising_texts [] h = tt
 rising_texts (x ∷ xs) h = (above_texts x xs h.0, rising_texts xs h.1)
 
 -- `join` of the standard library gives the joined text of the printed form
-join_texts : (xs : List Token) → join_by (λ t. t.now) (0x20 ∷ []) xs ≡ join_with_byte 0x20 (texts_of xs)
+join_texts : (xs : List Token)
+    → join_by (λ t. t.now) (0x20 ∷ []) xs ≡ join_with_byte 0x20 (texts_of xs)
 join_texts [] = refl
 join_texts (x ∷ []) = append-nil x.now
 join_texts (x ∷ y ∷ xs) = ap (λ (bs : List ℕ). x.now ++ (0x20 ∷ bs)) (join_texts (y ∷ xs))

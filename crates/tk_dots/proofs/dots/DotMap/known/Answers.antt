@@ -1,4 +1,3 @@
-use Rattle.std.proofs.Common.{arith}
 use Rattle.tk_dots.proofs.OrderLaws.{dots_high}
 use Rattle.tk_dots.proofs.dots.DotMap.known.Goals as goal
 

@@ -1,5 +1,4 @@
-use Rattle.std.proofs.Common.{◌≡◌, ◌∙◌, ap, sym, subst, arith, ℕ, ◌+◌, ◌*◌, ◌-◌, length}
-use Rattle.tk_handle.specs.declared.dot.Dot.{Dot}
+use Rattle.std.proofs.Common.{◌≡◌, subst, arith, ◌+◌, ◌*◌, ◌-◌, length}
 use Rattle.tk_dots.specs.Pages.{IsLast, span}
 use Rattle.tk_dots.proofs.OrderLaws.{last_is, last_none}
 use Rattle.tk_dots.proofs.dots.DotMap.last_serial.Goals as goal

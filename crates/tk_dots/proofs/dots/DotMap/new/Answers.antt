@@ -1,4 +1,4 @@
-use Rattle.std.proofs.Common.{◌≡◌, ap, sym, ◌∙◌, List, Option, Some, None, ℕ}
+use Rattle.std.proofs.Common.{ap, sym, ◌∙◌, List}
 use Rattle.std.specs.FinMap as map
 use Rattle.std.specs.Map.{lookup}
 use Rattle.std.specs.BTreeMap.{is_at}
@@ -6,9 +6,7 @@ use Rattle.tk_handle.specs.declared.dot.Dot.{Dot}
 use Rattle.tk_handle.specs.Dot.{dot_cmp}
 use Rattle.tk_dots.specs.Pages.{Slots, seen}
 use Rattle.tk_dots.proofs.dots.DotMap.new.Goals as goal
-
-none_some : {A : Type 0} (x : A) → None ≡ Some x → ⊥
-none_some x h = cc
+use Rattle.std.proofs.lemmas.Option.{none-some as none_some}
 
 pub invariant_of-result : goal.invariant_of-result
 invariant_of-result g c = record {

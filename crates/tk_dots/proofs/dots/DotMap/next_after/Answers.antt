@@ -1,4 +1,4 @@
-use Rattle.std.proofs.Common.{◌∙◌, ap, sym, subst, Option, Some, None}
+use Rattle.std.proofs.Common.{sym, subst, Option, Some}
 use Rattle.std.specs.Option.{option_map}
 use Rattle.tk_handle.specs.declared.dot.Dot.{Dot}
 use Rattle.tk_dots.specs.Pages.{IsNext, FirstOfPages}

@@ -1,4 +1,5 @@
-use Rattle.std.proofs.Common.{◌≡◌, ◌∙◌, sym, is_some, not, true, false, Bool, Result, Ok, Err, OnErr}
+use Rattle.std.proofs.Common.{◌∙◌, sym, true, false, Result, Ok, Err}
+use Rattle.std.proofs.Common.{OnErr}
 use Rattle.tk_dots.proofs.CellLaws.{seen_put, seen_same, paged_new, paged_over, paged_same}
 use Rattle.tk_dots.proofs.dots.DotMap.put.Goals as goal
 

@@ -1,4 +1,4 @@
-use Rattle.std.proofs.Common.{◌≡◌, ◌∙◌, ap, sym, Some}
+use Rattle.std.proofs.Common.{◌∙◌, ap, sym, Some}
 use Rattle.tk_dots.proofs.MarkLaws.{page_is, at_run, at_page}
 use Rattle.tk_dots.proofs.marks.MarkMap.get.Goals as goal
 

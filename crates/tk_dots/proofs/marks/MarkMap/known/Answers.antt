@@ -1,4 +1,4 @@
-use Rattle.std.proofs.Common.{◌≡◌, true, false, ◌⊎◌, inl, inr, IsSome, subst}
+use Rattle.std.proofs.Common.{inl, inr, IsSome, subst}
 use Rattle.std.proofs.lemmas.Bool.{cases_Bool}
 use Rattle.std.specs.FinSet as set
 use Rattle.tk_dots.proofs.MarkLaws.{at_page}

@@ -1,4 +1,4 @@
-use Rattle.std.proofs.Common.{◌≡◌, ◌∙◌, None}
+use Rattle.std.proofs.Common.{◌∙◌, None}
 use Rattle.tk_dots.proofs.MarkLaws.{put_marked, put_apart}
 use Rattle.tk_dots.proofs.marks.MarkMap.mark.Goals as goal
 

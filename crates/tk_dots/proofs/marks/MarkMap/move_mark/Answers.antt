@@ -1,4 +1,3 @@
-use Rattle.std.proofs.Common.{◌≡◌, ◌∙◌, sym, true}
 use Rattle.tk_dots.proofs.MarkLaws.{shift_marked, shift_apart}
 use Rattle.tk_dots.proofs.marks.MarkMap.move_mark.Goals as goal
 

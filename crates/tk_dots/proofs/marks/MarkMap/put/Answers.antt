@@ -1,15 +1,8 @@
-use Rattle.std.proofs.Common.{◌≡◌, ap, sym, subst, Result, Ok, Err, OnOk, OnErr, Some}
+use Rattle.std.proofs.Common.{sym, subst, Some}
 use Rattle.tk_dots.specs.Marks.{MarkedMap, AreApart}
 use Rattle.tk_dots.proofs.MarkLaws.{put_marked, put_apart}
 use Rattle.tk_dots.proofs.marks.MarkMap.put.Goals as goal
-
-either_way : {A E P Q R : Type 0} (r : Result A E) → OnOk r P → OnErr r Q → (P → R) → (Q → R) → R
-either_way (Ok a) h k f g = f h
-either_way (Err e) h k f g = g k
-
-on_ok : {A E P Q : Type 0} (r : Result A E) → OnOk r P → (P → Q) → OnOk r Q
-on_ok (Ok a) h f = f h
-on_ok (Err e) h f = tt
+use Rattle.tk_handle.proofs.TestLaws.{either_way, on_ok}
 
 pub invariant_of-self : goal.invariant_of-self
 invariant_of-self g c = either_way {R = AreApart c.put.new.self c.self.inside.runs} c.put.result c.put.ensures.ok c.put.ensures.err

@@ -1,4 +1,4 @@
-use Rattle.std.proofs.Common.{◌≡◌, ◌∙◌}
+use Rattle.std.proofs.Common.{◌∙◌}
 use Rattle.tk_dots.proofs.MarkLaws.{over_marked}
 use Rattle.tk_dots.proofs.marks.MarkMap.skip.Goals as goal
 

@@ -1,14 +1,9 @@
-use Rattle.std.proofs.Common.{◌≡◌, ◌∙◌, ap, sym, Option, Some, None}
+use Rattle.std.proofs.Common.{◌≡◌, ◌∙◌, ap, sym, Some}
 use Rattle.std.specs.FinMap as map
-use Rattle.tk_dots.specs.Marks.{marked, value_of, without_value}
+use Rattle.tk_dots.specs.Marks.{value_of, without_value}
 use Rattle.tk_dots.proofs.MarkLaws.{value_there, value_on, value_off, taken_marked, taken_apart}
 use Rattle.tk_dots.proofs.marks.MarkMap.take.Goals as goal
-
-none_is : {A : Type 0} (x : A) → None ≡ Some x → ⊥
-none_is x h = cc
-
-some_same : {A : Type 0} (x y : A) → Some x ≡ Some y → x ≡ y
-some_same x y h = cc
+use Rattle.std.proofs.lemmas.Option.{none-some as none_is, same_Some as some_same}
 
 pub invariant_of-self : goal.invariant_of-self
 invariant_of-self g c = taken_apart c.self.inside.pages c.self.inside.runs c.args.self.now c.self.view_is c.take.new.self c.args.dot c.take.ensures.rest c.self.invariant

@@ -1,17 +1,14 @@
-use Rattle.std.proofs.Common.{◌≡◌, ◌∙◌, ap, sym, ◌⊎◌, inl, inr, Result, Ok, Err, OnOk, OnErr}
+use Rattle.std.proofs.Common.{◌∙◌, ap, sym, ◌⊎◌, inl, inr, Result, Ok, Err, OnOk, OnErr}
 use Rattle.std.specs.FinSet as set
 use Rattle.tk_dots.specs.Runs.{DotSet}
 use Rattle.tk_dots.proofs.RunLaws.{same_runs, has_dot, insert_held}
 use Rattle.tk_dots.proofs.RunAddLaws.{added_runs, added}
 use Rattle.tk_dots.proofs.runs.DotRuns.add.Goals as goal
+use Rattle.tk_handle.proofs.TestLaws.{on_ok}
 
 either : {A E P Q : Type 0} (r : Result A E) → OnOk r P → OnErr r Q → P ⊎ Q
 either (Ok a) p q = inl p
 either (Err e) p q = inr q
-
-on_ok : {A E P Q : Type 0} (r : Result A E) → OnOk r P → (P → Q) → OnOk r Q
-on_ok (Ok a) p f = f p
-on_ok (Err e) p f = tt
 
 pub invariant_of-self : goal.invariant_of-self
 invariant_of-self c = elim (either c.put_run.result c.put_run.ensures.ok c.put_run.ensures.err) [

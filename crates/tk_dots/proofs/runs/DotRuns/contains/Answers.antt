@@ -1,4 +1,4 @@
-use Rattle.std.proofs.Common.{◌≡◌, ◌∙◌, ap, sym}
+use Rattle.std.proofs.Common.{◌∙◌, ap}
 use Rattle.std.specs.FinSet as set
 use Rattle.tk_dots.specs.Runs.{DotSet}
 use Rattle.tk_dots.proofs.RunLaws.{below_test, none_test}

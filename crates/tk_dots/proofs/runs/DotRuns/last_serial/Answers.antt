@@ -1,4 +1,4 @@
-use Rattle.std.proofs.Common.{◌≡◌, ◌∙◌, ap, sym, subst, ℕ}
+use Rattle.std.proofs.Common.{subst}
 use Rattle.tk_dots.specs.Runs.{DotSet, IsLastIn}
 use Rattle.tk_dots.proofs.RunWalkLaws.{last_in, last_none}
 use Rattle.tk_dots.proofs.runs.DotRuns.last_serial.Goals as goal

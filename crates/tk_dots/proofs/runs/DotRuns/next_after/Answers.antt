@@ -1,14 +1,9 @@
-use Rattle.std.proofs.Common.{◌≡◌, ap, sym, subst, Option, Some, None}
+use Rattle.std.proofs.Common.{sym, subst, Option, Some, None}
 use Rattle.tk_handle.specs.declared.dot.Dot.{Dot}
 use Rattle.tk_dots.specs.Runs.{DotSet, IsNextIn, IsRightAbove, run_set}
 use Rattle.tk_dots.proofs.RunWalkLaws.{next_first, next_right}
 use Rattle.tk_dots.proofs.runs.DotRuns.next_after.Goals as goal
-
-some_same : {A : Type 0} (x y : A) → Some x ≡ Some y → x ≡ y
-some_same x y h = cc
-
-none_is : {A : Type 0} (x : A) → None ≡ Some x → ⊥
-none_is x h = cc
+use Rattle.std.proofs.lemmas.Option.{none-some as none_is, same_Some as some_same}
 
 pub returns-in-Some-right_above : goal.returns-in-Some-right_above
 returns-in-Some-right_above c =

@@ -1,4 +1,4 @@
-use Rattle.std.proofs.Common.{◌≡◌, ◌∙◌, ap, sym, subst, arith, Some, None}
+use Rattle.std.proofs.Common.{subst, arith, Some, None}
 use Rattle.tk_dots.specs.Runs.{DotSet, IsStretch}
 use Rattle.tk_dots.proofs.RunLaws.{stretch_is, stretch_none, none_below, below_free}
 use Rattle.tk_dots.proofs.runs.DotRuns.stretch.Goals as goal

@@ -1,8 +1,10 @@
-use Rattle.std.proofs.Common.{◌≡◌, ℕ, List, length, Some, inr, ap, sym, ◌∙◌, subst, arith, string_bytes, true}
+use Rattle.std.proofs.Common.{◌≡◌, ℕ, List, length, Some, inr, ap, sym, ◌∙◌, subst, arith}
+use Rattle.std.proofs.Common.{string_bytes, true}
 use Rattle.std.specs.List.{list_all}
 use Rattle.tk_scope.specs.Scope.{HasSameTokens, is_token, scope_of, scope_text, tokens_of}
 use Rattle.tk_scope.specs.declared.error.ScopeError.TheVariants.{Malformed}
-use Rattle.tk_scope.proofs.Printing.{IsAccepted, no_scope, not_utf8, scope_text_again, scope_text_members}
+use Rattle.tk_scope.proofs.Printing.{IsAccepted, no_scope, not_utf8, scope_text_again}
+use Rattle.tk_scope.proofs.Printing.{scope_text_members}
 use Rattle.tk_scope.proofs.scope.Scope.read.Goals as goal
 
 -- a text that was read passes each test
@@ -16,7 +18,8 @@ passes c =
     }
 
 -- the text that was printed is the printed form of the text read
-is_printed : (c : goal.In_ok-text) → scope_text (tokens_of c.args.text.now) ≡ string_bytes c.in_ok-text.text
+is_printed : (c : goal.In_ok-text)
+    → scope_text (tokens_of c.args.text.now) ≡ string_bytes c.in_ok-text.text
 is_printed c = sym (c.in_ok-text.ensures ∙ ap (λ (t : List ℕ). scope_text (tokens_of t)) c.in-Ok.ensures.cases.0)
 
 pub returns-in_default-clause-refused : goal.returns-in_default-clause-refused

@@ -1,4 +1,5 @@
-use Rattle.std.proofs.Common.{◌≡◌, false, refl, ap, sym, subst, ◌∙◌, is_some, Option, Some, None, IsSome, option_map}
+use Rattle.std.proofs.Common.{◌≡◌, false, refl, ap, sym, subst, ◌∙◌, is_some, Option, Some, None}
+use Rattle.std.proofs.Common.{IsSome, option_map}
 use Rattle.std.proofs.lemmas.Bool.{true≢false}
 use Rattle.std.specs.FinMap as sets
 use Rattle.tk_handle.specs.declared.dot.Dot.{Dot}
@@ -9,7 +10,8 @@ use Rattle.tk_store.proofs.FrontLaws.{kept_without, without_none}
 use Rattle.tk_store.proofs.SlotLaws.{get_held}
 use Rattle.tk_store.proofs.store.FactStore.take_back.Goals as goal
 
-some_of : (o : Option Body) (d : Dot) → is_some {T = Dot × Body} (option_map (λ (b : Body). (d, b)) o) ≡ is_some o
+some_of : (o : Option Body) (d : Dot)
+    → is_some {T = Dot × Body} (option_map (λ (b : Body). (d, b)) o) ≡ is_some o
 some_of None d = refl
 some_of (Some b) d = refl
 

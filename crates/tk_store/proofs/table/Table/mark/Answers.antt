@@ -1,15 +1,8 @@
-use Rattle.std.proofs.Common.{sym, subst, Result, Ok, Err, OnOk, OnErr, None}
+use Rattle.std.proofs.Common.{sym, subst, None}
 use Rattle.tk_store.specs.Table.{KeptMap, IsTable}
 use Rattle.tk_store.proofs.TableLaws.{table_marked, put_slots, inserted, free_there}
 use Rattle.tk_store.proofs.table.Table.mark.Goals as goal
-
-either_way : {A E P Q R : Type 0} (r : Result A E) → OnOk r P → OnErr r Q → (P → R) → (Q → R) → R
-either_way (Ok a) h k f g = f h
-either_way (Err e) h k f g = g k
-
-on_ok : {A E P Q : Type 0} (r : Result A E) → OnOk r P → (P → Q) → OnOk r Q
-on_ok (Ok a) h f = f h
-on_ok (Err e) h f = tt
+use Rattle.tk_handle.proofs.TestLaws.{either_way, on_ok}
 
 pub mark-requires : goal.mark-requires
 mark-requires c = free_there c.self.inside.kept c.args.self.now c.self.view_is c.args.dot c.requires

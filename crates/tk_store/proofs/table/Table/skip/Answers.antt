@@ -2,7 +2,8 @@ use Rattle.std.proofs.Common.{◌≡◌, Some, None}
 use Rattle.std.specs.FinMap as sets
 use Rattle.tk_fact.specs.declared.body.Body.{Body}
 use Rattle.tk_store.specs.Slots.{held_slot}
-use Rattle.tk_store.proofs.TableLaws.{table_skipped, put_slots, inserted, held_there, held_known, some_is, some_held}
+use Rattle.tk_store.proofs.TableLaws.{table_skipped, put_slots, inserted, held_there, held_known}
+use Rattle.tk_store.proofs.TableLaws.{some_is, some_held}
 use Rattle.tk_store.proofs.table.Table.skip.Goals as goal
 
 pub skip-requires : goal.skip-requires

@@ -4,7 +4,8 @@ use Rattle.tk_handle.specs.declared.dot.Dot.{Dot}
 use Rattle.tk_fact.specs.declared.body.Body.{Body}
 use Rattle.tk_store.specs.Slots.{Slot, Held, held_slot, without_fact}
 use Rattle.tk_store.specs.Table.{KeptMap, IsTable, slot_of, slots_of}
-use Rattle.tk_store.proofs.TableLaws.{at, table_taken, taken_slots, some_held, value_some, taken_value, no_value_left, no_fact_left}
+use Rattle.tk_store.proofs.TableLaws.{at, table_taken, taken_slots, some_held, value_some}
+use Rattle.tk_store.proofs.TableLaws.{taken_value, no_value_left, no_fact_left}
 use Rattle.tk_store.proofs.table.Table.take.Goals as goal
 
 pub overflow_sub-self : goal.overflow_sub-self

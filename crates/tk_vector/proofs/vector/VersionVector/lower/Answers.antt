@@ -2,11 +2,13 @@ use Rattle.std.proofs.Common.{◌≡◌, ℕ, ◌<◌, ◌≤◌, ap, sym, ◌�
 use Rattle.std.proofs.lemmas.Bool.{cases_lt}
 use Rattle.std.specs.Cmp.{nat_cmp_total}
 use Rattle.std.specs.FinMap as map
-use Rattle.tk_handle.proofs.SortedEntriesLaws.{get_at_place, get_at_gap, sorted_at_place, insert_at_place}
+use Rattle.tk_handle.proofs.SortedEntriesLaws.{get_at_place, get_at_gap, sorted_at_place}
+use Rattle.tk_handle.proofs.SortedEntriesLaws.{insert_at_place}
 use Rattle.tk_handle.specs.Ranges.{greatest_serial}
 use Rattle.tk_vector.specs.VersionVector.{entry}
 use Rattle.tk_vector.proofs.RemovalLaws.{sorted_removed, removed_at_place, removed_absent}
-use Rattle.tk_vector.proofs.VersionVectorLaws.{lowered_none, lowered_below, lowered_within, lt_from_cmp, ge_from_cmp, entry_at, entry_absent}
+use Rattle.tk_vector.proofs.VersionVectorLaws.{lowered_none, lowered_below, lowered_within}
+use Rattle.tk_vector.proofs.VersionVectorLaws.{lt_from_cmp, ge_from_cmp, entry_at, entry_absent}
 use Rattle.tk_vector.proofs.vector.VersionVector.lower.Goals as goal
 
 pub invariant_of-self : goal.invariant_of-self

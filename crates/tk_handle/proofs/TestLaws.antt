@@ -1,0 +1,73 @@
+-- Laws of tests, orders and results that proofs of many crates cite. Key results:
+--   both, and, is_true        a test of two parts holds if both hold
+--   less, lesser, equal_of    the ordering that a test finds
+--   on_ok, on_err, either_way   what follows of a result in each of its cases
+use Rattle.std.proofs.Common.{◌≡◌, Bool, true, false, ◌&&◌, T, Option, None, Some, IsSome}
+use Rattle.std.proofs.Common.{is_some, is_eq, is_lt, Ordering, Less, Equal, Greater}
+use Rattle.std.proofs.Common.{Result, Ok, Err, OnOk, OnErr, sym, ap, refl, ◌∙◌}
+use Rattle.std.proofs.lemmas.Bool.{false≢true}
+
+-- ---- tests
+
+pub both : (a b : Bool) → T (a && b) → T a × T b
+both true b h = (tt, h)
+both false b h = absurd h
+
+pub and : (a b : Bool) → T a → T b → T (a && b)
+and true b p q = q
+and false b p q = p
+
+pub is_true : (b : Bool) → T b → b ≡ true
+is_true true h = refl
+is_true false h = absurd h
+
+-- ---- orders
+
+pub less : (o : Ordering) → is_lt o ≡ true → o ≡ Less
+less Less h = refl
+less Equal h = absurd (false≢true h)
+less Greater h = absurd (false≢true h)
+
+pub lesser : (o : Ordering) → T (is_lt o) → o ≡ Less
+lesser Less h = refl
+lesser Equal h = absurd h
+lesser Greater h = absurd h
+
+pub equal_of : (o : Ordering) → is_eq o ≡ true → o ≡ Equal
+equal_of Equal h = refl
+equal_of Less h = absurd (false≢true h)
+equal_of Greater h = absurd (false≢true h)
+
+pub not_tied : (o : Ordering) → T (is_lt o) → is_eq o ≡ false
+not_tied Less h = refl
+not_tied Equal h = absurd h
+not_tied Greater h = absurd h
+
+-- ---- options and results
+
+pub some_none : {A : Type 0} (x : A) → Some x ≡ None → ⊥
+some_none x h = cc
+
+pub none_of : {A : Type 0} (o : Option A) → is_some o ≡ false → o ≡ None
+none_of None h = refl
+none_of (Some x) h = absurd (false≢true (sym h))
+
+pub not_none : {A : Type 0} (o : Option A) → o ≡ None → IsSome o → ⊥
+not_none o none some = false≢true (sym (ap is_some none) ∙ some)
+
+pub on_ok : {A E P Q : Type 0} (r : Result A E) → OnOk r P → (P → Q) → OnOk r Q
+on_ok (Ok a) h f = f h
+on_ok (Err e) h f = tt
+
+pub on_err : {A E P Q : Type 0} (r : Result A E) → OnErr r P → (P → Q) → OnErr r Q
+on_err (Ok a) h f = tt
+on_err (Err e) h f = f h
+
+pub always_err : {A E : Type 0} (P : Type 0) (r : Result A E) → P → OnErr r P
+always_err P (Ok a) h = tt
+always_err P (Err e) h = h
+
+pub either_way : {A E P Q R : Type 0} (r : Result A E) → OnOk r P → OnErr r Q → (P → R) → (Q → R)
+    → R
+either_way (Ok a) p q f g = f p
+either_way (Err e) p q f g = g q
