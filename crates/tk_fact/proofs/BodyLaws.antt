@@ -3,7 +3,8 @@
 --   made_of, none_of       fields that were read make a body, or no body
 --   fails_as               an error in the fields is an error of the body
 --   copy_of, no_copy       copied fields make a copy of the body, or no copy
-use Rattle.std.proofs.Common.{◌≡◌, ℕ, List, Option, Some, None, Result, Ok, Err, refl, sym, ap, subst, ◌∙◌}
+use Rattle.std.proofs.Common.{◌≡◌, ℕ, List, Option, Some, None, Result, Ok, Err, refl, sym, ap}
+use Rattle.std.proofs.Common.{subst, ◌∙◌}
 use mathlib.Core.Bool.{false≢true}
 use Rattle.std.specs.Prelude.{IfOk}
 use Rattle.std.specs.Result.{IsErr, IsErrAnd}
@@ -15,15 +16,18 @@ use Rattle.tk_fact.specs.declared.body.Body.{Body}
 use Rattle.tk_fact.specs.FactBytes.{kinds, body}
 
 -- a body is what the fields behind the byte of its kind make
-pub behind_byte : (old mid : List ℕ) (t k : ℕ) (r : Option (Body × List ℕ)) → byte_at_front old ≡ Some (t, mid) → t ≡ k → kinds.read k mid ≡ r → body.read old ≡ r
+pub behind_byte : (old mid : List ℕ) (t k : ℕ) (r : Option (Body × List ℕ))
+    → byte_at_front old ≡ Some (t, mid) → t ≡ k → kinds.read k mid ≡ r → body.read old ≡ r
 behind_byte old mid t k r front is h = rw (front, is) h
 
 -- fields that were read make the body that is read
-pub made_of : {A : Type 0} (into : A → Body) (f : Format A) (mid rest : List ℕ) (a : A) → f.read mid ≡ Some (a, rest) → via into f mid ≡ Some (into a, rest)
+pub made_of : {A : Type 0} (into : A → Body) (f : Format A) (mid rest : List ℕ) (a : A)
+    → f.read mid ≡ Some (a, rest) → via into f mid ≡ Some (into a, rest)
 made_of into f mid rest a h = rw h refl
 
 -- fields that are not there make no body
-pub none_of : {A : Type 0} (into : A → Body) (f : Format A) (mid : List ℕ) → f.read mid ≡ None → via into f mid ≡ None
+pub none_of : {A : Type 0} (into : A → Body) (f : Format A) (mid : List ℕ) → f.read mid ≡ None
+    → via into f mid ≡ None
 none_of into f mid h = rw h refl
 
 -- an error in reading the fields is an error that the body may return
@@ -39,5 +43,6 @@ no_copy (Ok copy) b is = absurd (false≢true is)
 no_copy (Err e) b is = tt
 
 -- a copy of the fields makes a copy of the body
-pub copy_of : {A : Type 0} (into : A → Body) (copy fields : A) (b : Body) → copy ≡ fields → b ≡ into fields → into copy ≡ b
+pub copy_of : {A : Type 0} (into : A → Body) (copy fields : A) (b : Body) → copy ≡ fields
+    → b ≡ into fields → into copy ≡ b
 copy_of into copy fields b same is = ap into same ∙ sym is

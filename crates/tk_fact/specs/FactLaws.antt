@@ -3,7 +3,8 @@
 use Rattle.std.proofs.Common.{refl}
 use Rattle.tk_format.specs.Format.{◌and_then◌}
 use Rattle.tk_format.specs.Exact.{IsExact}
-use Rattle.tk_format.specs.Laws.{u16_exact, both_exact, only_exact, shaped_exact, sized_exact}
+use Rattle.tk_format.specs.NumberLaws.{u16_exact}
+use Rattle.tk_format.specs.Laws.{both_exact, only_exact, shaped_exact, sized_exact}
 use Rattle.tk_format.specs.KindLaws.{kind_exact, no_kind_exact, its, not_its}
 use Rattle.tk_handle.proofs.FormatLaws.{dot_field_exact, moment_exact, token_exact}
 use Rattle.tk_fact.specs.declared.body.Body.TheVariants as bodies

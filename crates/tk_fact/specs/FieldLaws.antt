@@ -10,9 +10,11 @@ use borrow.Author.Tests.{leb-true}
 use Rattle.std.proofs.lemmas.Bool.{ltb-false}
 use Rattle.tk_format.specs.Format.{Format, via, text, ◌and_then◌}
 use Rattle.tk_format.specs.Exact.{IsBytes, Takes, IsExact, bind_some, chosen_some, some_is}
-use Rattle.tk_format.specs.Laws.{Follows, byte_exact, bytes_exact, text_exact, both_exact}
-use Rattle.tk_format.specs.Laws.{only_exact, shaped_exact, partly_exact, counted_exact, coded_exact}
-use Rattle.tk_format.specs.Laws.{choice_exact, via_takes, via_again, case_takes, nothing_exact}
+use Rattle.tk_format.specs.NumberLaws.{byte_exact, bytes_exact, nothing_exact}
+use Rattle.tk_format.specs.Laws.{text_exact, both_exact, only_exact, shaped_exact, partly_exact}
+use Rattle.tk_format.specs.Laws.{counted_exact}
+use Rattle.tk_format.specs.CaseLaws.{Follows, coded_exact, choice_exact, via_takes, via_again}
+use Rattle.tk_format.specs.CaseLaws.{case_takes}
 use Rattle.tk_format.specs.KindLaws.{kind_exact, no_kind_exact, its, not_its}
 use Rattle.tk_handle.proofs.FormatLaws.{moment_exact}
 use Rattle.tk_scope.specs.Scope.{scope_of}

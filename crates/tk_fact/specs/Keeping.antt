@@ -8,14 +8,15 @@ use Rattle.tk_handle.specs.declared.kind.Kind.TheVariants.{Code, Refresh}
 use Rattle.tk_handle.specs.declared.token_id.TokenId.{TokenId}
 use Rattle.tk_fact.specs.declared.body.Body.{Body}
 use Rattle.tk_fact.specs.declared.body.Body.TheVariants.{CodeIssued, CodeRedeemed, RefreshRotated}
-use Rattle.tk_fact.specs.declared.body.Body.TheVariants.{ReuseSeen}
+use Rattle.tk_fact.specs.declared.body.Body.TheVariants.{TokenRevoked, ReuseSeen}
 
--- the token for which the fact is kept: a code or refresh token that it mints, or the token that it
--- saw used again
+-- the token for which the fact is kept: a code or refresh token that it mints, the token that it
+-- revokes, or the token that it saw used again
 abbrev pub kept_for : Dot → Body → Option TokenId
 kept_for d (CodeIssued f) = Some (record { dot = d; kind = Code })
 kept_for d (CodeRedeemed f) = Some (record { dot = d; kind = Refresh })
 kept_for d (RefreshRotated f) = Some (record { dot = d; kind = Refresh })
+kept_for d (TokenRevoked f) = Some f.token
 kept_for d (ReuseSeen f) = Some f.token
 kept_for d body = None
 
@@ -24,14 +25,17 @@ abbrev pub is_passing : Body → Bool
 is_passing (CodeIssued f) = true
 is_passing (CodeRedeemed f) = true
 is_passing (RefreshRotated f) = true
+is_passing (TokenRevoked f) = true
 is_passing (ReuseSeen f) = true
 is_passing body = false
 
--- the dot that a fact names: of the code that it redeems, of the refresh token that it rotates, or
--- of the token that it saw used again. The facts that last are left out
+-- the dot that a fact names: of the code that it redeems, of the refresh token that it rotates, of
+-- the token that it revokes, or of the token that it saw used again. The facts that last are left
+-- out
 abbrev pub names_of : Body → Option Dot
 names_of (CodeRedeemed f) = Some f.code
 names_of (RefreshRotated f) = Some f.parent
+names_of (TokenRevoked f) = Some f.token.dot
 names_of (ReuseSeen f) = Some f.token.dot
 names_of body = None
 

@@ -18,6 +18,7 @@ impl Body {
             Body::CodeIssued(_)
             | Body::CodeRedeemed(_)
             | Body::RefreshRotated(_)
+            | Body::TokenRevoked(_)
             | Body::ReuseSeen(_) => true,
             _ => false,
         }
@@ -25,12 +26,14 @@ impl Body {
 }
 
 impl Fact {
-    /// Returns the token for which the fact is kept: a code or refresh token that it mints, or the
-    /// token that it saw used again. Returns `None` for a fact that lasts.
+    /// Returns the token for which the fact is kept: a code or refresh token that it mints, the
+    /// token that it revokes, or the token that it saw used again. Returns `None` for a fact that
+    /// lasts.
     pub fn kept_for(&self) -> Option<TokenId>
         ensures { result ≡ kept_for self.now.0 self.now.1 }
     {
         let kind = match &self.body {
+            Body::TokenRevoked(fact) => return Some(fact.token),
             Body::ReuseSeen(fact) => return Some(fact.token),
             Body::CodeIssued(_) => Kind::Code,
             Body::CodeRedeemed(_) | Body::RefreshRotated(_) => Kind::Refresh,

@@ -1,5 +1,6 @@
 -- Empty tables are those of no fact. Key result: empty_indexed.
-use Rattle.std.proofs.Common.{◌≡◌, ℕ, Bool, false, ◌&&◌, not, List, [], Option, Some, is_some, sym, ap, ◌∙◌}
+use Rattle.std.proofs.Common.{◌≡◌, ℕ, Bool, false, ◌&&◌, not, List, [], Option, Some, is_some, sym}
+use Rattle.std.proofs.Common.{ap, ◌∙◌}
 use Rattle.std.proofs.lemmas.Bool.{true≢false, false_from_ne_true}
 use Rattle.std.specs.Option.{option_and_then}
 use Rattle.std.specs.List.{list_any}
@@ -15,8 +16,11 @@ use Rattle.tk_store.proofs.PutLaws.{none_is_not_some}
 use Rattle.tk_store.proofs.EntryLaws.{Passing, any_fact-held}
 use Rattle.tk_ledger.specs.Clients.{added_in, given_in, retires, withdraws, is_withdrawn}
 use Rattle.tk_ledger.specs.SignOuts.{sign_out_in}
-use Rattle.tk_ledger.specs.Tokens.{link_of, issued_in, revokes}
-use Rattle.tk_ledger.specs.Index.{row_added, row_retired, consent_cmp, consent_key, revocation_cmp, revocation_key, is_from, code_cmp, code_key, is_to, out_cmp, out_key, is_left_by, reuse_cmp, reuse_key, is_reuse_of, IsIndexed}
+use Rattle.tk_ledger.specs.Tokens.{link_of, issued_in}
+use Rattle.tk_ledger.specs.Index.{row_added, row_retired, consent_cmp, consent_key, revocation_cmp}
+use Rattle.tk_ledger.specs.Index.{revocation_key, is_revocation_of, is_from, code_cmp, code_key}
+use Rattle.tk_ledger.specs.Index.{is_to, out_cmp, out_key, is_left_by, reuse_cmp, reuse_key}
+use Rattle.tk_ledger.specs.Index.{is_reuse_of, IsIndexed}
 use Rattle.tk_ledger.specs.declared.client_rows.ClientRow.{ClientRow}
 use Rattle.tk_ledger.specs.declared.consent_keys.ConsentKey.{ConsentKey}
 use Rattle.tk_ledger.specs.declared.index.Index.{Index}
@@ -32,10 +36,13 @@ any_fact-empty : (p : Dot × Body → Bool) → any_fact p map.empty ≡ false
 any_fact-empty p = false_from_ne_true (any_fact p map.empty) (λ h. (let x : Passing p map.empty = any_fact-held p map.empty h in none_held x.dot x.body x.held))
 
 -- no fact is at any dot
-no_value : {B : Type 0} (f : Body → Option B) (d : Dot) (y : B) → ¬ (option_and_then f (map.get (map.empty {R = dot_cmp}) d) ≡ Some y)
+no_value : {B : Type 0} (f : Body → Option B) (d : Dot) (y : B)
+    → ¬ (option_and_then f (map.get (map.empty {R = dot_cmp}) d) ≡ Some y)
 no_value f d y h = none_is_not_some y (sym (ap (option_and_then f) (map.get-empty dot_cmp d)) ∙ h)
 
-pub empty_indexed : (x : Index) → x.clients.entries ≡ [] → x.consents.keys ≡ [] → x.withdrawn.keys ≡ [] → x.revocations.keys ≡ [] → x.codes.keys ≡ [] → x.outs.keys ≡ [] → x.reuses.keys ≡ [] → x.forest.links ≡ map.empty → IsIndexed map.empty x
+pub empty_indexed : (x : Index) → x.clients.entries ≡ [] → x.consents.keys ≡ []
+    → x.withdrawn.keys ≡ [] → x.revocations.keys ≡ [] → x.codes.keys ≡ [] → x.outs.keys ≡ []
+    → x.reuses.keys ≡ [] → x.forest.links ≡ map.empty → IsIndexed map.empty x
 empty_indexed x te ce we re co ou se le = record {
   clients_are = record {
     added = λ q. ap (λ (es : List (Dot × ClientRow)). row_added (lookup (is_at (dot_cmp q)) es)) te ∙ sym (ap (λ o. is_some (option_and_then added_in o)) (map.get-empty dot_cmp q));
@@ -46,7 +53,10 @@ empty_indexed x te ce we re co ou se le = record {
     ranged = λ c s q h. absurd (true≢false (sym h ∙ none_listed c s q));
   };
   withdrawn_are = λ q. ap (λ (es : List Dot). list_any (is_at (dot_cmp q)) es) we ∙ sym (any_fact-empty (withdraws q));
-  revocations_are = λ k g c. ap (λ (es : List Revocation). list_any (is_at (revocation_cmp (revocation_key k g c))) es) re ∙ sym (any_fact-empty (revokes k g c));
+  revocations_are = record {
+    listed = λ k g c q. no_revocation k g c q ∙ sym (ap (is_revocation_of k g c) (map.get-empty dot_cmp q));
+    ranged = λ k g c q h. absurd (true≢false (sym h ∙ no_revocation k g c q));
+  };
   codes_are = record {
     listed = λ s n q. no_code s n q ∙ sym (ap (λ o. is_to s n (option_and_then issued_in o)) (map.get-empty dot_cmp q));
     ranged = λ s n q h. absurd (true≢false (sym h ∙ no_code s n q));
@@ -66,14 +76,22 @@ empty_indexed x te ce we re co ou se le = record {
   };
 }
   where
-    none_listed : (c : Dot) (s : List _) (q : Dot) → list_any (is_at (consent_cmp (consent_key c s q))) x.consents.keys ≡ false
+    none_listed : (c : Dot) (s : List _) (q : Dot)
+        → list_any (is_at (consent_cmp (consent_key c s q))) x.consents.keys ≡ false
     none_listed c s q = ap (λ (es : List ConsentKey). list_any (is_at (consent_cmp (consent_key c s q))) es) ce
 
-    no_code : (s : List _) (n : ℕ) (q : Dot) → list_any (is_at (code_cmp (code_key s n q))) x.codes.keys ≡ false
+    no_revocation : (k : TokenId) (g : List ℕ) (c q : Dot)
+        → list_any (is_at (revocation_cmp (revocation_key k g c q))) x.revocations.keys ≡ false
+    no_revocation k g c q = ap (λ (es : List Revocation). list_any (is_at (revocation_cmp (revocation_key k g c q))) es) re
+
+    no_code : (s : List _) (n : ℕ) (q : Dot)
+        → list_any (is_at (code_cmp (code_key s n q))) x.codes.keys ≡ false
     no_code s n q = ap (λ (es : List CodeKey). list_any (is_at (code_cmp (code_key s n q))) es) co
 
-    no_out : (s : List _) (l : ℕ) (q : Dot) → list_any (is_at (out_cmp (out_key s l q))) x.outs.keys ≡ false
+    no_out : (s : List _) (l : ℕ) (q : Dot)
+        → list_any (is_at (out_cmp (out_key s l q))) x.outs.keys ≡ false
     no_out s l q = ap (λ (es : List OutKey). list_any (is_at (out_cmp (out_key s l q))) es) ou
 
-    no_reuse : (k : TokenId) (q : Dot) → list_any (is_at (reuse_cmp (reuse_key k q))) x.reuses.keys ≡ false
+    no_reuse : (k : TokenId) (q : Dot)
+        → list_any (is_at (reuse_cmp (reuse_key k q))) x.reuses.keys ≡ false
     no_reuse k q = ap (λ (es : List ReuseKey). list_any (is_at (reuse_cmp (reuse_key k q))) es) se

@@ -2,7 +2,8 @@
 --   unlisted       the table after the key of the consent at a dot was removed
 --   give_row       the table after a consent was given
 --   withdraw_row   the table after a consent was withdrawn
-use Rattle.std.proofs.Common.{◌≡◌, ℕ, Bool, true, false, ◌&&◌, ◌||◌, not, cond, List, Option, Some, None, refl, sym, ap, ◌∙◌}
+use Rattle.std.proofs.Common.{◌≡◌, ℕ, Bool, true, false, ◌&&◌, ◌||◌, not, cond, List, Option, Some}
+use Rattle.std.proofs.Common.{None, refl, sym, ap, ◌∙◌}
 use Rattle.std.proofs.lemmas.Bool.{and_parts}
 use Rattle.std.specs.BTreeSet.{BTreeSet, contains}
 use Rattle.std.specs.FinMap as map
@@ -18,7 +19,8 @@ use Rattle.tk_store.proofs.PutLaws.{some_injective, none_is_not_some}
 use Rattle.tk_ledger.specs.Bodies.{is_same_dot}
 use Rattle.tk_ledger.specs.Changes.{change_in, gives_to}
 use Rattle.tk_ledger.specs.Clients.{consent_at, is_withdrawn}
-use Rattle.tk_ledger.specs.Index.{is_at, consent_cmp, consent_key, key_of, is_from, is_key_at, is_listed, IsConsents, IsWithdrawals}
+use Rattle.tk_ledger.specs.Index.{is_at, consent_cmp, consent_key, key_of, is_from, is_key_at}
+use Rattle.tk_ledger.specs.Index.{is_listed, IsConsents, IsWithdrawals}
 use Rattle.tk_ledger.specs.declared.change.Change.TheVariants as change
 use Rattle.tk_ledger.specs.declared.consent_keys.ConsentKey.{ConsentKey}
 use Rattle.tk_ledger.proofs.ChangeLaws.{changed, consents_by}
@@ -37,7 +39,9 @@ turned true b true = and_yes b
 turned true b false = and_no b
 turned false b c = sym (and_no c)
 
-key_is : (o : Option given.ConsentGiven) (d : Dot) (key k : ConsentKey) → Some key ≡ option_map (key_of d) o → eq_by_cmp consent_cmp key k ≡ (is_at d k.consent && is_from k.client k.subject o)
+key_is : (o : Option given.ConsentGiven) (d : Dot) (key k : ConsentKey)
+    → Some key ≡ option_map (key_of d) o
+    → eq_by_cmp consent_cmp key k ≡ (is_at d k.consent && is_from k.client k.subject o)
 key_is None d key k h = absurd (none_is_not_some key (sym h))
 key_is (Some c) d key k h =
     ap (λ (x : ConsentKey). eq_by_cmp consent_cmp x k) (some_injective key (key_of d c) h)
@@ -46,7 +50,8 @@ key_is (Some c) d key k h =
     ∙ ap (λ x. x && is_from k.client k.subject (Some c)) (sym (at_is_same d k.consent))
 
 -- the table without the key of the consent at a dot
-pub unlisted : (F : FactSet) (d : Dot) (key k : ConsentKey) (before after : Bool) → Some key ≡ option_map (key_of d) (consent_at F d)
+pub unlisted : (F : FactSet) (d : Dot) (key k : ConsentKey) (before after : Bool)
+    → Some key ≡ option_map (key_of d) (consent_at F d)
     → after ≡ cond (eq_by_cmp consent_cmp key k) false before → after ≡ (before && not (is_key_at F d k))
 unlisted F d key k before after h r = r ∙ removed (eq_by_cmp consent_cmp key k) before ∙ ap (λ x. before && not x) (key_is (consent_at F d) d key k h)
 
@@ -70,7 +75,8 @@ give_row G d client subject ws t u h w i here r =
     regroup true false c n = refl
     regroup false b c n = refl
 
-    own : (e : Dot) (s : List ℕ) (q : Dot) → is_listed u e s q ≡ (((gives_to e s (change.Give client subject) && not (contains dot_cmp ws d)) && is_same_dot d q) || is_listed t e s q)
+    own : (e : Dot) (s : List ℕ) (q : Dot)
+        → is_listed u e s q ≡ (((gives_to e s (change.Give client subject) && not (contains dot_cmp ws d)) && is_same_dot d q) || is_listed t e s q)
     own e s q = r (consent_key e s q)
         ∙ ap (λ x. (x && not (contains dot_cmp ws d)) || is_listed t e s q) (consent_tied client e subject s d q)
         ∙ ap (λ x. x || is_listed t e s q) (regroup (is_same_dot client e) (bytes_eq subject s) (is_same_dot d q) (not (contains dot_cmp ws d)))
@@ -95,13 +101,15 @@ withdraw_row G d c t u h i r =
     (λ same. given e s c ∙ ap (λ x. is_from e s (consent_at (map.remove G d) x)) (same_dot-true c q (sym (at_is_same c q) ∙ same)))
     ∙ ap (λ x. is_listed t e s q && not x) (at_is_same c q))
   where
-    given : (e : Dot) (s : List ℕ) (q : Dot) → is_from e s (consent_at G q) ≡ is_from e s (consent_at (map.remove G d) q)
+    given : (e : Dot) (s : List ℕ) (q : Dot)
+        → is_from e s (consent_at G q) ≡ is_from e s (consent_at (map.remove G d) q)
     given e s q =
         let x = changed G d (change.Withdraw c) h in
         sym (given_on (map.remove G d) G d x.body e s q (is_from e s (consent_at (map.remove G d) q)) x.more refl)
         ∙ ap (λ z. (gives_to e s z && is_at d q) || is_from e s (consent_at (map.remove G d) q)) x.is
 
-    gone : (a f g x n : Bool) → x ≡ (f && n) → (a ≡ true → g ≡ f) → (x && not (a && g)) ≡ (x && not a)
+    gone : (a f g x n : Bool) → x ≡ (f && n) → (a ≡ true → g ≡ f)
+        → (x && not (a && g)) ≡ (x && not a)
     gone true f g x n h same = ap (λ z. x && not z) (same refl) ∙ ap (λ z. z && not f) h ∙ none f n ∙ sym (and_no x)
       where
         none : (f n : Bool) → ((f && n) && not f) ≡ false

@@ -1,7 +1,8 @@
 -- One more fact stops the token that it revokes, the codes of the subject that it signs out, and
 -- tokens at dots that it brings under a code, but no other. Key result:
 --   marks_by_one   the marks after one more fact
-use Rattle.std.proofs.Common.{◌≡◌, ◌≢◌, ◌≤◌, ◌⊎◌, inl, inr, true, Option, Some, None, List, [], ◌∷◌, refl, sym, ap, subst, ◌∙◌}
+use Rattle.std.proofs.Common.{◌≡◌, ◌≢◌, ◌≤◌, ◌⊎◌, inl, inr, true, Option, Some, None, List, [], ◌∷◌}
+use Rattle.std.proofs.Common.{refl, sym, ap, subst, ◌∙◌}
 use Rattle.std.proofs.lemmas.Bool.{or_cases, or_left, or_right}
 use Rattle.std.specs.Option.{option_and_then}
 use Rattle.std.specs.FinMap as map
@@ -24,8 +25,10 @@ use Rattle.tk_fact.specs.Tokens.{minted_of}
 use Rattle.tk_store.specs.FactSet.{FactSet, IsSubset}
 use Rattle.tk_store.proofs.PutLaws.{some_injective, none_is_not_some}
 use Rattle.tk_store.proofs.OneMoreLaws.{OneMore, more_subset, any_fact-more, cases_dots}
-use Rattle.tk_ledger.specs.Tokens.{link_of, links_in, issued_in, issued_at, sees_reuse, is_reused, IsOut, IsStopped, is_stopped, is_marked, IsEnded}
-use Rattle.tk_ledger.proofs.TokenLaws.{from_some, links-below, is_stopped-sound, is_stopped-complete}
+use Rattle.tk_ledger.specs.Tokens.{link_of, links_in, issued_in, issued_at, sees_reuse, is_reused}
+use Rattle.tk_ledger.specs.Tokens.{IsOut, IsStopped, is_stopped, is_marked, IsEnded}
+use Rattle.tk_ledger.proofs.TokenLaws.{from_some, links-below, is_stopped-sound}
+use Rattle.tk_ledger.proofs.TokenLaws.{is_stopped-complete}
 
 -- the body revokes the token
 pub record Revokes (b : Body) (k : TokenId) : Type 0 where
@@ -42,12 +45,16 @@ link_under f q c u = by_path u.path u.leads
     by_path (p ∷ ps) m = (m.0.0.link, m.0.0.here)
 
 -- a set with a link at a dot has there what every greater set has
-same_at : {B : Type 0} (g : Body → Option B) (F G : FactSet) → IsSubset F G → (q : Dot) (l : Link) (y : B) → links_in (map.get F) q ≡ Some l → option_and_then g (map.get G q) ≡ Some y → option_and_then g (map.get F q) ≡ Some y
+same_at : {B : Type 0} (g : Body → Option B) (F G : FactSet) → IsSubset F G
+    → (q : Dot) (l : Link) (y : B) → links_in (map.get F) q ≡ Some l
+    → option_and_then g (map.get G q) ≡ Some y → option_and_then g (map.get F q) ≡ Some y
 same_at g F G w q l y at h =
     let x : (b : Body) × (map.get F q ≡ Some b) × (link_of b ≡ Some l) = from_some link_of (map.get F q) l at in
     ap (option_and_then g) (x.1 ∙ sym (w q x.0 x.1)) ∙ h
 
-ended_before : (F G : FactSet) (d : Dot) (b : Body) (k : TokenId) (c : Dot) → OneMore F G d b → (e : IsEnded (map.get G) k) → e.by_client.place ≢ d → IsUnder (links_in (map.get F)) k.dot c → IsEnded (map.get F) k
+ended_before : (F G : FactSet) (d : Dot) (b : Body) (k : TokenId) (c : Dot) → OneMore F G d b
+    → (e : IsEnded (map.get G) k) → e.by_client.place ≢ d → IsUnder (links_in (map.get F)) k.dot c
+    → IsEnded (map.get F) k
 ended_before F G d b k c m e apart under =
     let w : IsSubset F G = more_subset F G d b m in
     let after : IsUnder (links_in (map.get G)) k.dot c = IsUnder-within (links_in (map.get F)) (links_in (map.get G)) (links-below F G w) k.dot c under in
@@ -73,7 +80,9 @@ ended_before F G d b k c m e apart under =
 
 -- a token that one more fact ends is the one that it revokes, or is at a dot that it brings under a
 -- code
-ended_by_one : (F G : FactSet) (d : Dot) (b : Body) (k : TokenId) → OneMore F G d b → IsEnded (map.get G) k → IsEnded (map.get F) k ⊎ (Revokes b k ⊎ IsRaised (links_in (map.get F)) (links_in (map.get G)) k.dot)
+ended_by_one : (F G : FactSet) (d : Dot) (b : Body) (k : TokenId) → OneMore F G d b
+    → IsEnded (map.get G) k
+    → IsEnded (map.get F) k ⊎ (Revokes b k ⊎ IsRaised (links_in (map.get F)) (links_in (map.get G)) k.dot)
 ended_by_one F G d b k m e = elim (cases_dots e.by_client.place d) [
   | inl same ↦ inr (inl (record {
     revocation = e.by_client.revocation;
@@ -83,7 +92,8 @@ ended_by_one F G d b k m e = elim (cases_dots e.by_client.place d) [
   | inr apart ↦ by_code (code_of (links_in (map.get F)) k.dot) refl apart
 ]
   where
-    by_code : (o : Option Dot) → code_of (links_in (map.get F)) k.dot ≡ o → e.by_client.place ≢ d → IsEnded (map.get F) k ⊎ (Revokes b k ⊎ IsRaised (links_in (map.get F)) (links_in (map.get G)) k.dot)
+    by_code : (o : Option Dot) → code_of (links_in (map.get F)) k.dot ≡ o → e.by_client.place ≢ d
+        → IsEnded (map.get F) k ⊎ (Revokes b k ⊎ IsRaised (links_in (map.get F)) (links_in (map.get G)) k.dot)
     by_code None none apart = inr (inr (record { code = e.code; now = e.under; before = λ c u. none_is_not_some c (sym none ∙ code_of-complete (links_in (map.get F)) k.dot c u) }))
     by_code (Some c) at apart = inl (ended_before F G d b k c m e apart (code_of-sound (links_in (map.get F)) k.dot c at))
 
@@ -102,20 +112,24 @@ issued_link (CodeIssued x) f h = refl
 issued_link body f h = absurd (none_is_not_some f h)
 
 -- a code is under itself
-pub under_itself : (F : FactSet) (d : Dot) (f : issued.CodeIssued) → issued_at (map.get F) d ≡ Some f → IsUnder (links_in (map.get F)) d d
+pub under_itself : (F : FactSet) (d : Dot) (f : issued.CodeIssued)
+    → issued_at (map.get F) d ≡ Some f → IsUnder (links_in (map.get F)) d d
 under_itself F d f h =
     let x : (b : Body) × (map.get F d ≡ Some b) × (issued_in b ≡ Some f) = from_some issued_in (map.get F d) f h in
     record { path = []; leads = (refl, ap (option_and_then link_of) x.1 ∙ issued_link x.0 f x.2) }
 
 -- a dot without a fact is under no code
-pub under_none : (F : FactSet) (d c : Dot) → map.get F d ≡ None → ¬ IsUnder (links_in (map.get F)) d c
+pub under_none : (F : FactSet) (d c : Dot) → map.get F d ≡ None
+    → ¬ IsUnder (links_in (map.get F)) d c
 under_none F d c free u =
     let l : (l : Link) × (links_in (map.get F) d ≡ Some l) = link_under (links_in (map.get F)) d c u in
     none_is_not_some l.0 (sym (ap (option_and_then link_of) free) ∙ l.1)
 
 -- a code that one more fact stops is one of the subject that it signs out, or the one that it
 -- issues
-out_by_one : (F G : FactSet) (d : Dot) (b : Body) (k : TokenId) → k.kind ≡ kind.Code → OneMore F G d b → IsOut (map.get G) k.dot → IsOut (map.get F) k.dot ⊎ (SignsOut G b k ⊎ IsRaised (links_in (map.get F)) (links_in (map.get G)) k.dot)
+out_by_one : (F G : FactSet) (d : Dot) (b : Body) (k : TokenId) → k.kind ≡ kind.Code
+    → OneMore F G d b → IsOut (map.get G) k.dot
+    → IsOut (map.get F) k.dot ⊎ (SignsOut G b k ⊎ IsRaised (links_in (map.get F)) (links_in (map.get G)) k.dot)
 out_by_one F G d b k code m o = elim (cases_dots o.signed_out.place d) [
   | inl same ↦ inr (inl (record {
     kind_is = code;
@@ -150,7 +164,8 @@ out_by_one F G d b k code m o = elim (cases_dots o.signed_out.place d) [
 abbrev pub Stops : FactSet → FactSet → Body → TokenId → Type 0
 Stops F G b k = Revokes b k ⊎ (SignsOut G b k ⊎ IsRaised (links_in (map.get F)) (links_in (map.get G)) k.dot)
 
-stopped_by_one : (F G : FactSet) (d : Dot) (b : Body) (k : TokenId) → OneMore F G d b → IsStopped (map.get G) k → IsStopped (map.get F) k ⊎ Stops F G b k
+stopped_by_one : (F G : FactSet) (d : Dot) (b : Body) (k : TokenId) → OneMore F G d b
+    → IsStopped (map.get G) k → IsStopped (map.get F) k ⊎ Stops F G b k
 stopped_by_one F G d b k m (inl e) = elim (ended_by_one F G d b k m e.1) [
   | inl old ↦ inl (inl (e.0, old))
   | inr (inl revokes) ↦ inr (inl revokes)
@@ -163,7 +178,9 @@ stopped_by_one F G d b k m (inr o) = elim (out_by_one F G d b k o.0 m o.1) [
 
 -- the marks after one more fact: the old ones, the one of its reuse, revocation or sign-out, and
 -- those of tokens at dots that it brings under a code
-pub marks_by_one : (F G : FactSet) (d : Dot) (b : Body) (k : TokenId) → OneMore F G d b → is_marked G k ≡ true → (is_marked F k ≡ true) ⊎ ((sees_reuse k (d, b) ≡ true) ⊎ ((is_stopped G k ≡ true) × Stops F G b k))
+pub marks_by_one : (F G : FactSet) (d : Dot) (b : Body) (k : TokenId) → OneMore F G d b
+    → is_marked G k ≡ true
+    → (is_marked F k ≡ true) ⊎ ((sees_reuse k (d, b) ≡ true) ⊎ ((is_stopped G k ≡ true) × Stops F G b k))
 marks_by_one F G d b k m h = elim (or_cases (is_reused G k) (is_stopped G k) h) [
   | inl seen ↦ elim (or_cases (sees_reuse k (d, b)) (is_reused F k) (sym (any_fact-more (sees_reuse k) F G d b m) ∙ seen)) [
     | inl new ↦ inr (inl new)

@@ -4,7 +4,8 @@
 --   family_ends, revoked_ends   not active in the set itself
 --   family_inactive, revoked_inactive, signed_out_inactive
 --                               not active in every greater set
-use Rattle.std.proofs.Common.{◌≡◌, ◌≢◌, ◌⊎◌, inl, inr, ℕ, Some, refl, sym, ap, subst, ◌∙◌, option_and_then}
+use Rattle.std.proofs.Common.{◌≡◌, ◌≢◌, ◌⊎◌, inl, inr, ℕ, Some, refl, sym, ap, subst, ◌∙◌}
+use Rattle.std.proofs.Common.{option_and_then}
 use Rattle.std.specs.FinMap as map
 use Rattle.tk_handle.specs.declared.dot.Dot.{Dot}
 use Rattle.tk_handle.specs.declared.kind.Kind.{Kind}
@@ -16,7 +17,10 @@ use Rattle.tk_family.specs.declared.link.Link.TheVariants.{Code, Redeems, Rotate
 use Rattle.tk_family.specs.Families.{IsUnder, IsDead, IsBad, IsTwice, grant_at}
 use Rattle.tk_family.proofs.FamilyLaws.{IsUnder-one}
 use Rattle.tk_fact.specs.declared.body.Body.{Body}
-use Rattle.tk_fact.specs.declared.body.Body.TheVariants.{ClientAdded, ClientRetired, ConsentGiven, ConsentWithdrawn, CodeIssued, CodeRedeemed, RefreshRotated, TokenRevoked, ReuseSeen, SubjectOut}
+use Rattle.tk_fact.specs.declared.body.Body.TheVariants.{ClientAdded, ClientRetired, ConsentGiven}
+use Rattle.tk_fact.specs.declared.body.Body.TheVariants.{ConsentWithdrawn, CodeIssued, CodeRedeemed}
+use Rattle.tk_fact.specs.declared.body.Body.TheVariants.{RefreshRotated, TokenRevoked, ReuseSeen}
+use Rattle.tk_fact.specs.declared.body.Body.TheVariants.{SubjectOut}
 use Rattle.tk_fact.specs.Tokens.{MintedFields, minted_of}
 use Rattle.tk_store.specs.FactSet.{FactSet, IsSubset}
 use Rattle.tk_ledger.specs.Bodies.{Bodies}
@@ -30,7 +34,9 @@ use Rattle.tk_ledger.proofs.StatusLaws.{no_code_is}
 -- ---- bad grants
 
 -- a token that a body mints, and that is no access token, is the grant of the body's link
-grant_of : (k : Kind) (d : Dot) (b : Body) (m : MintedFields) → k ≢ kind.Access → minted_of b k ≡ Some m → (l : Link) × (link_of b ≡ Some l) × (grant_at d l ≡ record { dot = d; kind = k })
+grant_of : (k : Kind) (d : Dot) (b : Body) (m : MintedFields) → k ≢ kind.Access
+    → minted_of b k ≡ Some m
+    → (l : Link) × (link_of b ≡ Some l) × (grant_at d l ≡ record { dot = d; kind = k })
 grant_of kind.Code d (CodeIssued b) m na h = (Code, refl, refl)
 grant_of kind.Refresh d (CodeRedeemed b) m na h = (Redeems b.code, refl, refl)
 grant_of kind.Refresh d (RefreshRotated b) m na h = (Rotates b.parent b.generation, refl, refl)
@@ -54,7 +60,9 @@ grant_of kind.Refresh d (ReuseSeen b) m na h = absurd (cc)
 grant_of kind.Refresh d (SubjectOut b) m na h = absurd (cc)
 
 -- a minted token that is no access token is the grant of the link at its dot
-grant_there : (body_at : Bodies) (k : TokenId) (m : MintedFields) → k.kind ≢ kind.Access → minted_in body_at k ≡ Some m → (l : Link) × (links_in body_at k.dot ≡ Some l) × (grant_at k.dot l ≡ k)
+grant_there : (body_at : Bodies) (k : TokenId) (m : MintedFields) → k.kind ≢ kind.Access
+    → minted_in body_at k ≡ Some m
+    → (l : Link) × (links_in body_at k.dot ≡ Some l) × (grant_at k.dot l ≡ k)
 grant_there body_at k m na mints =
     let x : (b : Body) × (body_at k.dot ≡ Some b) × (minted_of b k.kind ≡ Some m) = from_some (λ b. minted_of b k.kind) (body_at k.dot) m mints in
     let l : (l : Link) × (link_of x.0 ≡ Some l) × (grant_at k.dot l ≡ k) = grant_of k.kind k.dot x.0 m na x.2 in
@@ -63,7 +71,9 @@ grant_there body_at k m na mints =
 same_link : (l j : Link) → Some l ≡ Some j → l ≡ j
 same_link l j h = cc
 
-pub bad_grants : (body_at : Bodies) (k : TokenId) (m : MintedFields) → k.kind ≢ kind.Access → minted_in body_at k ≡ Some m → (IsBad (links_in body_at) (IsMarked body_at) k.dot → IsMarked body_at k ⊎ IsTwice (links_in body_at) k) × (IsMarked body_at k ⊎ IsTwice (links_in body_at) k → IsBad (links_in body_at) (IsMarked body_at) k.dot)
+pub bad_grants : (body_at : Bodies) (k : TokenId) (m : MintedFields) → k.kind ≢ kind.Access
+    → minted_in body_at k ≡ Some m
+    → (IsBad (links_in body_at) (IsMarked body_at) k.dot → IsMarked body_at k ⊎ IsTwice (links_in body_at) k) × (IsMarked body_at k ⊎ IsTwice (links_in body_at) k → IsBad (links_in body_at) (IsMarked body_at) k.dot)
 bad_grants body_at k m na mints =
     let l : (l : Link) × (links_in body_at k.dot ≡ Some l) × (grant_at k.dot l ≡ k) = grant_there body_at k m na mints in (
       λ bad. subst (λ (t : TokenId). IsMarked body_at t ⊎ IsTwice (links_in body_at) t) (ap (grant_at k.dot) (same_link bad.link l.0 (sym bad.here ∙ l.1)) ∙ l.2) bad.why,
@@ -79,7 +89,8 @@ family_ends body_at now h d c bad under member a =
     a.alive (subst (λ (x : Dot). IsDead (links_in body_at) (IsMarked body_at) x) one (record { member = d; under = under; bad = bad }))
 
 -- no token that its client revoked is active
-pub revoked_ends : (body_at : Bodies) (now : ℕ) (h : Handle) → IsEnded body_at h.id → ¬ IsActive body_at now h
+pub revoked_ends : (body_at : Bodies) (now : ℕ) (h : Handle) → IsEnded body_at h.id
+    → ¬ IsActive body_at now h
 revoked_ends body_at now h e a = elim (no_code_is h.id.kind a.no_code) [
   | inl access ↦ a.access access e
   | inr refresh ↦
@@ -92,14 +103,18 @@ revoked_ends body_at now h e a = elim (no_code_is h.id.kind a.no_code) [
 
 -- ---- in every greater set
 
-pub family_inactive : (F G : FactSet) → IsSubset F G → (now : ℕ) (h : Handle) (d c : Dot) → IsBad (links_in (map.get F)) (IsMarked (map.get F)) d → IsUnder (links_in (map.get G)) d c → IsUnder (links_in (map.get G)) h.id.dot c → ¬ IsActive (map.get G) now h
+pub family_inactive : (F G : FactSet) → IsSubset F G → (now : ℕ) (h : Handle) (d c : Dot)
+    → IsBad (links_in (map.get F)) (IsMarked (map.get F)) d → IsUnder (links_in (map.get G)) d c
+    → IsUnder (links_in (map.get G)) h.id.dot c → ¬ IsActive (map.get G) now h
 family_inactive F G w now h d c bad under member = family_ends (map.get G) now h d c (IsBad-below F G w d bad) under member
 
-pub revoked_inactive : (F G : FactSet) → IsSubset F G → (now : ℕ) (h : Handle) → IsEnded (map.get F) h.id → ¬ IsActive (map.get G) now h
+pub revoked_inactive : (F G : FactSet) → IsSubset F G → (now : ℕ) (h : Handle)
+    → IsEnded (map.get F) h.id → ¬ IsActive (map.get G) now h
 revoked_inactive F G w now h e = revoked_ends (map.get G) now h (IsEnded-below F G w h.id e)
 
 -- a code whose subject signed out is a bad grant, under itself
-pub signed_out_inactive : (F G : FactSet) → IsSubset F G → (now : ℕ) (h : Handle) (c : Dot) → IsOut (map.get F) c → IsUnder (links_in (map.get G)) h.id.dot c → ¬ IsActive (map.get G) now h
+pub signed_out_inactive : (F G : FactSet) → IsSubset F G → (now : ℕ) (h : Handle) (c : Dot)
+    → IsOut (map.get F) c → IsUnder (links_in (map.get G)) h.id.dot c → ¬ IsActive (map.get G) now h
 signed_out_inactive F G w now h c gone member =
     let before = under_itself F c gone.issued gone.issues in
     let after = IsOut-below F G w c gone in

@@ -3,7 +3,8 @@
 --   here_known, active_here                 a standing, and the status of an active token
 --   says_here, known_here, live_here, sound_here
 --                                           what the status means
-use Rattle.std.proofs.Common.{◌≡◌, ◌≢◌, ◌↔◌, ℕ, true, false, cond, Option, Some, None, refl, sym, ap, ◌∙◌}
+use Rattle.std.proofs.Common.{◌≡◌, ◌≢◌, ◌↔◌, ℕ, true, false, cond, Option, Some, None, refl, sym}
+use Rattle.std.proofs.Common.{ap, ◌∙◌}
 use Rattle.std.proofs.lemmas.Bool.{true≢false}
 use Rattle.std.specs.Option.{option_and_then}
 use Rattle.std.specs.FinMap as map
@@ -18,7 +19,8 @@ use Rattle.tk_store.proofs.PutLaws.{none_is_not_some}
 use Rattle.tk_store.proofs.SlotLaws.{get_held, whole_free}
 use Rattle.tk_ledger.specs.StandingFields.{StandingFields}
 use Rattle.tk_ledger.specs.Standings.{IsSound}
-use Rattle.tk_ledger.specs.Status.{status_by, status_in, status_here, minted_as, IsKnownToken, IsKnown, IsLive, IsActive, Says, SaysHere}
+use Rattle.tk_ledger.specs.Status.{status_by, status_in, status_here, minted_as, IsKnownToken}
+use Rattle.tk_ledger.specs.Status.{IsKnown, IsLive, IsActive, Says, SaysHere}
 use Rattle.tk_ledger.specs.Tokens.{minted_in, root_in}
 use Rattle.tk_ledger.specs.declared.status.Status.{Status}
 use Rattle.tk_ledger.specs.declared.status.Status.TheVariants.{Unseen, Wrong, Broken, Known}
@@ -37,7 +39,8 @@ module _ (P : StoreFields) (now : ℕ) (h : Handle) where
 
   -- ---- the status by the slot at the handle's dot
 
-  pub here_held : (b : Body) → map.get P.slots h.id.dot ≡ Some (Held b) → status_here P now h ≡ status_in F now h
+  pub here_held : (b : Body) → map.get P.slots h.id.dot ≡ Some (Held b)
+      → status_here P now h ≡ status_in F now h
   here_held b at = ap (λ (o : Option Slot). cond (is_skipped_slot o) Wrong (status_in F now h)) at
 
   pub here_skipped : map.get P.slots h.id.dot ≡ Some Skipped → status_here P now h ≡ Wrong
@@ -48,7 +51,8 @@ module _ (P : StoreFields) (now : ℕ) (h : Handle) where
       ap (λ (o : Option Slot). cond (is_skipped_slot o) Wrong (status_in F now h)) at
       ∙ ap (λ (o : Option Body). status_by F now h.id o (minted_as (map.get F) h) (root_in (map.get F) h.id.dot)) (get_held P.slots h.id.dot ∙ ap held_slot at)
 
-  by_test : (R : Status → Type 0) → (map.get P.slots h.id.dot ≡ Some Skipped → R Wrong) → (is_skipped P.slots h.id.dot ≡ false → R (status_in F now h)) → R (status_here P now h)
+  by_test : (R : Status → Type 0) → (map.get P.slots h.id.dot ≡ Some Skipped → R Wrong)
+      → (is_skipped P.slots h.id.dot ≡ false → R (status_in F now h)) → R (status_here P now h)
   by_test R gone here =
       elim (is_skipped P.slots h.id.dot) as (λ t. is_skipped P.slots h.id.dot ≡ t → R (cond t Wrong (status_in F now h))) [
         | true ↦ λ is. gone (skipped_slot (map.get P.slots h.id.dot) is)
@@ -58,10 +62,12 @@ module _ (P : StoreFields) (now : ℕ) (h : Handle) where
   -- ---- what the status means
 
   -- no token was minted at a skipped dot, as far as the facts that are held go
-  none_minted : (m : MintedFields) → map.get P.slots h.id.dot ≡ Some Skipped → minted_in (map.get F) h.id ≡ Some m → ⊥
+  none_minted : (m : MintedFields) → map.get P.slots h.id.dot ≡ Some Skipped
+      → minted_in (map.get F) h.id ≡ Some m → ⊥
   none_minted m at mints = none_is_not_some m (sym (ap (option_and_then (λ (b : Body). minted_of b h.id.kind)) (get_held P.slots h.id.dot ∙ ap held_slot at)) ∙ mints)
 
-  from_says : (x : Status) → is_skipped P.slots h.id.dot ≡ false → Says (map.get F) h x → SaysHere P h x
+  from_says : (x : Status) → is_skipped P.slots h.id.dot ≡ false → Says (map.get F) h x
+      → SaysHere P h x
   from_says Unseen whole s = whole_free P.slots h.id.dot whole s
   from_says Wrong whole s = (λ none. s.0 (get_held P.slots h.id.dot ∙ ap held_slot none), s.1)
   from_says (Broken expiry) whole s = s
@@ -83,7 +89,8 @@ module _ (P : StoreFields) (now : ℕ) (h : Handle) where
       (λ _. live_exactly F now h no_code)
 
   -- a standing is that by the facts that are held
-  pub here_known : (s : StandingFields) → status_here P now h ≡ Known s → status_in F now h ≡ Known s
+  pub here_known : (s : StandingFields) → status_here P now h ≡ Known s
+      → status_in F now h ≡ Known s
   here_known s = by_test (λ x. x ≡ Known s → status_in F now h ≡ Known s) (λ at e. absurd (cc)) (λ _ e. e)
 
   -- the status of an active token is that by the facts that are held

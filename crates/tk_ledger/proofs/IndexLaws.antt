@@ -14,7 +14,9 @@ use Rattle.tk_family.specs.ForestFacts.{ForestFacts}
 use Rattle.tk_fact.specs.declared.token_revoked.TokenRevoked as revoked
 use Rattle.tk_store.specs.FactSet.{FactSet}
 use Rattle.tk_ledger.specs.Changes.{change_in}
-use Rattle.tk_ledger.specs.Index.{row_at, row_added, row_retired, is_at, consent_cmp, consent_key, is_key_at, IsRevocations, IsCodes, IsOuts, IsReuses, IsTied, IsIndexed}
+use Rattle.tk_ledger.specs.Index.{row_at, row_added, row_retired, is_at, consent_cmp, consent_key}
+use Rattle.tk_ledger.specs.Index.{is_key_at, IsRevocations, IsCodes, IsOuts, IsReuses, IsTied}
+use Rattle.tk_ledger.specs.Index.{IsIndexed}
 use Rattle.tk_ledger.specs.declared.change.Change.TheVariants as change
 use Rattle.tk_ledger.specs.declared.client_rows.ClientRow.{ClientRow}
 use Rattle.tk_ledger.specs.declared.consent_keys.ConsentKey.{ConsentKey}
@@ -23,7 +25,9 @@ use Rattle.tk_ledger.specs.declared.reuses.ReuseKey.{ReuseKey}
 use Rattle.tk_ledger.specs.declared.revocations.Revocation.{Revocation}
 use Rattle.tk_ledger.specs.declared.subject_keys.CodeKey.{CodeKey}
 use Rattle.tk_ledger.specs.declared.subject_keys.OutKey.{OutKey}
-use Rattle.tk_ledger.proofs.ChangeLaws.{or_cond, clients_by, same_consents, withdrawals_by, revocations_by, same_revocations, same_codes, same_outs, same_reuses, quiet_ties}
+use Rattle.tk_ledger.proofs.ChangeLaws.{or_cond, clients_by, same_consents, withdrawals_by}
+use Rattle.tk_ledger.proofs.ChangeLaws.{same_revocations, same_codes, same_outs, same_reuses}
+use Rattle.tk_ledger.proofs.ChangeLaws.{quiet_ties}
 use Rattle.tk_ledger.proofs.ConsentTableLaws.{give_row, withdraw_row}
 use Rattle.tk_ledger.proofs.KeyLaws.{at_is_same}
 
@@ -35,7 +39,7 @@ index_add G d x u h i a e = record {
   clients_are = clients_by G d change.Add x.clients u h i.clients_are a e;
   consents_are = same_consents G d change.Add x.consents h (λ _ _. refl) (λ _. refl) i.consents_are;
   withdrawn_are = withdrawals_by G d change.Add x.withdrawn x.withdrawn h i.withdrawn_are (λ q. refl);
-  revocations_are = revocations_by G d change.Add x.revocations x.revocations h i.revocations_are (λ k g c. refl);
+  revocations_are = same_revocations G d change.Add x.revocations h (λ _ _ _. refl) i.revocations_are;
   codes_are = same_codes G d change.Add x.codes h refl i.codes_are;
   outs_are = same_outs G d change.Add x.outs h refl i.outs_are;
   reuses_are = same_reuses G d change.Add x.reuses h (λ _. refl) i.reuses_are;
@@ -50,7 +54,7 @@ index_retire G d c x u h i e a = record {
   clients_are = clients_by G d (change.Retire c) x.clients u h i.clients_are a (λ q. e q ∙ ap (λ z. z || row_retired (row_at x.clients q)) (at_is_same c q));
   consents_are = same_consents G d (change.Retire c) x.consents h (λ _ _. refl) (λ _. refl) i.consents_are;
   withdrawn_are = withdrawals_by G d (change.Retire c) x.withdrawn x.withdrawn h i.withdrawn_are (λ q. refl);
-  revocations_are = revocations_by G d (change.Retire c) x.revocations x.revocations h i.revocations_are (λ k g z. refl);
+  revocations_are = same_revocations G d (change.Retire c) x.revocations h (λ _ _ _. refl) i.revocations_are;
   codes_are = same_codes G d (change.Retire c) x.codes h refl i.codes_are;
   outs_are = same_outs G d (change.Retire c) x.outs h refl i.outs_are;
   reuses_are = same_reuses G d (change.Retire c) x.reuses h (λ _. refl) i.reuses_are;
@@ -68,7 +72,7 @@ index_give G d client subject x u h i here r =
       clients_are = clients_by G d y x.clients x.clients h i.clients_are (λ q. refl) (λ q. refl);
       consents_are = give_row G d client subject x.withdrawn x.consents u h i.withdrawn_are i.consents_are here r;
       withdrawn_are = withdrawals_by G d y x.withdrawn x.withdrawn h i.withdrawn_are (λ q. refl);
-      revocations_are = revocations_by G d y x.revocations x.revocations h i.revocations_are (λ k g c. refl);
+      revocations_are = same_revocations G d y x.revocations h (λ _ _ _. refl) i.revocations_are;
       codes_are = same_codes G d y x.codes h refl i.codes_are;
       outs_are = same_outs G d y x.outs h refl i.outs_are;
       reuses_are = same_reuses G d y x.reuses h (λ _. refl) i.reuses_are;
@@ -84,7 +88,7 @@ index_withdraw G d c x u v h i e r = record {
   clients_are = clients_by G d (change.Withdraw c) x.clients x.clients h i.clients_are (λ q. refl) (λ q. refl);
   consents_are = withdraw_row G d c x.consents u h i.consents_are r;
   withdrawn_are = withdrawals_by G d (change.Withdraw c) x.withdrawn v h i.withdrawn_are (λ q. e q ∙ or_cond (is_at c q) (contains dot_cmp x.withdrawn q) ∙ ap (λ z. z || contains dot_cmp x.withdrawn q) (at_is_same c q));
-  revocations_are = revocations_by G d (change.Withdraw c) x.revocations x.revocations h i.revocations_are (λ k g z. refl);
+  revocations_are = same_revocations G d (change.Withdraw c) x.revocations h (λ _ _ _. refl) i.revocations_are;
   codes_are = same_codes G d (change.Withdraw c) x.codes h refl i.codes_are;
   outs_are = same_outs G d (change.Withdraw c) x.outs h refl i.outs_are;
   reuses_are = same_reuses G d (change.Withdraw c) x.reuses h (λ _. refl) i.reuses_are;
@@ -126,7 +130,7 @@ index_mark G d j x s z h i rows tied = record {
   clients_are = clients_by G d (change.Mark j) x.clients x.clients h i.clients_are (λ q. refl) (λ q. refl);
   consents_are = same_consents G d (change.Mark j) x.consents h (λ _ _. refl) (λ _. refl) i.consents_are;
   withdrawn_are = withdrawals_by G d (change.Mark j) x.withdrawn x.withdrawn h i.withdrawn_are (λ q. refl);
-  revocations_are = revocations_by G d (change.Mark j) x.revocations x.revocations h i.revocations_are (λ k g c. refl);
+  revocations_are = same_revocations G d (change.Mark j) x.revocations h (λ _ _ _. refl) i.revocations_are;
   codes_are = same_codes G d (change.Mark j) x.codes h refl i.codes_are;
   outs_are = same_outs G d (change.Mark j) x.outs h refl i.outs_are;
   reuses_are = rows;
@@ -162,14 +166,14 @@ index_out G d subject moment x s z h i rows tied = record {
 }
 
 -- tables of the same set in place of others
-pub index_back : (F : FactSet) (x : Index) (codes : BTreeSet CodeKey) (outs : BTreeSet OutKey) (reuses : BTreeSet ReuseKey) (z : ForestFacts)
-    → IsIndexed F x → IsCodes F codes → IsOuts F outs → IsReuses F reuses → IsTied F z
-    → IsIndexed F (record { clients = x.clients; consents = x.consents; withdrawn = x.withdrawn; revocations = x.revocations; codes = codes; outs = outs; reuses = reuses; forest = z })
-index_back F x codes outs reuses z i c o r tied = record {
+pub index_back : (F : FactSet) (x : Index) (revocations : BTreeSet Revocation) (codes : BTreeSet CodeKey) (outs : BTreeSet OutKey) (reuses : BTreeSet ReuseKey) (z : ForestFacts)
+    → IsIndexed F x → IsRevocations F revocations → IsCodes F codes → IsOuts F outs → IsReuses F reuses → IsTied F z
+    → IsIndexed F (record { clients = x.clients; consents = x.consents; withdrawn = x.withdrawn; revocations = revocations; codes = codes; outs = outs; reuses = reuses; forest = z })
+index_back F x revocations codes outs reuses z i v c o r tied = record {
   clients_are = i.clients_are;
   consents_are = i.consents_are;
   withdrawn_are = i.withdrawn_are;
-  revocations_are = i.revocations_are;
+  revocations_are = v;
   codes_are = c;
   outs_are = o;
   reuses_are = r;

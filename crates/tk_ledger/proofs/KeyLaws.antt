@@ -1,8 +1,9 @@
 -- Keys tie exactly if their parts are equal. Key results:
 --   at_is_same                      dots, by their order and by their numbers
 --   token_tied                      tokens
---   consent_tied, revocation_tied   the keys of consents and revocations
-use Rattle.std.proofs.Common.{◌≡◌, ℕ, Bool, true, false, ◌&&◌, ◌==◌, List, refl, sym, ap, ◌∙◌, eq-eqb}
+--   consent_tied                    the keys of consents
+use Rattle.std.proofs.Common.{◌≡◌, ℕ, Bool, true, false, ◌&&◌, ◌==◌, List, refl, sym, ap, ◌∙◌}
+use Rattle.std.proofs.Common.{eq-eqb}
 use Rattle.std.proofs.lemmas.Bool.{true≢false, eqb-true}
 use Rattle.std.proofs.lemmas.Cmp.{tied_itself}
 use Rattle.std.proofs.lemmas.Map.Lookups.{exact_bytes, exact_unsigned}
@@ -20,8 +21,9 @@ use Rattle.tk_handle.specs.Kind.{kind_number}
 use Rattle.tk_handle.specs.TokenId.{token_cmp}
 use Rattle.tk_store.proofs.FactSetLaws.{tied}
 use Rattle.tk_ledger.specs.Bodies.{is_same_dot, is_same_token}
-use Rattle.tk_ledger.specs.Index.{consent_cmp, consent_key, revocation_cmp, revocation_key}
-use Rattle.tk_ledger.proofs.SameLaws.{same_dot-true, same_dot-itself, same_token-true, same_token-itself}
+use Rattle.tk_ledger.specs.Index.{consent_cmp, consent_key}
+use Rattle.tk_ledger.proofs.SameLaws.{same_dot-true, same_dot-itself, same_token-true}
+use Rattle.tk_ledger.proofs.SameLaws.{same_token-itself}
 
 -- two tests that imply each other are equal
 pub same_tests : (a b : Bool) → (a ≡ true → b ≡ true) → (b ≡ true → a ≡ true) → a ≡ b
@@ -69,26 +71,11 @@ token_tied j k =
     (λ h. ap (is_same_token k) (same_token-true j k h) ∙ same_token-itself k)
 
 -- the keys of consents tie exactly if client, digest and dot are equal
-pub consent_tied : (c e : Dot) (g h : List ℕ) (d q : Dot) → eq_by_cmp consent_cmp (consent_key c g d) (consent_key e h q) ≡ (is_same_dot c e && (bytes_eq g h && is_same_dot d q))
+pub consent_tied : (c e : Dot) (g h : List ℕ) (d q : Dot)
+    → eq_by_cmp consent_cmp (consent_key c g d) (consent_key e h q) ≡ (is_same_dot c e && (bytes_eq g h && is_same_dot d q))
 consent_tied c e g h d q =
     both_tied (dot_cmp c e) _
     ∙ ap (λ x. is_eq (dot_cmp c e) && x) (both_tied (slice_cmp nat_cmp g h) (dot_cmp d q))
     ∙ ap (λ x. x && (is_eq (slice_cmp nat_cmp g h) && is_eq (dot_cmp d q))) (at_is_same c e)
     ∙ ap (λ x. is_same_dot c e && (x && is_eq (dot_cmp d q))) (bytes_tied g h)
     ∙ ap (λ x. is_same_dot c e && (bytes_eq g h && x)) (at_is_same d q)
-
-regroup : (a b c : Bool) → (a && (b && c)) ≡ ((a && b) && c)
-regroup true b c = refl
-regroup false b c = refl
-
--- the keys of revocations tie exactly if token, digest and client are equal
-pub revocation_tied : (j k : TokenId) (g h : List ℕ) (c e : Dot) → eq_by_cmp revocation_cmp (revocation_key j g c) (revocation_key k h e) ≡ (is_same_token j k && (bytes_eq g h && is_same_dot c e))
-revocation_tied j k g h c e =
-    both_tied (dot_cmp j.dot k.dot) _
-    ∙ ap (λ x. is_eq (dot_cmp j.dot k.dot) && x) (both_tied (nat_cmp (kind_number j.kind) (kind_number k.kind)) _)
-    ∙ ap (λ x. is_eq (dot_cmp j.dot k.dot) && (is_eq (nat_cmp (kind_number j.kind) (kind_number k.kind)) && x)) (both_tied (slice_cmp nat_cmp g h) (dot_cmp c e))
-    ∙ ap (λ x. x && (is_eq (nat_cmp (kind_number j.kind) (kind_number k.kind)) && (is_eq (slice_cmp nat_cmp g h) && is_eq (dot_cmp c e)))) (at_is_same j.dot k.dot)
-    ∙ ap (λ x. is_same_dot j.dot k.dot && (x && (is_eq (slice_cmp nat_cmp g h) && is_eq (dot_cmp c e)))) (number_tied (kind_number j.kind) (kind_number k.kind))
-    ∙ ap (λ x. is_same_dot j.dot k.dot && ((kind_number j.kind == kind_number k.kind) && (x && is_eq (dot_cmp c e)))) (bytes_tied g h)
-    ∙ ap (λ x. is_same_dot j.dot k.dot && ((kind_number j.kind == kind_number k.kind) && (bytes_eq g h && x))) (at_is_same c e)
-    ∙ regroup (is_same_dot j.dot k.dot) (kind_number j.kind == kind_number k.kind) (bytes_eq g h && is_same_dot c e)

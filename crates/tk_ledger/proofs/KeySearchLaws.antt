@@ -1,11 +1,14 @@
 -- The first key of a sorted list that passes a test, among the keys that another test keeps. Key
 -- results:
 --   among                       a list has the key
+--   some_key, any_key           a list with a key has a first one, and the other way round
 --   found_passes, none_passes   a key that is found is in the list and passes both tests; if no key
 --                               is found, no key of the list passes both
 --   first_least                 no key that passes is below the first that does
-use Rattle.std.proofs.Common.{◌≡◌, ◌≢◌, ◌⊎◌, inl, inr, Bool, true, false, ◌&&◌, ◌||◌, List, [], ◌∷◌, filter, Some, None, refl, sym, ap, subst, ◌∙◌}
-use Rattle.std.proofs.lemmas.Bool.{true≢false, cases_Bool, cond-true, cond-false, or_cases, or_left, and_parts, and_from}
+use Rattle.std.proofs.Common.{◌≡◌, ◌≢◌, ◌⊎◌, inl, inr, Bool, true, false, ◌&&◌, ◌||◌, List, [], ◌∷◌}
+use Rattle.std.proofs.Common.{filter, Some, None, refl, sym, ap, subst, ◌∙◌}
+use Rattle.std.proofs.lemmas.Bool.{true≢false, cases_Bool, cond-true, cond-false, or_cases, or_left}
+use Rattle.std.proofs.lemmas.Bool.{and_parts, and_from}
 use Rattle.std.proofs.lemmas.Cmp.{tied_itself}
 use Rattle.std.specs.BTreeMap.{is_at}
 use Rattle.std.specs.Cmp.{IsTotalOrder}
@@ -22,6 +25,22 @@ greater_not_less h = cc
 equal_not_less : ¬ (Equal ≡ Less)
 equal_not_less h = cc
 
+-- ---- whether there is a key
+
+abbrev pub every : {K : Type 0} → K → Bool
+every e = true
+
+pub some_key : {K : Type 0} (es : List K) → list_any every es ≡ true
+    → (e : K) × (find every es ≡ Some e)
+some_key [] h = absurd (true≢false (sym h))
+some_key (e ∷ es) h = (e, refl)
+
+pub any_key : {K : Type 0} (es : List K) → ¬ (find every es ≡ None) → list_any every es ≡ true
+any_key [] h = absurd (h refl)
+any_key (e ∷ es) h = refl
+
+-- ---- the first key that passes
+
 module _ {K : Type 0} (cmp : K → K → Ordering) where
   -- the list has the key
   abbrev pub among : K → List K → Bool
@@ -35,7 +54,8 @@ module _ {K : Type 0} (cmp : K → K → Ordering) (total : IsTotalOrder cmp) (t
       or_more true b h = refl
       or_more false b h = h
 
-  pub found_passes : (ks : List K) (e : K) → find p (filter c ks) ≡ Some e → (p e ≡ true) × (c e ≡ true) × (among cmp e ks ≡ true)
+  pub found_passes : (ks : List K) (e : K) → find p (filter c ks) ≡ Some e
+      → (p e ≡ true) × (c e ≡ true) × (among cmp e ks ≡ true)
   found_passes [] e h = absurd (none_is_not_some e h)
   found_passes (x ∷ xs) e h = elim (cases_Bool (c x)) [
     | inl kept ↦ elim (cases_Bool (p x)) [
@@ -51,7 +71,8 @@ module _ {K : Type 0} (cmp : K → K → Ordering) (total : IsTotalOrder cmp) (t
         (more.0, more.1, later e x xs more.2)
   ]
 
-  pub none_passes : (ks : List K) → find p (filter c ks) ≡ None → (k : K) → among cmp k ks ≡ true → c k ≡ true → p k ≡ true → ⊥
+  pub none_passes : (ks : List K) → find p (filter c ks) ≡ None → (k : K) → among cmp k ks ≡ true
+      → c k ≡ true → p k ≡ true → ⊥
   none_passes [] h k at kept passes = true≢false (sym at)
   none_passes (x ∷ xs) h k at kept passes = elim (or_cases (is_at (cmp k) x) (among cmp k xs) at) [
     | inl tie ↦
@@ -67,7 +88,8 @@ module _ {K : Type 0} (cmp : K → K → Ordering) (total : IsTotalOrder cmp) (t
       ]
       rest (inr left) = sym (ap (find p) (cond-false (c x) (x ∷ filter c xs) (filter c xs) left)) ∙ h
 
-  above_key : (x : K) (xs : List K) → AllByRecursion (λ y. cmp x y ≡ Less) xs → (k : K) → among cmp k xs ≡ true → cmp x k ≡ Less
+  above_key : (x : K) (xs : List K) → AllByRecursion (λ y. cmp x y ≡ Less) xs → (k : K)
+      → among cmp k xs ≡ true → cmp x k ≡ Less
   above_key x [] low k at = absurd (true≢false (sym at))
   above_key x (y ∷ ys) low k at = elim (or_cases (is_at (cmp k) y) (among cmp k ys) at) [
     | inl tie ↦ ap (cmp x) (tied_same k y tie) ∙ low.0
@@ -75,7 +97,9 @@ module _ {K : Type 0} (cmp : K → K → Ordering) (total : IsTotalOrder cmp) (t
   ]
 
   -- no key that passes is below the first that does
-  pub first_least : (ks : List K) → IsStrictlySortedBy cmp ks → (e : K) → find p (filter c ks) ≡ Some e → (k : K) → among cmp k ks ≡ true → c k ≡ true → p k ≡ true → cmp k e ≢ Less
+  pub first_least : (ks : List K) → IsStrictlySortedBy cmp ks → (e : K)
+      → find p (filter c ks) ≡ Some e → (k : K) → among cmp k ks ≡ true → c k ≡ true → p k ≡ true
+      → cmp k e ≢ Less
   unfolding IsStrictlySortedBy
   first_least [] sorted e h k at kept passes = λ _. true≢false (sym at)
   first_least (x ∷ xs) sorted e h k at kept passes = elim (cases_Bool (c x && p x)) [

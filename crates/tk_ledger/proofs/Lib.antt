@@ -15,6 +15,7 @@ pub mod LossLaws
 pub mod OutLaws
 pub mod RetentionLaws
 pub mod ReuseLaws
+pub mod RevocationLaws
 pub mod SameLaws
 pub mod SignOutLaws
 pub mod SkipLaws

@@ -1,9 +1,14 @@
 -- The tables and the forest follow the set when that loses a fact. Key results:
 --   clients_less .. outs_less          tables that have no key of the fact
---   codes_less, reuses_less            the tables of codes and reuses without the key of the fact
---   untied_link, untied_reuse          the forest after the loss of a link, and of a reuse
---   lost_code, lost_link, lost_reuse   all tables, and the forest
-use Rattle.std.proofs.Common.{◌≡◌, ◌≢◌, ◌⊎◌, inl, inr, ℕ, Bool, true, false, ◌&&◌, ◌||◌, not, ◌==◌, cond, if◌then◌else◌, List, Some, None, is_some, refl, sym, ap, subst, ◌∙◌}
+--   codes_less, revocations_less, reuses_less
+--                                      a table without the key of the fact
+--   untied_link, untied_revocation, untied_reuse
+--                                      the forest after the loss of a link, a revocation, a reuse
+--   lost_code, lost_link, lost_revocation, lost_reuse
+--                                      all tables, and the forest
+use Rattle.std.proofs.Common.{◌≡◌, ◌≢◌, ◌⊎◌, inl, inr, ℕ, Bool, true, false, ◌&&◌, ◌||◌, not, ◌==◌}
+use Rattle.std.proofs.Common.{cond, if◌then◌else◌, List, Some, None, is_some, refl, sym, ap, subst}
+use Rattle.std.proofs.Common.{◌∙◌}
 use Rattle.std.proofs.lemmas.Bool.{true≢false, cases_Bool, cond-true, cond-false, and_parts}
 use Rattle.std.specs.Option.{option_and_then}
 use Rattle.std.specs.Ordering.{eq_by_cmp}
@@ -22,16 +27,22 @@ use Rattle.tk_family.specs.Families.{IsUnder, grant_at}
 use Rattle.tk_family.specs.ForestFacts.{ForestFacts}
 use Rattle.tk_family.proofs.FamilyLaws.{IsUnder-within}
 use Rattle.tk_fact.specs.declared.body.Body.{Body}
+use Rattle.tk_fact.specs.declared.token_revoked.TokenRevoked as revoked
 use Rattle.tk_store.specs.FactSet.{FactSet}
 use Rattle.tk_store.proofs.PutLaws.{none_is_not_some}
 use Rattle.tk_store.proofs.OneMoreLaws.{OneMore, more_subset, any_fact-more, cases_dots, apart_at}
 use Rattle.tk_ledger.specs.Bodies.{is_same_dot, is_same_token}
-use Rattle.tk_ledger.specs.Changes.{change_in, adds, retires_of, gives_to, withdraws_of, revokes_of, reuses_of}
+use Rattle.tk_ledger.specs.Changes.{change_in, adds, retires_of, gives_to, withdraws_of, revokes_of}
+use Rattle.tk_ledger.specs.Changes.{reuses_of}
 use Rattle.tk_ledger.specs.Clients.{client_at, retires, is_retired, consent_at, is_withdrawn}
-use Rattle.tk_ledger.specs.Index.{is_at, IsClients, is_from, IsConsents, IsWithdrawals, IsRevocations, code_cmp, code_key, is_to, is_listed_code, IsCodes, is_left_by, IsOuts, reuse_cmp, reuse_key, is_reuse_of, is_listed_reuse, IsReuses, IsTied, Wakes, IsIndexed}
+use Rattle.tk_ledger.specs.Index.{is_at, IsClients, is_from, IsConsents, IsWithdrawals}
+use Rattle.tk_ledger.specs.Index.{revocation_cmp, revocation_key, is_revocation_of}
+use Rattle.tk_ledger.specs.Index.{is_listed_revocation, IsRevocations, code_cmp, code_key, is_to}
+use Rattle.tk_ledger.specs.Index.{is_listed_code, IsCodes, is_left_by, IsOuts, reuse_cmp, reuse_key}
+use Rattle.tk_ledger.specs.Index.{is_reuse_of, is_listed_reuse, IsReuses, IsTied, Wakes, IsIndexed}
 use Rattle.tk_ledger.specs.Losses.{WasIndexed}
 use Rattle.tk_ledger.specs.SignOuts.{sign_out_in, sign_out_at}
-use Rattle.tk_ledger.specs.Tokens.{link_of, links_in, issued_in, issued_at, revokes, is_revoked, is_marked}
+use Rattle.tk_ledger.specs.Tokens.{link_of, links_in, issued_in, issued_at, is_marked}
 use Rattle.tk_ledger.specs.declared.change.Change.{Change}
 use Rattle.tk_ledger.specs.declared.change.Change.TheVariants as change
 use Rattle.tk_ledger.specs.declared.client_rows.ClientRow.{ClientRow}
@@ -43,13 +54,17 @@ use Rattle.tk_ledger.specs.declared.subject_keys.CodeKey.{CodeKey}
 use Rattle.tk_ledger.specs.declared.subject_keys.OutKey.{OutKey}
 use Rattle.tk_ledger.proofs.EndingLaws.{under_none}
 use Rattle.tk_ledger.proofs.ChangeLaws.{Changed, changed}
-use Rattle.tk_ledger.proofs.ForestLaws.{puts, revoking, signs, Touches, same_mark, put_reuses, put_revokes, put_signs, unsigned, unrevoked, links_still}
+use Rattle.tk_ledger.proofs.ForestLaws.{puts, revoking, signs, Touches, same_mark, put_reuses}
+use Rattle.tk_ledger.proofs.ForestLaws.{put_revokes, put_signs, unsigned, unrevoked, revokes_at}
+use Rattle.tk_ledger.proofs.ForestLaws.{links_still}
 use Rattle.tk_ledger.proofs.KeyLaws.{at_is_same, at_itself}
 use Rattle.tk_ledger.proofs.ReuseLaws.{reuse_tied, reused_on}
+use Rattle.tk_ledger.proofs.RevocationLaws.{revocation_tied, revoked_on}
 use Rattle.tk_ledger.proofs.SameLaws.{same_dot-true, same_token-true}
 use Rattle.tk_ledger.proofs.SubjectKeyLaws.{code_tied, code_tied-dot}
-use Rattle.tk_ledger.proofs.SubjectTableLaws.{issuing, issues_to, issues_none, signs_none, issued_on, signed_on, without}
-use Rattle.tk_ledger.proofs.TableLaws.{revokes-change, retires-change, added_on, given_on, withdrawn_on}
+use Rattle.tk_ledger.proofs.SubjectTableLaws.{issuing, issues_to, issues_none, signs_none}
+use Rattle.tk_ledger.proofs.SubjectTableLaws.{issued_on, signed_on, without}
+use Rattle.tk_ledger.proofs.TableLaws.{retires-change, added_on, given_on, withdrawn_on}
 use Rattle.tk_ledger.proofs.TokenLaws.{links-below}
 use Rattle.tk_ledger.proofs.WakeLaws.{grant_place}
 
@@ -72,8 +87,11 @@ consents_less F G d b t m none kept i = record {
 withdrawals_less : (F G : FactSet) (d : Dot) (b : Body) (t : BTreeSet Dot) → OneMore F G d b → ((q : Dot) → withdraws_of q (change_in b) ≡ false) → IsWithdrawals G t → IsWithdrawals F t
 withdrawals_less F G d b t m none i q = i q ∙ sym (withdrawn_on F G d b q m) ∙ ap (λ a. a || is_withdrawn F q) (none q)
 
-revocations_less : (F G : FactSet) (d : Dot) (b : Body) (t : BTreeSet Revocation) → OneMore F G d b → ((k : TokenId) (digest : List ℕ) (client : Dot) → revokes_of k digest client (change_in b) ≡ false) → IsRevocations G t → IsRevocations F t
-revocations_less F G d b t m none i k g c = i k g c ∙ any_fact-more (revokes k g c) F G d b m ∙ ap (λ a. a || is_revoked F k g c) (revokes-change k g c b ∙ none k g c)
+revocations_kept : (F G : FactSet) (d : Dot) (b : Body) (t : BTreeSet Revocation) → OneMore F G d b → ((k : TokenId) (digest : List ℕ) (client : Dot) → revokes_of k digest client (change_in b) ≡ false) → IsRevocations G t → IsRevocations F t
+revocations_kept F G d b t m none i = record {
+  listed = λ k g c q. i.listed k g c q ∙ sym (revoked_on F G d b k g c q (is_revocation_of k g c (map.get F q)) m refl) ∙ ap (λ a. (a && is_at d q) || is_revocation_of k g c (map.get F q)) (none k g c);
+  ranged = i.ranged;
+}
 
 outs_less : (F G : FactSet) (d : Dot) (b : Body) (t : BTreeSet OutKey) → OneMore F G d b → signs (change_in b) ≡ false → IsOuts G t → IsOuts F t
 outs_less F G d b t m none i = record {
@@ -129,6 +147,32 @@ codes_less F G d b subject start t u m is i r = record {
     listed g n q =
         r (code_key g n q) ∙ ap (λ x. cond (eq_by_cmp code_cmp (code_key subject start d) (code_key g n q)) false x) (before g n q)
         ∙ without (eq_by_cmp code_cmp (code_key subject start d) (code_key g n q)) (is_to g n (issued_at (map.get F) q)) (gone g n q)
+
+-- the table without the key of a revocation
+revocations_less : (F G : FactSet) (d : Dot) (b : Body) (f : revoked.TokenRevoked) (t u : BTreeSet Revocation) → OneMore F G d b → change_in b ≡ change.Revoke f → IsRevocations G t
+    → ((e : Revocation) → contains revocation_cmp u e ≡ cond (eq_by_cmp revocation_cmp (revocation_key f.token f.digest f.client d) e) false (contains revocation_cmp t e))
+    → IsRevocations F u
+revocations_less F G d b f t u m is i r = record {
+  listed = listed;
+  ranged = λ k g c q h. i.ranged k g c q (fewer (eq_by_cmp revocation_cmp (revocation_key f.token f.digest f.client d) (revocation_key k g c q)) (is_listed_revocation t k g c q) (sym (r (revocation_key k g c q)) ∙ h));
+}
+  where
+    before : (k : TokenId) (g : List ℕ) (c q : Dot) → is_listed_revocation t k g c q ≡ (eq_by_cmp revocation_cmp (revocation_key f.token f.digest f.client d) (revocation_key k g c q) || is_revocation_of k g c (map.get F q))
+    before k g c q =
+        i.listed k g c q ∙ sym (revoked_on F G d b k g c q (is_revocation_of k g c (map.get F q)) m refl)
+        ∙ ap (λ y. (revokes_of k g c y && is_at d q) || is_revocation_of k g c (map.get F q)) is
+        ∙ ap (λ a. (revokes_of k g c (change.Revoke f) && a) || is_revocation_of k g c (map.get F q)) (at_is_same d q)
+        ∙ ap (λ a. a || is_revocation_of k g c (map.get F q)) (sym (revocation_tied f.token k f.digest g f.client c d q))
+
+    gone : (k : TokenId) (g : List ℕ) (c q : Dot) → eq_by_cmp revocation_cmp (revocation_key f.token f.digest f.client d) (revocation_key k g c q) ≡ true → is_revocation_of k g c (map.get F q) ≡ false
+    gone k g c q h =
+        let same : d ≡ q = same_dot-true d q (and_parts (revokes_of k g c (change.Revoke f)) (is_same_dot d q) (sym (revocation_tied f.token k f.digest g f.client c d q) ∙ h)).1 in
+        ap (is_revocation_of k g c) (ap (map.get F) (sym same) ∙ m.free)
+
+    listed : (k : TokenId) (g : List ℕ) (c q : Dot) → is_listed_revocation u k g c q ≡ is_revocation_of k g c (map.get F q)
+    listed k g c q =
+        r (revocation_key k g c q) ∙ ap (λ x. cond (eq_by_cmp revocation_cmp (revocation_key f.token f.digest f.client d) (revocation_key k g c q)) false x) (before k g c q)
+        ∙ without (eq_by_cmp revocation_cmp (revocation_key f.token f.digest f.client d) (revocation_key k g c q)) (is_revocation_of k g c (map.get F q)) (gone k g c q)
 
 -- the table without the key of a reuse
 reuses_less : (F G : FactSet) (d : Dot) (b : Body) (j : TokenId) (t u : BTreeSet ReuseKey) → OneMore F G d b → change_in b ≡ change.Mark j → IsReuses G t
@@ -210,6 +254,21 @@ untied_reuse F G d b j x z m is t woke =
       | inr (inr (inr r)) ↦ r.before c under
     ])
 
+-- the forest without a revocation, if the marks at the token's dot were written
+untied_revocation : (F G : FactSet) (d : Dot) (b : Body) (f : revoked.TokenRevoked) (x z : ForestFacts) → OneMore F G d b → change_in b ≡ change.Revoke f → IsTied G x
+    → Wakes F x (λ q. dot_eq q f.token.dot) z → IsTied F z
+untied_revocation F G d b f x z m is t woke =
+    tied_less F G d b x x z (λ q. dot_eq q f.token.dot) m t
+    (λ q. t.links q ∙ sym (links_still F G d b m (ap puts is) q))
+    (λ _ _. refl)
+    woke
+    (λ k touch apart c under. elim touch [
+      | inl seen ↦ true≢false (sym seen ∙ ap (reuses_of k) is)
+      | inr (inl r) ↦ true≢false (sym (revokes_at b f k is r) ∙ apart)
+      | inr (inr (inl r)) ↦ unsigned G b k (ap signs is) r
+      | inr (inr (inr r)) ↦ r.before c under
+    ])
+
 -- ---- all tables
 
 -- the fact that is lost, and the set that had it
@@ -235,7 +294,7 @@ lost_code F d subject start x s z w r links marks =
       clients_are = clients_less F o.before d o.body x.clients o.more (ap adds o.is) (λ q. ap (retires_of q) o.is) o.indexed.clients_are;
       consents_are = consents_less F o.before d o.body x.consents o.more (λ c g. ap (gives_to c g) o.is) (λ q. ap (withdraws_of q) o.is) o.indexed.consents_are;
       withdrawn_are = withdrawals_less F o.before d o.body x.withdrawn o.more (λ q. ap (withdraws_of q) o.is) o.indexed.withdrawn_are;
-      revocations_are = revocations_less F o.before d o.body x.revocations o.more (λ k g c. ap (revokes_of k g c) o.is) o.indexed.revocations_are;
+      revocations_are = revocations_kept F o.before d o.body x.revocations o.more (λ k g c. ap (revokes_of k g c) o.is) o.indexed.revocations_are;
       codes_are = codes_less F o.before d o.body subject start x.codes s o.more o.is o.indexed.codes_are r;
       outs_are = outs_less F o.before d o.body x.outs o.more (ap signs o.is) o.indexed.outs_are;
       reuses_are = reuses_kept F o.before d o.body x.reuses o.more (λ k. ap (reuses_of k) o.is) o.indexed.reuses_are;
@@ -251,7 +310,7 @@ lost_link F d l x z w links marks =
       clients_are = clients_less F o.before d o.body x.clients o.more (ap adds o.is) (λ q. ap (retires_of q) o.is) o.indexed.clients_are;
       consents_are = consents_less F o.before d o.body x.consents o.more (λ c g. ap (gives_to c g) o.is) (λ q. ap (withdraws_of q) o.is) o.indexed.consents_are;
       withdrawn_are = withdrawals_less F o.before d o.body x.withdrawn o.more (λ q. ap (withdraws_of q) o.is) o.indexed.withdrawn_are;
-      revocations_are = revocations_less F o.before d o.body x.revocations o.more (λ k g c. ap (revokes_of k g c) o.is) o.indexed.revocations_are;
+      revocations_are = revocations_kept F o.before d o.body x.revocations o.more (λ k g c. ap (revokes_of k g c) o.is) o.indexed.revocations_are;
       codes_are = codes_kept F o.before d o.body x.codes o.more (ap issuing o.is) o.indexed.codes_are;
       outs_are = outs_less F o.before d o.body x.outs o.more (ap signs o.is) o.indexed.outs_are;
       reuses_are = reuses_kept F o.before d o.body x.reuses o.more (λ k. ap (reuses_of k) o.is) o.indexed.reuses_are;
@@ -262,12 +321,7 @@ lost_link F d l x z w links marks =
 pub lost_revocations : (F : FactSet) (d : Dot) (j : TokenId) (x : Index) → WasIndexed F d (change.Mark j) x → IsRevocations F x.revocations
 lost_revocations F d j x w =
     let o : Loss F d (change.Mark j) x = loss F d (change.Mark j) x w in
-    revocations_less F o.before d o.body x.revocations o.more (λ k g c. ap (revokes_of k g c) o.is) o.indexed.revocations_are
-
-pub lost_outs : (F : FactSet) (d : Dot) (j : TokenId) (x : Index) → WasIndexed F d (change.Mark j) x → IsOuts F x.outs
-lost_outs F d j x w =
-    let o : Loss F d (change.Mark j) x = loss F d (change.Mark j) x w in
-    outs_less F o.before d o.body x.outs o.more (ap signs o.is) o.indexed.outs_are
+    revocations_kept F o.before d o.body x.revocations o.more (λ k g c. ap (revokes_of k g c) o.is) o.indexed.revocations_are
 
 pub lost_reuses : (F : FactSet) (d : Dot) (j : TokenId) (x : Index) (s : BTreeSet ReuseKey) → WasIndexed F d (change.Mark j) x
     → ((k : ReuseKey) → contains reuse_cmp s k ≡ cond (eq_by_cmp reuse_cmp (reuse_key j d) k) false (contains reuse_cmp x.reuses k)) → IsReuses F s
@@ -275,10 +329,28 @@ lost_reuses F d j x s w r =
     let o : Loss F d (change.Mark j) x = loss F d (change.Mark j) x w in
     reuses_less F o.before d o.body j x.reuses s o.more o.is o.indexed.reuses_are r
 
-pub lost_links : (F : FactSet) (d : Dot) (j : TokenId) (x : Index) → WasIndexed F d (change.Mark j) x → (q : Dot) → map.get x.forest.links q ≡ links_in (map.get F) q
-lost_links F d j x w q =
-    let o : Loss F d (change.Mark j) x = loss F d (change.Mark j) x w in
-    o.indexed.tied.links q ∙ sym (links_still F o.before d o.body o.more (ap puts o.is) q)
+-- and after the loss of a revocation
+pub less_revocations : (F : FactSet) (d : Dot) (f : revoked.TokenRevoked) (x : Index) (s : BTreeSet Revocation) → WasIndexed F d (change.Revoke f) x
+    → ((e : Revocation) → contains revocation_cmp s e ≡ cond (eq_by_cmp revocation_cmp (revocation_key f.token f.digest f.client d) e) false (contains revocation_cmp x.revocations e)) → IsRevocations F s
+less_revocations F d f x s w r =
+    let o : Loss F d (change.Revoke f) x = loss F d (change.Revoke f) x w in
+    revocations_less F o.before d o.body f x.revocations s o.more o.is o.indexed.revocations_are r
+
+pub less_reuses : (F : FactSet) (d : Dot) (f : revoked.TokenRevoked) (x : Index) → WasIndexed F d (change.Revoke f) x → IsReuses F x.reuses
+less_reuses F d f x w =
+    let o : Loss F d (change.Revoke f) x = loss F d (change.Revoke f) x w in
+    reuses_kept F o.before d o.body x.reuses o.more (λ k. ap (reuses_of k) o.is) o.indexed.reuses_are
+
+-- and after the loss of either
+pub lost_outs : (F : FactSet) (d : Dot) (y : Change) (x : Index) → WasIndexed F d y x → signs y ≡ false → IsOuts F x.outs
+lost_outs F d y x w none =
+    let o : Loss F d y x = loss F d y x w in
+    outs_less F o.before d o.body x.outs o.more (ap signs o.is ∙ none) o.indexed.outs_are
+
+pub lost_links : (F : FactSet) (d : Dot) (y : Change) (x : Index) → WasIndexed F d y x → puts y ≡ None → (q : Dot) → map.get x.forest.links q ≡ links_in (map.get F) q
+lost_links F d y x w none q =
+    let o : Loss F d y x = loss F d y x w in
+    o.indexed.tied.links q ∙ sym (links_still F o.before d o.body o.more (ap puts o.is ∙ none) q)
 
 pub lost_reuse : (F : FactSet) (d : Dot) (j : TokenId) (x : Index) (s : BTreeSet ReuseKey) (z : ForestFacts) → WasIndexed F d (change.Mark j) x
     → ((k : ReuseKey) → contains reuse_cmp s k ≡ cond (eq_by_cmp reuse_cmp (reuse_key j d) k) false (contains reuse_cmp x.reuses k))
@@ -292,7 +364,24 @@ lost_reuse F d j x s z w r woke =
       withdrawn_are = withdrawals_less F o.before d o.body x.withdrawn o.more (λ q. ap (withdraws_of q) o.is) o.indexed.withdrawn_are;
       revocations_are = lost_revocations F d j x w;
       codes_are = codes_kept F o.before d o.body x.codes o.more (ap issuing o.is) o.indexed.codes_are;
-      outs_are = lost_outs F d j x w;
+      outs_are = lost_outs F d (change.Mark j) x w refl;
       reuses_are = lost_reuses F d j x s w r;
       tied = untied_reuse F o.before d o.body j x.forest z o.more o.is o.indexed.tied woke;
+    }
+
+pub lost_revocation : (F : FactSet) (d : Dot) (f : revoked.TokenRevoked) (x : Index) (s : BTreeSet Revocation) (z : ForestFacts) → WasIndexed F d (change.Revoke f) x
+    → ((e : Revocation) → contains revocation_cmp s e ≡ cond (eq_by_cmp revocation_cmp (revocation_key f.token f.digest f.client d) e) false (contains revocation_cmp x.revocations e))
+    → Wakes F x.forest (λ q. dot_eq q f.token.dot) z
+    → IsIndexed F (record { clients = x.clients; consents = x.consents; withdrawn = x.withdrawn; revocations = s; codes = x.codes; outs = x.outs; reuses = x.reuses; forest = z })
+lost_revocation F d f x s z w r woke =
+    let o : Loss F d (change.Revoke f) x = loss F d (change.Revoke f) x w in
+    record {
+      clients_are = clients_less F o.before d o.body x.clients o.more (ap adds o.is) (λ q. ap (retires_of q) o.is) o.indexed.clients_are;
+      consents_are = consents_less F o.before d o.body x.consents o.more (λ c g. ap (gives_to c g) o.is) (λ q. ap (withdraws_of q) o.is) o.indexed.consents_are;
+      withdrawn_are = withdrawals_less F o.before d o.body x.withdrawn o.more (λ q. ap (withdraws_of q) o.is) o.indexed.withdrawn_are;
+      revocations_are = less_revocations F d f x s w r;
+      codes_are = codes_kept F o.before d o.body x.codes o.more (ap issuing o.is) o.indexed.codes_are;
+      outs_are = lost_outs F d (change.Revoke f) x w refl;
+      reuses_are = less_reuses F d f x w;
+      tied = untied_revocation F o.before d o.body f x.forest z o.more o.is o.indexed.tied woke;
     }

@@ -1,7 +1,8 @@
 -- The forest after a sign-out: the codes that a sign-out held before had stopped stay as they are,
 -- and the marks at the others that it stops are written. Key result:
 --   tied_out   the forest after a sign-out
-use Rattle.std.proofs.Common.{◌≡◌, ◌≢◌, ◌⊎◌, inl, inr, ℕ, ◌≤◌, true, false, ◌&&◌, List, Option, Some, None, sym, ap, subst, ◌∙◌, arith}
+use Rattle.std.proofs.Common.{◌≡◌, ◌≢◌, ◌⊎◌, inl, inr, ℕ, ◌≤◌, true, false, ◌&&◌, List, Option}
+use Rattle.std.proofs.Common.{Some, None, sym, ap, subst, ◌∙◌, arith}
 use Rattle.std.proofs.lemmas.Bool.{true≢false, cases_Bool, ltb-true, ltb-false, le-leb, and_from}
 use Rattle.std.specs.BTreeSet.{BTreeSet, contains}
 use Rattle.std.specs.FinMap as map
@@ -18,7 +19,8 @@ use Rattle.tk_store.specs.FactSet.{FactSet}
 use Rattle.tk_store.proofs.PutLaws.{some_injective, none_is_not_some}
 use Rattle.tk_store.proofs.OneMoreLaws.{OneMore}
 use Rattle.tk_ledger.specs.Changes.{change_in, reuses_of}
-use Rattle.tk_ledger.specs.Index.{IsTied, IsCodes, code_cmp, code_key, codes_started, dots_of, Wakes}
+use Rattle.tk_ledger.specs.Index.{IsTied, IsCodes, code_cmp, code_key, codes_started, dots_of}
+use Rattle.tk_ledger.specs.Index.{Wakes}
 use Rattle.tk_ledger.specs.SignOuts.{IsSignedOut, IsFirstUnreached, sign_out_in, sign_out_at}
 use Rattle.tk_ledger.specs.Tokens.{issued_in, IsOut, is_marked}
 use Rattle.tk_ledger.specs.declared.change.Change.{Change}
@@ -36,12 +38,15 @@ signed (change.SignOut subject moment) = Some subject
 signed other = None
 
 -- the code that a sign-out stops is at another dot
-elsewhere : (F G : FactSet) (d : Dot) (b : Body) (k : TokenId) (r : SignsOut G b k) → OneMore F G d b → k.dot ≢ d
+elsewhere : (F G : FactSet) (d : Dot) (b : Body) (k : TokenId) (r : SignsOut G b k)
+    → OneMore F G d b → k.dot ≢ d
 elsewhere F G d b k r m same =
     none_is_not_some r.issued (sym (ap (option_and_then issued_in) (ap (map.get G) same ∙ m.here ∙ ap (λ (x : Body). Some x) r.body)) ∙ r.issues)
 
 -- the code starts before the first moment that is left: its subject was out before
-stopped_before : (F G : FactSet) (d : Dot) (b : Body) (k : TokenId) (r : SignsOut G b k) → OneMore F G d b → IsSignedOut (map.get F) r.issued.subject r.issued.start → is_marked F k ≡ true
+stopped_before : (F G : FactSet) (d : Dot) (b : Body) (k : TokenId) (r : SignsOut G b k)
+    → OneMore F G d b → IsSignedOut (map.get F) r.issued.subject r.issued.start
+    → is_marked F k ≡ true
 stopped_before F G d b k r m gone = is_marked-complete F k (inr (inr (r.kind_is, here)))
   where
     here : IsOut (map.get F) k.dot
@@ -53,7 +58,9 @@ stopped_before F G d b k r m gone = is_marked-complete F k (inr (inr (r.kind_is,
 
 -- the forest after a sign-out, and the marks at the codes of the subject that start from the first
 -- moment that no other sign-out of the subject reaches, to the moment of this one
-pub tied_out : (F G : FactSet) (d : Dot) (b : Body) (subject : List ℕ) (moment first : ℕ) (codes : BTreeSet CodeKey) (x z : ForestFacts) → OneMore F G d b → map.get G d ≡ Some b → change_in b ≡ change.SignOut subject moment → IsTied F x → IsCodes G codes
+pub tied_out : (F G : FactSet) (d : Dot) (b : Body) (subject : List ℕ) (moment first : ℕ) (codes : BTreeSet CodeKey) (x z : ForestFacts)
+    → OneMore F G d b → map.get G d ≡ Some b → change_in b ≡ change.SignOut subject moment
+    → IsTied F x → IsCodes G codes
     → ((f : out.SubjectOut) → sign_out_at (map.get G) d ≡ Some f → IsFirstUnreached (map.get F) f.subject first)
     → Wakes G x (λ q. nat_le first moment && has (dots_of (codes_started codes subject first moment)) q) z → IsTied G z
 tied_out F G d b subject moment first codes x z m held is t listed left woke =
@@ -62,7 +69,8 @@ tied_out F G d b subject moment first codes x z m held is t listed left woke =
     (λ k r. unrevoked b k (ap revoking is) r)
     (λ k r. by_start k r (cases_Bool (nat_lt r.issued.start first)))
   where
-    by_start : (k : TokenId) (r : SignsOut G b k) → (nat_lt r.issued.start first ≡ true) ⊎ (nat_lt r.issued.start first ≡ false)
+    by_start : (k : TokenId) (r : SignsOut G b k)
+        → (nat_lt r.issued.start first ≡ true) ⊎ (nat_lt r.issued.start first ≡ false)
         → ((nat_le first moment && has (dots_of (codes_started codes subject first moment)) k.dot) ≡ true) ⊎ (is_marked F k ≡ true)
     by_start k r (inl before) =
         let gone : IsFirstUnreached (map.get F) r.sign_out.subject first = left r.sign_out (ap (option_and_then sign_out_in) (held ∙ ap (λ (y : Body). Some y) r.body)) in

@@ -4,14 +4,15 @@
 --   has_reuse_is                the table has a reuse of exactly the tokens whose reuse was seen
 --   reuses_on, reuses_ranged    the table after any fact
 --   reuses_alike                a table with the same keys
-use Rattle.std.proofs.Common.{◌≡◌, inl, inr, Bool, true, false, ◌&&◌, ◌||◌, ◌==◌, not, List, [], ◌∷◌, Option, Some, None, refl, sym, ap, subst, ◌∙◌}
+use Rattle.std.proofs.Common.{◌≡◌, inl, inr, Bool, true, false, ◌&&◌, ◌||◌, ◌==◌, not, Option, Some}
+use Rattle.std.proofs.Common.{None, refl, sym, ap, subst, ◌∙◌}
 use Rattle.std.proofs.lemmas.Bool.{true≢false, or_cases, and_parts, and_from, eqb-true}
 use Rattle.std.proofs.lemmas.Cmp.{on_total, then_total, tied_itself}
 use Rattle.std.specs.BTreeMap.Range.{range_contains, IsLeBy}
 use Rattle.std.specs.BTreeSet.{BTreeSet, contains}
 use Rattle.std.specs.Cmp.{IsTotalOrder, nat_cmp_total}
 use Rattle.std.specs.FinMap as map
-use Rattle.std.specs.List.{list_any, find}
+use Rattle.std.specs.List.{find}
 use Rattle.std.specs.Ordering.{nat_cmp, eq_by_cmp, ordering_then, is_eq, is_lt, is_le, is_gt}
 use Rattle.std.specs.declared.ops.Bound.TheVariants.{Included}
 use Rattle.tk_handle.specs.declared.dot.Dot.{Dot}
@@ -26,12 +27,13 @@ use Rattle.tk_store.proofs.FactSetLaws.{tied}
 use Rattle.tk_store.proofs.OneMoreLaws.{OneMore}
 use Rattle.tk_ledger.specs.Bodies.{is_same_dot, is_same_token}
 use Rattle.tk_ledger.specs.Changes.{change_in, reuses_of}
-use Rattle.tk_ledger.specs.Index.{is_at, reuse_cmp, reuse_key, reuse_keys, has_reuse, is_reuse_of, is_listed_reuse, IsReuses}
+use Rattle.tk_ledger.specs.Index.{is_at, reuse_cmp, reuse_key, reuse_keys, has_reuse, is_reuse_of}
+use Rattle.tk_ledger.specs.Index.{is_listed_reuse, IsReuses}
 use Rattle.tk_ledger.specs.Tokens.{sees_reuse, is_reused}
 use Rattle.tk_ledger.specs.declared.reuses.ReuseKey.{ReuseKey}
 use Rattle.tk_ledger.proofs.ForestLaws.{reuse-change}
 use Rattle.tk_ledger.proofs.KeyLaws.{same_tests, at_is_same, both_tied, number_tied}
-use Rattle.tk_ledger.proofs.KeySearchLaws.{found_passes, none_passes}
+use Rattle.tk_ledger.proofs.KeySearchLaws.{every, some_key, any_key, found_passes, none_passes}
 use Rattle.tk_ledger.proofs.SameLaws.{same_dot-true}
 use Rattle.tk_ledger.proofs.TableLaws.{own_on}
 
@@ -40,7 +42,8 @@ use Rattle.tk_ledger.proofs.TableLaws.{own_on}
 reuses_total : IsTotalOrder reuse_cmp
 reuses_total = then_total (on_total (λ k. k.dot) dot_cmp_total) (then_total (on_total (λ k. k.kind) nat_cmp_total) (on_total (λ k. k.place) dot_cmp_total))
 
-key_tied : (a b : ReuseKey) → eq_by_cmp reuse_cmp a b ≡ (is_same_dot a.dot b.dot && ((a.kind == b.kind) && is_same_dot a.place b.place))
+key_tied : (a b : ReuseKey)
+    → eq_by_cmp reuse_cmp a b ≡ (is_same_dot a.dot b.dot && ((a.kind == b.kind) && is_same_dot a.place b.place))
 key_tied a b =
     both_tied (dot_cmp a.dot b.dot) _
     ∙ ap (λ x. is_eq (dot_cmp a.dot b.dot) && x) (both_tied (nat_cmp a.kind b.kind) (dot_cmp a.place b.place))
@@ -59,7 +62,8 @@ key_same a b h =
     key_by a b (same_dot-true a.dot b.dot p.0) (eqb-true a.kind b.kind q.0) (same_dot-true a.place b.place q.1)
 
 -- the keys of reuses tie exactly if token and dot are equal
-pub reuse_tied : (j k : TokenId) (d q : Dot) → eq_by_cmp reuse_cmp (reuse_key j d) (reuse_key k q) ≡ (is_same_token j k && is_same_dot d q)
+pub reuse_tied : (j k : TokenId) (d q : Dot)
+    → eq_by_cmp reuse_cmp (reuse_key j d) (reuse_key k q) ≡ (is_same_token j k && is_same_dot d q)
 reuse_tied j k d q = key_tied (reuse_key j d) (reuse_key k q) ∙ regroup (is_same_dot j.dot k.dot) (kind_number j.kind == kind_number k.kind) (is_same_dot d q)
   where
     regroup : (a b c : Bool) → (a && (b && c)) ≡ ((a && b) && c)
@@ -74,7 +78,8 @@ key_order k a b =
     ap (λ o. ordering_then o (ordering_then (nat_cmp (kind_number k.kind) (kind_number k.kind)) (dot_cmp a b))) (tied_itself dot_cmp_total k.dot)
     ∙ ap (λ o. ordering_then o (dot_cmp a b)) (tied_itself nat_cmp_total (kind_number k.kind))
 
-pub reuses_forward : (k : TokenId) (a b : ReuseKey) → a ≡ reuse_key k least_dot → b ≡ reuse_key k greatest_dot → IsLeBy reuse_cmp a b
+pub reuses_forward : (k : TokenId) (a b : ReuseKey) → a ≡ reuse_key k least_dot
+    → b ≡ reuse_key k greatest_dot → IsLeBy reuse_cmp a b
 reuses_forward k a b first last =
     ap (λ (x : ReuseKey). is_gt (reuse_cmp x b)) first
     ∙ ap (λ (x : ReuseKey). is_gt (reuse_cmp (reuse_key k least_dot) x)) last
@@ -101,22 +106,13 @@ of_token k e h =
 
 -- ---- the table has a reuse of exactly the tokens whose reuse was seen
 
-abbrev every : ReuseKey → Bool
-every e = true
-
-some_key : (es : List ReuseKey) → list_any every es ≡ true → (e : ReuseKey) × (find every es ≡ Some e)
-some_key [] h = absurd (true≢false (sym h))
-some_key (e ∷ es) h = (e, refl)
-
-any_key : (es : List ReuseKey) → ¬ (find every es ≡ None) → list_any every es ≡ true
-any_key [] h = absurd (h refl)
-any_key (e ∷ es) h = refl
-
-reuse_held : (F : FactSet) (k : TokenId) (d : Dot) (o : Option Body) → map.get F d ≡ o → is_reuse_of k o ≡ true → is_reused F k ≡ true
+reuse_held : (F : FactSet) (k : TokenId) (d : Dot) (o : Option Body) → map.get F d ≡ o
+    → is_reuse_of k o ≡ true → is_reused F k ≡ true
 reuse_held F k d None at h = absurd (true≢false (sym h))
 reuse_held F k d (Some b) at h = any_fact-of (sees_reuse k) F d b at h
 
-pub has_reuse_is : (F : FactSet) (t : BTreeSet ReuseKey) (k : TokenId) → IsReuses F t → has_reuse t k ≡ is_reused F k
+pub has_reuse_is : (F : FactSet) (t : BTreeSet ReuseKey) (k : TokenId) → IsReuses F t
+    → has_reuse t k ≡ is_reused F k
 has_reuse_is F t k i = same_tests (has_reuse t k) (is_reused F k)
     (λ h.
     let e : (e : ReuseKey) × (find every (reuse_keys t k) ≡ Some e) = some_key (reuse_keys t k) h in
@@ -134,7 +130,8 @@ has_reuse_is F t k i = same_tests (has_reuse t k) (is_reused F k)
 abbrev pub RangedReuses : BTreeSet ReuseKey → Type 0
 RangedReuses t = (k : TokenId) (d : Dot) → is_listed_reuse t k d ≡ true → IsDot d
 
-pub reused_on : (F G : FactSet) (d : Dot) (b : Body) (k : TokenId) (q : Dot) (x : Bool) → OneMore F G d b → x ≡ is_reuse_of k (map.get F q)
+pub reused_on : (F G : FactSet) (d : Dot) (b : Body) (k : TokenId) (q : Dot) (x : Bool)
+    → OneMore F G d b → x ≡ is_reuse_of k (map.get F q)
     → ((reuses_of k (change_in b) && is_at d q) || x) ≡ is_reuse_of k (map.get G q)
 reused_on F G d b k q x m i =
     own_on d q (reuses_of k (change_in b)) x (is_reuse_of k (map.get F q)) (is_reuse_of k (map.get G q))
@@ -143,7 +140,8 @@ reused_on F G d b k q x m i =
     (λ ne. ap (is_reuse_of k) (m.there q ne))
     i
 
-pub reuses_on : (F G : FactSet) (d : Dot) (b : Body) (t u : BTreeSet ReuseKey) → OneMore F G d b → IsReuses F t → RangedReuses u
+pub reuses_on : (F G : FactSet) (d : Dot) (b : Body) (t u : BTreeSet ReuseKey) → OneMore F G d b
+    → IsReuses F t → RangedReuses u
     → ((k : TokenId) (q : Dot) → is_listed_reuse u k q ≡ ((reuses_of k (change_in b) && is_at d q) || is_listed_reuse t k q))
     → IsReuses G u
 reuses_on F G d b t u m i ranged l = record {
@@ -152,7 +150,8 @@ reuses_on F G d b t u m i ranged l = record {
 }
 
 -- dots that are newly listed are in range if their dot is
-pub reuses_ranged : (t u : BTreeSet ReuseKey) (d : Dot) (n : TokenId → Bool) → IsDot d → RangedReuses t
+pub reuses_ranged : (t u : BTreeSet ReuseKey) (d : Dot) (n : TokenId → Bool) → IsDot d
+    → RangedReuses t
     → ((k : TokenId) (q : Dot) → is_listed_reuse u k q ≡ ((n k && is_same_dot d q) || is_listed_reuse t k q))
     → RangedReuses u
 reuses_ranged t u d n here before l k q h = elim (or_cases (n k && is_same_dot d q) (is_listed_reuse t k q) (sym (l k q) ∙ h)) [
@@ -160,7 +159,8 @@ reuses_ranged t u d n here before l k q h = elim (or_cases (n k && is_same_dot d
   | inr old ↦ before k q old
 ]
 
-pub reuses_alike : (F : FactSet) (t u : BTreeSet ReuseKey) → IsReuses F t → ((e : ReuseKey) → contains reuse_cmp u e ≡ contains reuse_cmp t e) → IsReuses F u
+pub reuses_alike : (F : FactSet) (t u : BTreeSet ReuseKey) → IsReuses F t
+    → ((e : ReuseKey) → contains reuse_cmp u e ≡ contains reuse_cmp t e) → IsReuses F u
 reuses_alike F t u i same = record {
   listed = λ k q. same (reuse_key k q) ∙ i.listed k q;
   ranged = λ k q h. i.ranged k q (sym (same (reuse_key k q)) ∙ h);

@@ -1,5 +1,6 @@
 -- Dots and tokens that are equal by their tests are equal.
-use Rattle.std.proofs.Common.{◌≡◌, ◌≢◌, ◌==◌, true, false, Option, Some, None, refl, sym, ap, ◌∙◌, arith}
+use Rattle.std.proofs.Common.{◌≡◌, ◌≢◌, ◌==◌, true, false, Option, Some, None, refl, sym, ap, ◌∙◌}
+use Rattle.std.proofs.Common.{arith}
 use Rattle.std.proofs.lemmas.Bool.{true≢false, and_parts, and_from, false_from_ne_true}
 use Rattle.std.proofs.lemmas.Bool.Decides.{nat_tests}
 use Rattle.tk_handle.specs.declared.dot.Dot.{Dot}
@@ -46,7 +47,8 @@ kind_itself Code = refl
 kind_itself Access = refl
 kind_itself Refresh = refl
 
-both : (d e : Dot) (k j : Kind) (a b : TokenId) → d ≡ e → k ≡ j → a ≡ record { dot = d; kind = k } → b ≡ record { dot = e; kind = j } → a ≡ b
+both : (d e : Dot) (k j : Kind) (a b : TokenId) → d ≡ e → k ≡ j → a ≡ record { dot = d; kind = k }
+    → b ≡ record { dot = e; kind = j } → a ≡ b
 both d e k j a b h i p q = cc
 
 pub same_token-true : (a b : TokenId) → is_same_token a b ≡ true → a ≡ b

@@ -4,8 +4,11 @@
 --   last_tells                           a subject signed out at a moment or later, by its last
 --   last_leaves                          the first moment that no sign-out reaches, by the last
 --   sign_out-gone, sign_out-kept         the sign-outs but for the one at a dot
-use Rattle.std.proofs.Common.{◌≡◌, ◌≢◌, ◌⊎◌, inl, inr, ℕ, ◌+◌, ◌<◌, ◌≤◌, true, false, List, Option, Some, None, refl, sym, ap, ◌∙◌, arith, eq-eqb}
-use Rattle.std.proofs.lemmas.Bool.{true≢false, false_from_ne_true, cases_Bool, eqb-true, ltb-true, ltb-false, leb-true, le-leb, and_parts, and_from, cond-true, cond-false}
+use Rattle.std.proofs.Common.{◌≡◌, ◌≢◌, ◌⊎◌, inl, inr, ℕ, ◌+◌, ◌<◌, ◌≤◌, true, false, List, Option}
+use Rattle.std.proofs.Common.{Some, None, refl, sym, ap, ◌∙◌, arith, eq-eqb}
+use Rattle.std.proofs.lemmas.Bool.{true≢false, false_from_ne_true, cases_Bool, eqb-true, ltb-true}
+use Rattle.std.proofs.lemmas.Bool.{ltb-false, leb-true, le-leb, and_parts, and_from, cond-true}
+use Rattle.std.proofs.lemmas.Bool.{cond-false}
 use Rattle.std.proofs.lemmas.Cmp.{ranked, by_ranked}
 use Rattle.std.proofs.lemmas.Slice.Eq.{bytes_eq-Decides}
 use Rattle.std.specs.BTreeMap.Range.{range_contains}
@@ -31,12 +34,14 @@ use Rattle.tk_store.proofs.PutLaws.{some_injective, none_is_not_some}
 use Rattle.tk_store.proofs.OneMoreLaws.{apart_at}
 use Rattle.tk_ledger.specs.Bodies.{is_same_dot}
 use Rattle.tk_ledger.specs.Index.{IsOuts, left_after, out_cmp, out_key, outs_of, tells_by, tells_of}
-use Rattle.tk_ledger.specs.SignOuts.{IsSignedOut, is_signed_out, reaches, IsLastSignOut, IsFirstUnreached, sign_out_in, sign_out_at}
+use Rattle.tk_ledger.specs.SignOuts.{IsSignedOut, is_signed_out, reaches, IsLastSignOut}
+use Rattle.tk_ledger.specs.SignOuts.{IsFirstUnreached, sign_out_in, sign_out_at}
 use Rattle.tk_ledger.specs.declared.subject_keys.OutKey.{OutKey}
 use Rattle.tk_ledger.proofs.KeyLaws.{same_tests, at_itself}
 use Rattle.tk_ledger.proofs.KeySearchLaws.{among, found_passes, none_passes, first_least}
 use Rattle.tk_ledger.proofs.SameLaws.{same_dot-true, same_dot-itself}
-use Rattle.tk_ledger.proofs.SubjectKeyLaws.{out_listed, outs_total, out_by, out_same, out_order, in_outs, of_subject}
+use Rattle.tk_ledger.proofs.SubjectKeyLaws.{out_listed, outs_total, out_by, out_same, out_order}
+use Rattle.tk_ledger.proofs.SubjectKeyLaws.{in_outs, of_subject}
 use Rattle.tk_ledger.proofs.TokenLaws.{from_some, is_signed_out-sound, is_signed_out-complete}
 
 sign_out_body : (b : Body) (f : out.SubjectOut) → sign_out_in b ≡ Some f → b ≡ SubjectOut f
@@ -54,7 +59,8 @@ record Listed (F : FactSet) (t : BTreeSet OutKey) (subject : List ℕ) (f : out.
   pub kept : range_contains out_cmp (Included (out_key (sha256 subject) 0 least_dot)) (Included (out_key (sha256 subject) greatest_moment greatest_dot)) (its_key subject f d) ≡ true
   pub passes : tells_of F subject (its_key subject f d) ≡ true
 
-listed : (F : FactSet) (t : BTreeSet OutKey) (subject : List ℕ) (moment : ℕ) → IsOuts F t → (s : IsSignedOut (map.get F) subject moment) → Listed F t subject s.sign_out s.place
+listed : (F : FactSet) (t : BTreeSet OutKey) (subject : List ℕ) (moment : ℕ) → IsOuts F t
+    → (s : IsSignedOut (map.get F) subject moment) → Listed F t subject s.sign_out s.place
 listed F t subject moment i s =
     let there : sign_out_at (map.get F) s.place ≡ Some s.sign_out = ap (option_and_then sign_out_in) s.held in
     let key = out_listed F t s.place s.sign_out i there in
@@ -66,7 +72,9 @@ listed F t subject moment i s =
     }
 
 -- if no key is found, the subject has no sign-out
-pub last_none : (F : FactSet) (t : BTreeSet OutKey) (subject : List ℕ) → IsOuts F t → find (tells_of F subject) (outs_of t (sha256 subject)) ≡ None → IsLastSignOut (map.get F) subject None
+pub last_none : (F : FactSet) (t : BTreeSet OutKey) (subject : List ℕ) → IsOuts F t
+    → find (tells_of F subject) (outs_of t (sha256 subject)) ≡ None
+    → IsLastSignOut (map.get F) subject None
 last_none F t subject i h = λ moment s.
     let l = listed F t subject moment i s in
     none_passes out_cmp outs_total out_same (tells_of F subject) _ t.keys h (its_key subject s.sign_out s.place) l.at l.kept l.passes
@@ -85,7 +93,10 @@ later_first : (m n : ℕ) → m < n → n ≤ greatest_moment → nat_cmp (left_
 later_first m n lt le = less_is (left_after n) (left_after m) (omega (arith, lt, le))
 
 -- the sign-out of the key that is found is the last
-pub last_some : (F : FactSet) (t : BTreeSet OutKey) (subject : List ℕ) (e : OutKey) (f : out.SubjectOut) → IsOuts F t → IsStrictlySortedBy out_cmp t.keys → find (tells_of F subject) (outs_of t (sha256 subject)) ≡ Some e → sign_out_at (map.get F) e.place ≡ Some f → IsLastSignOut (map.get F) subject (Some f.moment)
+pub last_some : (F : FactSet) (t : BTreeSet OutKey) (subject : List ℕ) (e : OutKey) (f : out.SubjectOut)
+    → IsOuts F t → IsStrictlySortedBy out_cmp t.keys
+    → find (tells_of F subject) (outs_of t (sha256 subject)) ≡ Some e
+    → sign_out_at (map.get F) e.place ≡ Some f → IsLastSignOut (map.get F) subject (Some f.moment)
 last_some F t subject e f i sorted h there =
     let found = found_passes out_cmp outs_total out_same (tells_of F subject) _ t.keys e h in
     let told = and_parts _ _ (sym (ap (tells_by subject e.left) there) ∙ found.0) in
@@ -103,7 +114,8 @@ last_some F t subject e f i sorted h there =
           (first_least out_cmp outs_total out_same (tells_of F subject) _ t.keys sorted e h (its_key subject s.sign_out s.place) l.at l.kept l.passes)),
     )
   where
-    no_later : (moment : ℕ) (s : IsSignedOut (map.get F) subject moment) → Listed F t subject s.sign_out s.place
+    no_later : (moment : ℕ) (s : IsSignedOut (map.get F) subject moment)
+        → Listed F t subject s.sign_out s.place
         → (nat_lt f.moment s.sign_out.moment ≡ true) ⊎ (nat_lt f.moment s.sign_out.moment ≡ false) → e ≡ its_key subject f e.place → out_cmp (its_key subject s.sign_out s.place) e ≢ Less → moment ≤ f.moment
     no_later moment s l (inl later) itself first = absurd (first (
         ap (out_cmp (its_key subject s.sign_out s.place)) itself
@@ -112,14 +124,18 @@ last_some F t subject e f i sorted h there =
     no_later moment s l (inr early) itself first = omega (arith, s.not_before, ltb-false f.moment s.sign_out.moment early)
 
 -- the dot of the key that is found has a sign-out
-pub last_missing : (F : FactSet) (t : BTreeSet OutKey) (subject : List ℕ) (e : OutKey) → find (tells_of F subject) (outs_of t (sha256 subject)) ≡ Some e → sign_out_at (map.get F) e.place ≡ None → ⊥
+pub last_missing : (F : FactSet) (t : BTreeSet OutKey) (subject : List ℕ) (e : OutKey)
+    → find (tells_of F subject) (outs_of t (sha256 subject)) ≡ Some e
+    → sign_out_at (map.get F) e.place ≡ None → ⊥
 last_missing F t subject e h none =
     let found = found_passes out_cmp outs_total out_same (tells_of F subject) _ t.keys e h in
     true≢false (sym found.0 ∙ ap (tells_by subject e.left) none)
 
 -- ---- by the last
 
-pub last_tells : (F : FactSet) (subject : List ℕ) (last : Option ℕ) → IsLastSignOut (map.get F) subject last → (moment : ℕ) → is_signed_out F subject moment ≡ reaches last moment
+pub last_tells : (F : FactSet) (subject : List ℕ) (last : Option ℕ)
+    → IsLastSignOut (map.get F) subject last → (moment : ℕ)
+    → is_signed_out F subject moment ≡ reaches last moment
 last_tells F subject None none moment = false_from_ne_true (is_signed_out F subject moment) (λ h. none moment (is_signed_out-sound F subject moment h))
 last_tells F subject (Some m) last moment = same_tests (is_signed_out F subject moment) (nat_le moment m)
     (λ h. le-leb moment m (last.1 moment (is_signed_out-sound F subject moment h)))
@@ -136,7 +152,8 @@ abbrev pub after : Option ℕ → ℕ
 after None = 0
 after (Some m) = m + 1
 
-pub last_leaves : (F : FactSet) (subject : List ℕ) (last : Option ℕ) → IsLastSignOut (map.get F) subject last → IsFirstUnreached (map.get F) subject (after last)
+pub last_leaves : (F : FactSet) (subject : List ℕ) (last : Option ℕ)
+    → IsLastSignOut (map.get F) subject last → IsFirstUnreached (map.get F) subject (after last)
 last_leaves F subject None none = record { unreached = none 0; reached = λ moment lt. absurd (below_none moment lt) }
   where
     below_none : (n : ℕ) → ¬ (n < 0)
@@ -157,8 +174,10 @@ last_leaves F subject (Some m) last = record {
 
 -- ---- the sign-outs but for the one at a dot
 
-pub sign_out-gone : (F : FactSet) (d q : Dot) → is_same_dot d q ≡ true → sign_out_at (map.get (map.remove F d)) q ≡ None
+pub sign_out-gone : (F : FactSet) (d q : Dot) → is_same_dot d q ≡ true
+    → sign_out_at (map.get (map.remove F d)) q ≡ None
 sign_out-gone F d q same = ap (option_and_then sign_out_in) (map.get-remove dot_cmp_total F d q ∙ cond-true _ _ _ (ap (λ (p : Dot). dot_eq p d) (sym (same_dot-true d q same)) ∙ at_itself d))
 
-pub sign_out-kept : (F : FactSet) (d q : Dot) → is_same_dot d q ≡ false → sign_out_at (map.get (map.remove F d)) q ≡ sign_out_at (map.get F) q
+pub sign_out-kept : (F : FactSet) (d q : Dot) → is_same_dot d q ≡ false
+    → sign_out_at (map.get (map.remove F d)) q ≡ sign_out_at (map.get F) q
 sign_out-kept F d q apart = ap (option_and_then sign_out_in) (map.get-remove dot_cmp_total F d q ∙ cond-false _ _ _ (apart_at q d (λ same. true≢false (sym (same_dot-itself d) ∙ ap (is_same_dot d) (sym same) ∙ apart))))

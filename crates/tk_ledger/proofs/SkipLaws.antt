@@ -5,7 +5,9 @@
 --                                a loop that skips the dots of a list
 --   may_still, never_refused     a dot that may go is never refused
 --   all_may_go                   what may be skipped may go
-use Rattle.std.proofs.Common.{◌≡◌, ◌⊎◌, inl, inr, ℕ, ◌+◌, ◌-◌, ◌<◌, ◌≤◌, Bool, true, false, ◌||◌, cond, List, get_or, take, length, Option, Some, None, is_some, option_map, Result, Ok, Err, refl, sym, ap, subst, ◌∙◌, arith}
+use Rattle.std.proofs.Common.{◌≡◌, ◌⊎◌, inl, inr, ℕ, ◌+◌, ◌-◌, ◌<◌, ◌≤◌, Bool, true, false, ◌||◌}
+use Rattle.std.proofs.Common.{cond, List, get_or, take, length, Option, Some, None, is_some}
+use Rattle.std.proofs.Common.{option_map, Result, Ok, Err, refl, sym, ap, subst, ◌∙◌, arith}
 use Rattle.std.proofs.lemmas.Bool.{true≢false, cases_Bool}
 use Rattle.std.proofs.lemmas.List.{take_all}
 use Rattle.std.proofs.lemmas.List.Folds.{list_any_more}
@@ -16,7 +18,10 @@ use Rattle.tk_family.specs.Dots.{dot_eq, has}
 use Rattle.tk_family.proofs.DotLaws.{dot_eq-true, dot_eq-same}
 use Rattle.tk_fact.specs.Keeping.{kept_for, is_passing}
 use Rattle.tk_fact.specs.declared.body.Body.{Body}
-use Rattle.tk_fact.specs.declared.body.Body.TheVariants.{ClientAdded, ClientRetired, ConsentGiven, ConsentWithdrawn, CodeIssued, CodeRedeemed, RefreshRotated, TokenRevoked, ReuseSeen, SubjectOut}
+use Rattle.tk_fact.specs.declared.body.Body.TheVariants.{ClientAdded, ClientRetired, ConsentGiven}
+use Rattle.tk_fact.specs.declared.body.Body.TheVariants.{ConsentWithdrawn, CodeIssued, CodeRedeemed}
+use Rattle.tk_fact.specs.declared.body.Body.TheVariants.{RefreshRotated, TokenRevoked, ReuseSeen}
+use Rattle.tk_fact.specs.declared.body.Body.TheVariants.{SubjectOut}
 use Rattle.tk_handle.specs.declared.token_id.TokenId.{TokenId}
 use Rattle.tk_store.specs.Skipping.{Skips, MayGo, Lasts}
 use Rattle.tk_store.specs.Slots.{Slot, Held, Skipped, held_slot}
@@ -36,23 +41,25 @@ use Rattle.tk_ledger.specs.declared.index.Index.{Index}
 
 -- ---- one dot
 
-passing_change : (b : Body) → passes (change_in b) ≡ is_passing b
-passing_change (ClientAdded f) = refl
-passing_change (ClientRetired f) = refl
-passing_change (ConsentGiven f) = refl
-passing_change (ConsentWithdrawn f) = refl
-passing_change (CodeIssued f) = refl
-passing_change (CodeRedeemed f) = refl
-passing_change (RefreshRotated f) = refl
-passing_change (TokenRevoked f) = refl
-passing_change (ReuseSeen f) = refl
-passing_change (SubjectOut f) = refl
+-- the change of a fact that may go is one that the tables can lose
+passing_change : (b : Body) → is_passing b ≡ true → passes (change_in b) ≡ true
+passing_change (ClientAdded f) h = h
+passing_change (ClientRetired f) h = h
+passing_change (ConsentGiven f) h = h
+passing_change (ConsentWithdrawn f) h = h
+passing_change (CodeIssued f) h = refl
+passing_change (CodeRedeemed f) h = refl
+passing_change (RefreshRotated f) h = refl
+passing_change (TokenRevoked f) h = refl
+passing_change (ReuseSeen f) h = refl
+passing_change (SubjectOut f) h = h
 
 skipped_is : (P Q : StoreFields) (d : Dot) (a : Added) → Skips P d (Ok a) Q → Q ≡ with_skipped P d
 skipped_is P Q d added.New s = s.1
 skipped_is P Q d added.Held s = s.1
 
-pub skipped_held : (P Q : StoreFields) (d : Dot) (a : Added) → Skips P d (Ok a) Q → held_facts Q ≡ map.remove (held_facts P) d
+pub skipped_held : (P Q : StoreFields) (d : Dot) (a : Added) → Skips P d (Ok a) Q
+    → held_facts Q ≡ map.remove (held_facts P) d
 skipped_held P Q d a s = ap held_facts (skipped_is P Q d a s) ∙ held_skip P.slots d
 
 may_pass : (o : Option Slot) (b : Body) → MayGo o → held_slot o ≡ Some b → is_passing b ≡ true
@@ -60,11 +67,14 @@ may_pass None b may h = absurd may
 may_pass (Some (Held c)) b may h = sym (ap is_passing (some_injective c b h)) ∙ may
 may_pass (Some Skipped) b may h = absurd (none_is_not_some b h)
 
-pub skipped_passes : (P Q : StoreFields) (d : Dot) (a : Added) (b : Body) (y : Change) → Skips P d (Ok a) Q → map.get (held_facts P) d ≡ Some b → y ≡ change_in b → passes y ≡ true
+pub skipped_passes : (P Q : StoreFields) (d : Dot) (a : Added) (b : Body) (y : Change)
+    → Skips P d (Ok a) Q → map.get (held_facts P) d ≡ Some b → y ≡ change_in b → passes y ≡ true
 skipped_passes P Q d added.New b y s at is = absurd (none_is_not_some b (sym (ap held_slot s.0) ∙ sym (get_held P.slots d) ∙ at))
-skipped_passes P Q d added.Held b y s at is = ap passes is ∙ passing_change b ∙ may_pass (map.get P.slots d) b s.0 (sym (get_held P.slots d) ∙ at)
+skipped_passes P Q d added.Held b y s at is = ap passes is ∙ passing_change b (may_pass (map.get P.slots d) b s.0 (sym (get_held P.slots d) ∙ at))
 
-pub was_indexed : (P Q : StoreFields) (d : Dot) (a : Added) (b : Body) (y : Change) (x : Index) → Skips P d (Ok a) Q → map.get (held_facts P) d ≡ Some b → y ≡ change_in b → IsIndexed (held_facts P) x → WasIndexed (held_facts Q) d y x
+pub was_indexed : (P Q : StoreFields) (d : Dot) (a : Added) (b : Body) (y : Change) (x : Index)
+    → Skips P d (Ok a) Q → map.get (held_facts P) d ≡ Some b → y ≡ change_in b
+    → IsIndexed (held_facts P) x → WasIndexed (held_facts Q) d y x
 was_indexed P Q d a b y x s at is indexed = record {
   before = held_facts P;
   makes = ap (option_map change_in) at ∙ ap (λ (z : Change). Some z) (sym is);
@@ -76,13 +86,15 @@ pub skips_unchanged : (P Q : StoreFields) (d : Dot) (e : AddError) → Skips P d
 skips_unchanged P Q d Conflict s = s.1
 skips_unchanged P Q d Memory s = s.1
 
-pub free_skipped : (P Q : StoreFields) (d : Dot) (r : Result Added AddError) → map.get (held_facts P) d ≡ None → Skips P d r Q → held_facts Q ≡ held_facts P
+pub free_skipped : (P Q : StoreFields) (d : Dot) (r : Result Added AddError)
+    → map.get (held_facts P) d ≡ None → Skips P d r Q → held_facts Q ≡ held_facts P
 free_skipped P Q d (Ok a) free s = skipped_held P Q d a s ∙ remove_free (held_facts P) d free
 free_skipped P Q d (Err e) free s = ap held_facts (skips_unchanged P Q d e s)
 
 -- ---- the dots of a list
 
-remove_most : {X : Type 0} (F : map.FinMap dot_cmp X) (d : Dot) → map.len (map.remove F d) ≤ map.len F
+remove_most : {X : Type 0} (F : map.FinMap dot_cmp X) (d : Dot)
+    → map.len (map.remove F d) ≤ map.len F
 remove_most F d =
     let less = map.len-remove dot_cmp_total F d in
     elim (is_some (map.get F d)) as (λ t. map.len (map.remove F d) ≡ cond t (map.len F - 1) (map.len F) → map.len (map.remove F d) ≤ map.len F) [
@@ -90,7 +102,8 @@ remove_most F d =
       | false ↦ λ is. omega (arith, is)
     ] less
 
-one_skipped : (P Q : StoreFields) (d : Dot) (a : Added) → Skips P d (Ok a) Q → SkipsAll P (λ q. dot_eq q d) Q
+one_skipped : (P Q : StoreFields) (d : Dot) (a : Added) → Skips P d (Ok a) Q
+    → SkipsAll P (λ q. dot_eq q d) Q
 one_skipped P Q d a s = record {
   here = λ q same. ap (λ (R : StoreFields). map.get R.slots q) (skipped_is P Q d a s) ∙ ap (map.get (map.insert P.slots d Skipped)) (dot_eq-true q d same) ∙ get_here P.slots d Skipped;
   there = λ q apart. ap (λ (R : StoreFields). map.get R.slots q) (skipped_is P Q d a s)
@@ -108,7 +121,8 @@ either true b h = inl refl
 either false b h = inr h
 
 -- some dots were skipped, and then others
-skips_then : (P Q R : StoreFields) (f g : Dot → Bool) → SkipsAll P f Q → SkipsAll Q g R → SkipsAll P (λ q. f q || g q) R
+skips_then : (P Q R : StoreFields) (f g : Dot → Bool) → SkipsAll P f Q → SkipsAll Q g R
+    → SkipsAll P (λ q. f q || g q) R
 skips_then P Q R f g one two = record {
   here = λ q at. by_test q at (cases_Bool (g q));
   there = λ q apart. (let both = neither (f q) (g q) apart in two.there q both.1 ∙ one.there q both.0);
@@ -116,29 +130,35 @@ skips_then P Q R f g one two = record {
   fewer = (let x = one.fewer in let y = two.fewer in omega (arith, x, y));
 }
   where
-    by_test : (q : Dot) → (f q || g q) ≡ true → (g q ≡ true) ⊎ (g q ≡ false) → map.get R.slots q ≡ Some Skipped
+    by_test : (q : Dot) → (f q || g q) ≡ true → (g q ≡ true) ⊎ (g q ≡ false)
+        → map.get R.slots q ≡ Some Skipped
     by_test q at (inl now) = two.here q now
     by_test q at (inr apart) = two.there q apart ∙ one.here q (elim (either (f q) (g q) at) [ inl is ↦ is | inr is ↦ absurd (true≢false (sym is ∙ apart)) ])
 
-skips_as : (P Q : StoreFields) (f g : Dot → Bool) → ((q : Dot) → g q ≡ f q) → SkipsAll P f Q → SkipsAll P g Q
+skips_as : (P Q : StoreFields) (f g : Dot → Bool) → ((q : Dot) → g q ≡ f q) → SkipsAll P f Q
+    → SkipsAll P g Q
 skips_as P Q f g same s = record { here = λ q at. s.here q (sym (same q) ∙ at); there = λ q apart. s.there q (sym (same q) ∙ apart); horizon = s.horizon; fewer = s.fewer }
 
 pub skips_none : (P : StoreFields) → SkipsAll P (λ _. false) P
 skips_none P = record { here = λ q at. absurd (true≢false (sym at)); there = λ q _. refl; horizon = refl; fewer = omega arith }
 
 -- one more dot of a list was skipped
-pub skips_more : (P Q R : StoreFields) (ds : List Dot) (i : ℕ) (e d : Dot) (a : Added) → i < length ds → d ≡ get_or ds i e → SkipsAll P (has (take i ds)) Q → Skips Q d (Ok a) R → SkipsAll P (has (take (i + 1) ds)) R
+pub skips_more : (P Q R : StoreFields) (ds : List Dot) (i : ℕ) (e d : Dot) (a : Added)
+    → i < length ds → d ≡ get_or ds i e → SkipsAll P (has (take i ds)) Q → Skips Q d (Ok a) R
+    → SkipsAll P (has (take (i + 1) ds)) R
 skips_more P Q R ds i e d a lt is done s =
     skips_as P R (λ q. has (take i ds) q || dot_eq q d) (has (take (i + 1) ds))
     (λ q. list_any_more (dot_eq q) ds i e lt ∙ ap (λ (p : Dot). has (take i ds) q || dot_eq q p) (sym is))
     (skips_then P Q R (has (take i ds)) (λ q. dot_eq q d) done (one_skipped Q R d a s))
 
 -- all dots of a list were skipped
-pub skips_whole : (P Q : StoreFields) (ds : List Dot) (i : ℕ) → length ds ≤ i → SkipsAll P (has (take i ds)) Q → SkipsAll P (has ds) Q
+pub skips_whole : (P Q : StoreFields) (ds : List Dot) (i : ℕ) → length ds ≤ i
+    → SkipsAll P (has (take i ds)) Q → SkipsAll P (has ds) Q
 skips_whole P Q ds i end s = subst (λ (xs : List Dot). SkipsAll P (has xs) Q) (take_all i ds end) s
 
 -- a dot that may go may still go when others were skipped
-pub may_still : (P Q : StoreFields) (f : Dot → Bool) (d : Dot) → SkipsAll P f Q → MayGo (map.get P.slots d) → MayGo (map.get Q.slots d)
+pub may_still : (P Q : StoreFields) (f : Dot → Bool) (d : Dot) → SkipsAll P f Q
+    → MayGo (map.get P.slots d) → MayGo (map.get Q.slots d)
 may_still P Q f d s may = elim (cases_Bool (f d)) [
   | inl gone ↦ subst MayGo (sym (s.here d gone)) tt
   | inr kept ↦ subst MayGo (sym (s.there d kept)) may
@@ -150,7 +170,8 @@ refused (Some (Held b)) may lasts = true≢false (sym may ∙ lasts)
 refused (Some Skipped) may lasts = lasts
 
 -- a dot that may go is not refused
-pub never_refused : (P Q : StoreFields) (d : Dot) (e : AddError) → MayGo (map.get P.slots d) → Skips P d (Err e) Q → ⊥
+pub never_refused : (P Q : StoreFields) (d : Dot) (e : AddError) → MayGo (map.get P.slots d)
+    → Skips P d (Err e) Q → ⊥
 never_refused P Q d Conflict may s = refused (map.get P.slots d) may s.0
 never_refused P Q d Memory may s = subst MayGo s.0 may
 
@@ -164,7 +185,7 @@ passing_kept d (ConsentWithdrawn f) k h = absurd (none_is_not_some k h)
 passing_kept d (CodeIssued f) k h = refl
 passing_kept d (CodeRedeemed f) k h = refl
 passing_kept d (RefreshRotated f) k h = refl
-passing_kept d (TokenRevoked f) k h = absurd (none_is_not_some k h)
+passing_kept d (TokenRevoked f) k h = refl
 passing_kept d (ReuseSeen f) k h = refl
 passing_kept d (SubjectOut f) k h = absurd (none_is_not_some k h)
 
@@ -174,7 +195,8 @@ may_go (Some (Held c)) b h passing = ap is_passing (some_injective c b h) ∙ pa
 may_go (Some Skipped) b h passing = tt
 
 -- what may be skipped may go
-pub all_may_go : (P : StoreFields) (horizon : ℕ) (at : Dot → Bool) → ((d : Dot) → at d ≡ true → MaySkip (map.get (held_facts P)) horizon d) → AllMayGo P at
+pub all_may_go : (P : StoreFields) (horizon : ℕ) (at : Dot → Bool)
+    → ((d : Dot) → at d ≡ true → MaySkip (map.get (held_facts P)) horizon d) → AllMayGo P at
 all_may_go P horizon at over d h =
     let s = over d h in
     may_go (map.get P.slots d) s.fact (sym (get_held P.slots d) ∙ s.here) (passing_kept d s.fact s.token s.kept)

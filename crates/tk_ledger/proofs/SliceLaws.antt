@@ -5,7 +5,10 @@
 --   first_looked, more_looked      the facts of a slice are looked at, one after the other
 --   end_looked, all_looked         what a slice has done at its end
 --   pass_ends                      a pass by which no fact goes leaves none that may go
-use Rattle.std.proofs.Common.{map as map_list, ◌≡◌, ◌≢◌, ◌⊎◌, inl, inr, ℕ, zero, suc, ◌<◌, ◌≤◌, ◌+◌, ◌-◌, max, Bool, true, false, not, cond, T, List, [], ◌∷◌, ◌++◌, length, length-append, filter, slice_get, Option, Some, None, refl, sym, ap, subst, ◌∙◌, arith}
+use Rattle.std.proofs.Common.{map as map_list, ◌≡◌, ◌≢◌, ◌⊎◌, inl, inr, ℕ, zero, suc, ◌<◌, ◌≤◌, ◌+◌}
+use Rattle.std.proofs.Common.{◌-◌, max, Bool, true, false, not, cond, T, List, [], ◌∷◌, ◌++◌}
+use Rattle.std.proofs.Common.{length, length-append, filter, slice_get, Option, Some, None, refl}
+use Rattle.std.proofs.Common.{sym, ap, subst, ◌∙◌, arith}
 use Rattle.std.proofs.lemmas.Bool.{true≢false, cases_Bool, and_cases, and_parts}
 use Rattle.std.proofs.lemmas.Bool.Decides.{nat_tests}
 use Rattle.std.proofs.lemmas.Cmp.{tied_itself}
@@ -18,7 +21,8 @@ use Rattle.tk_handle.specs.Dot.{dot_cmp, dot_cmp_total, dot_cmp-IsAntisymmetric}
 use Rattle.tk_family.proofs.DotLaws.{cases_dots}
 use Rattle.tk_fact.specs.Keeping.{is_passing, names_of}
 use Rattle.tk_fact.specs.declared.body.Body.{Body}
-use Rattle.tk_fact.specs.declared.body.Body.TheVariants.{CodeRedeemed, RefreshRotated, ReuseSeen}
+use Rattle.tk_fact.specs.declared.body.Body.TheVariants.{CodeRedeemed, RefreshRotated, TokenRevoked}
+use Rattle.tk_fact.specs.declared.body.Body.TheVariants.{ReuseSeen}
 use Rattle.tk_store.specs.FactSet.{FactSet, Facts}
 use Rattle.tk_store.specs.Skipping.{MayGo}
 use Rattle.tk_store.specs.Slots.{Skipped, held_slot}
@@ -29,7 +33,8 @@ use Rattle.tk_store.proofs.PutLaws.{by_dot, get_here, none_is_not_some, some_inj
 use Rattle.tk_store.proofs.SlotLaws.{get_held}
 use Rattle.tk_store.proofs.WalkLaws.{goes_on, at_end}
 use Rattle.tk_ledger.specs.Retention.{may_skip}
-use Rattle.tk_ledger.specs.Slices.{Goes, is_any_skipped, SkipsIf, Steps, Went, Stays, is_past, is_between, next_cursor, LooksOver, Turn, IsIdle, PassEnds}
+use Rattle.tk_ledger.specs.Slices.{Goes, is_any_skipped, SkipsIf, Steps, Went, Stays, is_past}
+use Rattle.tk_ledger.specs.Slices.{is_between, next_cursor, LooksOver, Turn, IsIdle, PassEnds}
 use Rattle.tk_ledger.proofs.RetentionLaws.{may_skip-sound, may_skip-complete}
 use Rattle.tk_ledger.proofs.SkipLaws.{passing_kept, may_go}
 use Rattle.tk_ledger.specs.declared.slices.Slice.{Slice}
@@ -329,6 +334,7 @@ absent_stays P d none (inr names) = none_is_not_some names.fact (sym none ∙ na
 names_passing : (b : Body) (q : Dot) → names_of b ≡ Some q → is_passing b ≡ true
 names_passing (CodeRedeemed f) q h = refl
 names_passing (RefreshRotated f) q h = refl
+names_passing (TokenRevoked f) q h = refl
 names_passing (ReuseSeen f) q h = refl
 names_passing b q h = absurd (none_is_not_some q h)
 

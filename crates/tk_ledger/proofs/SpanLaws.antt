@@ -3,7 +3,8 @@
 --   span_forward            the span runs forward
 --   in_span                 each consent of the subject to the client has its key in the span
 --   first_found, first_is   the first listed consent that covers the scope is the lowest live one
-use Rattle.std.proofs.Common.{◌≡◌, ℕ, Bool, true, ◌&&◌, not, List, Option, Some, None, refl, sym, ap, ◌∙◌}
+use Rattle.std.proofs.Common.{◌≡◌, ℕ, Bool, true, ◌&&◌, not, List, Option, Some, None, refl, sym}
+use Rattle.std.proofs.Common.{ap, ◌∙◌}
 use Rattle.std.proofs.lemmas.Bool.{true≢false, and_parts, and_from}
 use Rattle.std.proofs.lemmas.Cmp.{on_total, then_total, tied_itself, nat_list_cmp_total}
 use Rattle.std.proofs.lemmas.Slice.Eq.{bytes_eq-Decides}
@@ -15,7 +16,8 @@ use Rattle.std.specs.FinMap as map
 use Rattle.std.specs.List.{find}
 use Rattle.std.specs.List.Sorted.{IsStrictlySortedBy}
 use Rattle.std.specs.Option.{option_and_then, option_map}
-use Rattle.std.specs.Ordering.{nat_cmp, eq_by_cmp, ordering_then, ordering_reverse, is_eq, is_lt, is_le, is_gt}
+use Rattle.std.specs.Ordering.{nat_cmp, eq_by_cmp, ordering_then, ordering_reverse, is_eq, is_lt}
+use Rattle.std.specs.Ordering.{is_le, is_gt}
 use Rattle.std.specs.Str.{bytes_eq}
 use Rattle.std.specs.declared.cmp.Ordering.{Ordering}
 use Rattle.std.specs.declared.cmp.Ordering.TheVariants.{Less, Equal, Greater}
@@ -28,7 +30,8 @@ use Rattle.tk_fact.specs.declared.body.Body.{Body}
 use Rattle.tk_store.specs.FactSet.{FactSet}
 use Rattle.tk_store.proofs.FactSetLaws.{tied}
 use Rattle.tk_ledger.specs.Bodies.{is_same_dot}
-use Rattle.tk_ledger.specs.Clients.{given_in, consent_at, is_withdrawn, grants, covers, consent_for, IsConsentFor, IsLeastConsent}
+use Rattle.tk_ledger.specs.Clients.{given_in, consent_at, is_withdrawn, grants, covers, consent_for}
+use Rattle.tk_ledger.specs.Clients.{IsConsentFor, IsLeastConsent}
 use Rattle.tk_ledger.specs.Index.{consent_cmp, consent_key, is_from, is_listed, IsConsents, span_of}
 use Rattle.tk_ledger.specs.declared.consent_keys.ConsentKey.{ConsentKey}
 use Rattle.tk_ledger.proofs.ClientLaws.{not_withdrawn}
@@ -42,7 +45,8 @@ use Rattle.tk_ledger.proofs.SameLaws.{same_dot-true, same_dot-itself}
 consents_total : IsTotalOrder consent_cmp
 consents_total = then_total (on_total (λ k. k.client) dot_cmp_total) (then_total (on_total (λ k. k.subject) nat_list_cmp_total) (on_total (λ k. k.consent) dot_cmp_total))
 
-key_by : (a b : ConsentKey) → a.client ≡ b.client → a.subject ≡ b.subject → a.consent ≡ b.consent → a ≡ b
+key_by : (a b : ConsentKey) → a.client ≡ b.client → a.subject ≡ b.subject → a.consent ≡ b.consent
+    → a ≡ b
 key_by a b h i j = λ x. record { client = h x; subject = i x; consent = j x }
 
 -- keys that tie are equal
@@ -53,45 +57,59 @@ key_same a b h =
     key_by a b (same_dot-true a.client b.client p.0) ((bytes_eq-Decides a.subject b.subject).0 q.0) (same_dot-true a.consent b.consent q.1)
 
 -- the keys of one subject and one client are in the order of their dots
-key_order : (client : Dot) (subject : List ℕ) (a b : Dot) → consent_cmp (consent_key client subject a) (consent_key client subject b) ≡ dot_cmp a b
+key_order : (client : Dot) (subject : List ℕ) (a b : Dot)
+    → consent_cmp (consent_key client subject a) (consent_key client subject b) ≡ dot_cmp a b
 key_order client subject a b =
     ap (λ o. ordering_then o (ordering_then (slice_cmp nat_cmp subject subject) (dot_cmp a b))) (tied_itself dot_cmp_total client)
     ∙ ap (λ o. ordering_then o (dot_cmp a b)) (tied_itself nat_list_cmp_total subject)
 
 -- the first key of the span is below the last
-pub span_forward : (client : Dot) (subject : List ℕ) (a b : ConsentKey) → a ≡ consent_key client subject least_dot → b ≡ consent_key client subject greatest_dot → IsLeBy consent_cmp a b
+pub span_forward : (client : Dot) (subject : List ℕ) (a b : ConsentKey)
+    → a ≡ consent_key client subject least_dot → b ≡ consent_key client subject greatest_dot
+    → IsLeBy consent_cmp a b
 span_forward client subject a b first last =
     ap (λ (x : ConsentKey). is_gt (consent_cmp x b)) first
     ∙ ap (λ (x : ConsentKey). is_gt (consent_cmp (consent_key client subject least_dot) x)) last
     ∙ ap is_gt (key_order client subject least_dot greatest_dot)
 
 -- each dot in range has its key in the span
-in_span : (client : Dot) (subject : List ℕ) (q : Dot) → IsDot q → range_contains consent_cmp (Included (consent_key client subject least_dot)) (Included (consent_key client subject greatest_dot)) (consent_key client subject q) ≡ true
+in_span : (client : Dot) (subject : List ℕ) (q : Dot) → IsDot q
+    → range_contains consent_cmp (Included (consent_key client subject least_dot)) (Included (consent_key client subject greatest_dot)) (consent_key client subject q) ≡ true
 in_span client subject q h = and_from _ _
     (ap is_le (key_order client subject least_dot q) ∙ from_first q h)
     (ap (λ o. not (is_lt o)) (key_order client subject greatest_dot q ∙ dot_cmp_total.antisymm greatest_dot q) ∙ not_past (dot_cmp q greatest_dot) (to_last q h))
 
 -- ---- one consent
 
-live_sound : (F : FactSet) (client : Dot) (subject scope : List ℕ) (d : Dot) → (covers F client subject scope d && not (is_withdrawn F d)) ≡ true → IsConsentFor (map.get F) client subject scope d
+live_sound : (F : FactSet) (client : Dot) (subject scope : List ℕ) (d : Dot)
+    → (covers F client subject scope d && not (is_withdrawn F d)) ≡ true
+    → IsConsentFor (map.get F) client subject scope d
 live_sound F client subject scope d h = by_body (map.get F d) refl h
   where
-    by_body : (o : Option Body) → map.get F d ≡ o → (grants client subject scope (option_and_then given_in o) && not (is_withdrawn F d)) ≡ true → IsConsentFor (map.get F) client subject scope d
+    by_body : (o : Option Body) → map.get F d ≡ o
+        → (grants client subject scope (option_and_then given_in o) && not (is_withdrawn F d)) ≡ true
+        → IsConsentFor (map.get F) client subject scope d
     by_body None at h = absurd (true≢false (sym h))
     by_body (Some b) at h = consents_sound F client subject scope d b at h
 
 -- a listed consent is live
-covers_sound : (F : FactSet) (t : BTreeSet ConsentKey) (client : Dot) (subject scope : List ℕ) (e : ConsentKey) → IsConsents F t → among consent_cmp e t.keys ≡ true → covers F client subject scope e.consent ≡ true → IsConsentFor (map.get F) client subject scope e.consent
+covers_sound : (F : FactSet) (t : BTreeSet ConsentKey) (client : Dot) (subject scope : List ℕ) (e : ConsentKey)
+    → IsConsents F t → among consent_cmp e t.keys ≡ true
+    → covers F client subject scope e.consent ≡ true
+    → IsConsentFor (map.get F) client subject scope e.consent
 covers_sound F t client subject scope e i at h = live_sound F client subject scope e.consent
     (and_from _ _ h (and_parts (is_from e.client e.subject (consent_at F e.consent)) (not (is_withdrawn F e.consent)) (sym (i.listed e.client e.subject e.consent) ∙ at)).1)
 
-covers_complete : (F : FactSet) (client : Dot) (subject scope : List ℕ) (d : Dot) → IsConsentFor (map.get F) client subject scope d → covers F client subject scope d ≡ true
+covers_complete : (F : FactSet) (client : Dot) (subject scope : List ℕ) (d : Dot)
+    → IsConsentFor (map.get F) client subject scope d → covers F client subject scope d ≡ true
 covers_complete F client subject scope d x =
     ap (λ (o : Option Body). grants client subject scope (option_and_then given_in o)) x.live.given
     ∙ (and_parts (grants client subject scope (Some x.live.consent)) (not (is_withdrawn F d)) (consents_complete F client subject scope d x)).0
 
 -- a live consent is listed under its client and the digest of its subject
-listed_of : (F : FactSet) (t : BTreeSet ConsentKey) (client : Dot) (subject scope : List ℕ) (d : Dot) → IsConsents F t → IsConsentFor (map.get F) client subject scope d → is_listed t client (sha256 subject) d ≡ true
+listed_of : (F : FactSet) (t : BTreeSet ConsentKey) (client : Dot) (subject scope : List ℕ) (d : Dot)
+    → IsConsents F t → IsConsentFor (map.get F) client subject scope d
+    → is_listed t client (sha256 subject) d ≡ true
 listed_of F t client subject scope d i x =
     i.listed client (sha256 subject) d
     ∙ and_from _ _
@@ -100,7 +118,10 @@ listed_of F t client subject scope d i x =
     (not_withdrawn F d x.live.unwithdrawn)
 
 -- a key whose consent covers the scope is that of the client and the digest of the subject
-key_of_found : (F : FactSet) (t : BTreeSet ConsentKey) (client : Dot) (subject scope : List ℕ) (e : ConsentKey) → IsConsents F t → among consent_cmp e t.keys ≡ true → IsConsentFor (map.get F) client subject scope e.consent → e ≡ consent_key client (sha256 subject) e.consent
+key_of_found : (F : FactSet) (t : BTreeSet ConsentKey) (client : Dot) (subject scope : List ℕ) (e : ConsentKey)
+    → IsConsents F t → among consent_cmp e t.keys ≡ true
+    → IsConsentFor (map.get F) client subject scope e.consent
+    → e ≡ consent_key client (sha256 subject) e.consent
 key_of_found F t client subject scope e i at x =
     let from : is_from e.client e.subject (Some x.live.consent) ≡ true = sym (ap (λ (o : Option Body). is_from e.client e.subject (option_and_then given_in o)) x.live.given)
     ∙ (and_parts (is_from e.client e.subject (consent_at F e.consent)) (not (is_withdrawn F e.consent)) (sym (i.listed e.client e.subject e.consent) ∙ at)).0 in
@@ -115,7 +136,8 @@ key_of_found F t client subject scope e i at x =
 abbrev covering : FactSet → Dot → List ℕ → List ℕ → ConsentKey → Bool
 covering F client subject scope k = covers F client subject scope k.consent
 
-pub first_found : (F : FactSet) (t : BTreeSet ConsentKey) (client : Dot) (subject scope : List ℕ) (o : Option ConsentKey) → IsConsents F t → IsStrictlySortedBy consent_cmp t.keys
+pub first_found : (F : FactSet) (t : BTreeSet ConsentKey) (client : Dot) (subject scope : List ℕ) (o : Option ConsentKey)
+    → IsConsents F t → IsStrictlySortedBy consent_cmp t.keys
     → find (covering F client subject scope) (span_of t client (sha256 subject)) ≡ o → IsLeastConsent (map.get F) client subject scope (option_map (λ k. k.consent) o)
 first_found F t client subject scope None i sorted h = λ d x.
     let at = listed_of F t client subject scope d i x in
@@ -130,7 +152,9 @@ first_found F t client subject scope (Some e) i sorted h =
     )
 
 -- there is at most one lowest consent
-least_one : (F : FactSet) (client : Dot) (subject scope : List ℕ) (x y : Option Dot) → IsLeastConsent (map.get F) client subject scope x → IsLeastConsent (map.get F) client subject scope y → x ≡ y
+least_one : (F : FactSet) (client : Dot) (subject scope : List ℕ) (x y : Option Dot)
+    → IsLeastConsent (map.get F) client subject scope x
+    → IsLeastConsent (map.get F) client subject scope y → x ≡ y
 least_one F client subject scope None None h i = refl
 least_one F client subject scope None (Some e) h i = absurd (h e i.0)
 least_one F client subject scope (Some d) None h i = absurd (i d h.0)
@@ -141,5 +165,6 @@ least_one F client subject scope (Some d) (Some e) h i = ap (λ (q : Dot). Some 
     by_order Equal at = tied d e (ap is_eq at)
     by_order Greater at = absurd (h.1 e i.0 (dot_cmp_total.antisymm e d ∙ ap ordering_reverse at))
 
-pub first_is : (F : FactSet) (client : Dot) (subject scope : List ℕ) (x : Option Dot) → IsLeastConsent (map.get F) client subject scope x → x ≡ consent_for F client subject scope
+pub first_is : (F : FactSet) (client : Dot) (subject scope : List ℕ) (x : Option Dot)
+    → IsLeastConsent (map.get F) client subject scope x → x ≡ consent_for F client subject scope
 first_is F client subject scope x h = least_one F client subject scope x (consent_for F client subject scope) h (least_consent F client subject scope)

@@ -1,5 +1,6 @@
 -- What holds of every standing. Key result: sound_status.
-use Rattle.std.proofs.Common.{◌≡◌, ◌&&◌, nat_le, ℕ, Bool, true, false, if◌then◌else◌, Option, Some, None, refl, subst}
+use Rattle.std.proofs.Common.{◌≡◌, ◌&&◌, nat_le, ℕ, Bool, true, false, if◌then◌else◌, Option, Some}
+use Rattle.std.proofs.Common.{None, refl, subst}
 use Rattle.std.proofs.lemmas.Bool.{and_parts}
 use Rattle.std.specs.FinMap as map
 use Rattle.tk_handle.specs.declared.dot.Dot.{Dot}
@@ -20,11 +21,14 @@ use Rattle.tk_ledger.proofs.StatusLaws.{chain_live, above}
 use Rattle.tk_ledger.proofs.TokenLaws.{from_some, root-sound}
 
 -- a fact that passes its check keeps its limits
-limits_kept : (a b : Bool) → (if a then (if b then None else Some FactError.Range) else Some FactError.Limit) ≡ None → a ≡ true
+limits_kept : (a b : Bool)
+    → (if a then (if b then None else Some FactError.Range) else Some FactError.Limit) ≡ None
+    → a ≡ true
 limits_kept true b h = refl
 limits_kept false b h = cc
 
-issues : (b : Body) (code : issued.CodeIssued) → issued_in b ≡ Some code → refusal_of b ≡ None → is_subject code.subject ≡ true
+issues : (b : Body) (code : issued.CodeIssued) → issued_in b ≡ Some code → refusal_of b ≡ None
+    → is_subject code.subject ≡ true
 issues (bodies.CodeIssued f) code h passes =
     let kept = limits_kept (is_subject f.subject && is_uri f.uri && is_challenge f.challenge) (nat_le f.start f.expiry && nat_le f.start f.family_end) passes in
     let same : f ≡ code = cc in
@@ -39,12 +43,15 @@ issues (bodies.TokenRevoked f) code h passes = cc
 issues (bodies.ReuseSeen f) code h passes = cc
 issues (bodies.SubjectOut f) code h passes = cc
 
-issued_subject : (F : FactSet) → IsFactSet F → (c : Dot) (code : issued.CodeIssued) → issued_at (map.get F) c ≡ Some code → is_subject code.subject ≡ true
+issued_subject : (F : FactSet) → IsFactSet F → (c : Dot) (code : issued.CodeIssued)
+    → issued_at (map.get F) c ≡ Some code → is_subject code.subject ≡ true
 issued_subject F sound c code e =
     let x : (b : Body) × (map.get F c ≡ Some b) × (issued_in b ≡ Some code) = from_some issued_in (map.get F c) code e in
     issues x.0 code x.2 (sound c x.0 x.1)
 
-sound_by : (F : FactSet) (now : ℕ) (h : Handle) → IsFactSet F → (b : Option Body) (m : Option MintedFields) (o : Option Root) → root_in (map.get F) h.id.dot ≡ o → IsSound now (status_by F now h.id b m o)
+sound_by : (F : FactSet) (now : ℕ) (h : Handle) → IsFactSet F
+    → (b : Option Body) (m : Option MintedFields) (o : Option Root)
+    → root_in (map.get F) h.id.dot ≡ o → IsSound now (status_by F now h.id b m o)
 sound_by F now h sound None m o n = tt
 sound_by F now h sound (Some b) None o n = tt
 sound_by F now h sound (Some b) (Some m) None n = tt
@@ -53,5 +60,6 @@ sound_by F now h sound (Some b) (Some m) (Some o) n = (
   λ live. above o.issued.family_end now (chain_live _ _ _ _ _ _ live).over,
 )
 
-pub sound_status : (F : FactSet) (now : ℕ) (h : Handle) → IsFactSet F → IsSound now (status_in F now h)
+pub sound_status : (F : FactSet) (now : ℕ) (h : Handle) → IsFactSet F
+    → IsSound now (status_in F now h)
 sound_status F now h sound = sound_by F now h sound (map.get F h.id.dot) (minted_as (map.get F) h) (root_in (map.get F) h.id.dot) refl

@@ -1,7 +1,8 @@
 -- The state Live is that of exactly the active tokens. Key results:
 --   chain_live     a token that is live fails each test for another state
 --   live_exactly   a token is live exactly if it is active
-use Rattle.std.proofs.Common.{◌≡◌, ◌≢◌, ◌⊎◌, inl, inr, ℕ, ◌<◌, nat_le, Bool, true, false, ◌&&◌, not, if◌then◌else◌, refl, sym, ap, subst, ◌∙◌, arith}
+use Rattle.std.proofs.Common.{◌≡◌, ◌≢◌, ◌⊎◌, inl, inr, ℕ, ◌<◌, nat_le, Bool, true, false, ◌&&◌, not}
+use Rattle.std.proofs.Common.{if◌then◌else◌, refl, sym, ap, subst, ◌∙◌, arith}
 use Rattle.std.proofs.lemmas.Bool.{true≢false, false_from_ne_true}
 use Rattle.std.proofs.lemmas.Bool.Decides.{nat_tests}
 use Rattle.std.specs.FinMap as map
@@ -20,7 +21,8 @@ use Rattle.tk_ledger.specs.Tokens.{Root, is_dead, is_used, is_ended}
 use Rattle.tk_ledger.specs.Status.{is_live, state_in, status_in, IsActive, IsLive}
 use Rattle.tk_ledger.proofs.ClientLaws.{live_sound, live_complete, consent_sound, consent_complete}
 use Rattle.tk_ledger.proofs.StatusCases.{Knows, known_parts, known_status}
-use Rattle.tk_ledger.proofs.TokenLaws.{is_dead-sound, is_dead-complete, is_ended-sound, is_ended-complete, is_used-sound, is_used-complete}
+use Rattle.tk_ledger.proofs.TokenLaws.{is_dead-sound, is_dead-complete, is_ended-sound}
+use Rattle.tk_ledger.proofs.TokenLaws.{is_ended-complete, is_used-sound, is_used-complete}
 
 -- ---- the first state that holds
 
@@ -75,7 +77,9 @@ no_code_is kind.Code h = absurd (h refl)
 no_code_is kind.Access h = inl refl
 no_code_is kind.Refresh h = inr refl
 
-pub live_is_active : (F : FactSet) (now : ℕ) (h : Handle) (s : StandingFields) → h.id.kind ≢ kind.Code → status_in F now h ≡ Known s → s.state ≡ state.Live → IsActive (map.get F) now h
+pub live_is_active : (F : FactSet) (now : ℕ) (h : Handle) (s : StandingFields)
+    → h.id.kind ≢ kind.Code → status_in F now h ≡ Known s → s.state ≡ state.Live
+    → IsActive (map.get F) now h
 live_is_active F now h s nc e live =
     let x : Knows F now h s = known_parts F now h s e in
     let a = chain_live _ _ _ _ _ _ (ap (λ (y : StandingFields). y.state) x.standing ∙ live) in
@@ -112,7 +116,8 @@ refresh_is kind.Code nc h = absurd (nc refl)
 refresh_is kind.Access nc h = absurd (true≢false (sym h))
 refresh_is kind.Refresh nc h = refl
 
-pub active_is_live : (F : FactSet) (now : ℕ) (h : Handle) → IsActive (map.get F) now h → (s : StandingFields) × (status_in F now h ≡ Known s) × (s.state ≡ state.Live)
+pub active_is_live : (F : FactSet) (now : ℕ) (h : Handle) → IsActive (map.get F) now h
+    → (s : StandingFields) × (status_in F now h ≡ Known s) × (s.state ≡ state.Live)
 active_is_live F now h a =
     let o : Root = record { code = a.code; issued = a.issued } in
     let k : (s : StandingFields) × (status_in F now h ≡ Known s) × (s.state ≡ state_in F now h.id a.minted o) =
@@ -129,14 +134,16 @@ active_is_live F now h a =
       }),
     )
 
-live_of : (F : FactSet) (now : ℕ) (h : Handle) (x : Status) → status_in F now h ≡ x → h.id.kind ≢ kind.Code → IsLive x → IsActive (map.get F) now h
+live_of : (F : FactSet) (now : ℕ) (h : Handle) (x : Status) → status_in F now h ≡ x
+    → h.id.kind ≢ kind.Code → IsLive x → IsActive (map.get F) now h
 live_of F now h Unseen e nc l = absurd l
 live_of F now h Wrong e nc l = absurd l
 live_of F now h (Broken t) e nc l = absurd l
 live_of F now h (Known s) e nc l = live_is_active F now h s nc e l
 
 -- a token is live exactly if it is active: the clause of `status`
-pub live_exactly : (F : FactSet) (now : ℕ) (h : Handle) → h.id.kind ≢ kind.Code → (IsLive (status_in F now h) → IsActive (map.get F) now h) × (IsActive (map.get F) now h → IsLive (status_in F now h))
+pub live_exactly : (F : FactSet) (now : ℕ) (h : Handle) → h.id.kind ≢ kind.Code
+    → (IsLive (status_in F now h) → IsActive (map.get F) now h) × (IsActive (map.get F) now h → IsLive (status_in F now h))
 live_exactly F now h nc = (
   live_of F now h (status_in F now h) refl nc,
   λ a. let k : (s : StandingFields) × (status_in F now h ≡ Known s) × (s.state ≡ state.Live) = active_is_live F now h a in subst IsLive (sym k.1) k.2,

@@ -6,8 +6,10 @@
 --                                            starts in it
 --   in_outs, of_subject                      the span has the keys of the subject, and no others
 --   code_listed, out_listed                  the keys of a code and of a sign-out that are held
-use Rattle.std.proofs.Common.{◌≡◌, inl, inr, ℕ, ◌≤◌, ◌==◌, Bool, true, false, ◌&&◌, ◌||◌, not, List, [], ◌∷◌, Some, filter, refl, sym, ap, ◌∙◌, arith, eq-eqb}
-use Rattle.std.proofs.lemmas.Bool.{true≢false, eqb-true, cases_Bool, cond-true, cond-false, or_cases, or_left, and_parts, and_from}
+use Rattle.std.proofs.Common.{◌≡◌, inl, inr, ℕ, ◌≤◌, ◌==◌, Bool, true, false, ◌&&◌, ◌||◌, not, List}
+use Rattle.std.proofs.Common.{[], ◌∷◌, Some, filter, refl, sym, ap, ◌∙◌, arith, eq-eqb}
+use Rattle.std.proofs.lemmas.Bool.{true≢false, eqb-true, cases_Bool, cond-true, cond-false}
+use Rattle.std.proofs.lemmas.Bool.{or_cases, or_left, and_parts, and_from}
 use Rattle.std.proofs.lemmas.Cmp.{on_total, then_total, tied_itself, nat_list_cmp_total}
 use Rattle.std.proofs.lemmas.Map.Lookups.{exact_bytes}
 use Rattle.std.proofs.lemmas.Slice.Eq.{bytes_eq-Decides}
@@ -16,7 +18,8 @@ use Rattle.std.specs.BTreeMap.Range.{range_contains, IsLeBy}
 use Rattle.std.specs.BTreeSet.{BTreeSet, contains}
 use Rattle.std.specs.Cmp.{IsTotalOrder, nat_cmp_total}
 use Rattle.std.specs.Cmp.Lexicographic.{slice_cmp}
-use Rattle.std.specs.Ordering.{nat_cmp, eq_by_cmp, ordering_then, ordering_reverse, is_eq, is_lt, is_le, is_gt}
+use Rattle.std.specs.Ordering.{nat_cmp, eq_by_cmp, ordering_then, ordering_reverse, is_eq, is_lt}
+use Rattle.std.specs.Ordering.{is_le, is_gt}
 use Rattle.std.specs.Str.{bytes_eq}
 use Rattle.std.specs.declared.ops.Bound.TheVariants.{Included}
 use Rattle.std.specs.FinMap as map
@@ -30,7 +33,8 @@ use Rattle.tk_fact.specs.declared.code_issued.CodeIssued as issued
 use Rattle.tk_fact.specs.declared.subject_out.SubjectOut as out
 use Rattle.tk_store.specs.FactSet.{FactSet}
 use Rattle.tk_ledger.specs.Bodies.{is_same_dot}
-use Rattle.tk_ledger.specs.Index.{left_after, code_cmp, code_key, codes_started, dots_of, is_to, IsCodes, out_cmp, out_key, is_left_by, IsOuts}
+use Rattle.tk_ledger.specs.Index.{left_after, code_cmp, code_key, codes_started, dots_of, is_to}
+use Rattle.tk_ledger.specs.Index.{IsCodes, out_cmp, out_key, is_left_by, IsOuts}
 use Rattle.tk_ledger.specs.SignOuts.{sign_out_at}
 use Rattle.tk_ledger.specs.Tokens.{issued_at}
 use Rattle.tk_ledger.specs.declared.subject_keys.CodeKey.{CodeKey}
@@ -44,7 +48,8 @@ use Rattle.tk_ledger.proofs.SameLaws.{same_dot-true}
 pub codes_total : IsTotalOrder code_cmp
 codes_total = then_total (on_total (λ k. k.subject) nat_list_cmp_total) (then_total (on_total (λ k. k.start) nat_cmp_total) (on_total (λ k. k.code) dot_cmp_total))
 
-pub code_tied : (g h : List ℕ) (m n : ℕ) (d q : Dot) → eq_by_cmp code_cmp (code_key g m d) (code_key h n q) ≡ (bytes_eq g h && ((m == n) && is_same_dot d q))
+pub code_tied : (g h : List ℕ) (m n : ℕ) (d q : Dot)
+    → eq_by_cmp code_cmp (code_key g m d) (code_key h n q) ≡ (bytes_eq g h && ((m == n) && is_same_dot d q))
 code_tied g h m n d q =
     both_tied (slice_cmp nat_cmp g h) _
     ∙ ap (λ x. is_eq (slice_cmp nat_cmp g h) && x) (both_tied (nat_cmp m n) (dot_cmp d q))
@@ -53,7 +58,8 @@ code_tied g h m n d q =
     ∙ ap (λ x. bytes_eq g h && ((m == n) && x)) (at_is_same d q)
 
 -- keys that tie have one dot
-pub code_tied-dot : (g h : List ℕ) (m n : ℕ) (d q : Dot) → eq_by_cmp code_cmp (code_key g m d) (code_key h n q) ≡ true → d ≡ q
+pub code_tied-dot : (g h : List ℕ) (m n : ℕ) (d q : Dot)
+    → eq_by_cmp code_cmp (code_key g m d) (code_key h n q) ≡ true → d ≡ q
 code_tied-dot g h m n d q tie =
     let p = and_parts (bytes_eq g h) ((m == n) && is_same_dot d q) (sym (code_tied g h m n d q) ∙ tie) in
     same_dot-true d q (and_parts (m == n) (is_same_dot d q) p.1).1
@@ -67,10 +73,12 @@ code_same a b h =
     let q = and_parts _ _ p.1 in
     code_by a b ((bytes_eq-Decides a.subject b.subject).0 p.0) (eqb-true a.start b.start q.0) (same_dot-true a.code b.code q.1)
 
-code_order : (subject : List ℕ) (m n : ℕ) (a b : Dot) → code_cmp (code_key subject m a) (code_key subject n b) ≡ ordering_then (nat_cmp m n) (dot_cmp a b)
+code_order : (subject : List ℕ) (m n : ℕ) (a b : Dot)
+    → code_cmp (code_key subject m a) (code_key subject n b) ≡ ordering_then (nat_cmp m n) (dot_cmp a b)
 code_order subject m n a b = ap (λ o. ordering_then o (ordering_then (nat_cmp m n) (dot_cmp a b))) (tied_itself nat_list_cmp_total subject)
 
-pub codes_forward : (subject : List ℕ) (m n : ℕ) (a b : CodeKey) → m ≤ n → a ≡ code_key subject m least_dot → b ≡ code_key subject n greatest_dot → IsLeBy code_cmp a b
+pub codes_forward : (subject : List ℕ) (m n : ℕ) (a b : CodeKey) → m ≤ n
+    → a ≡ code_key subject m least_dot → b ≡ code_key subject n greatest_dot → IsLeBy code_cmp a b
 codes_forward subject m n a b le first last =
     ap (λ (x : CodeKey). is_gt (code_cmp x b)) first
     ∙ ap (λ (x : CodeKey). is_gt (code_cmp (code_key subject m least_dot) x)) last
@@ -80,7 +88,8 @@ codes_forward subject m n a b le first last =
       | inr same ↦ ap (λ o. is_gt (ordering_then o (dot_cmp least_dot greatest_dot))) same
     ]
 
-in_span : (subject : List ℕ) (m n start : ℕ) (q : Dot) → m ≤ start → start ≤ n → IsDot q → range_contains code_cmp (Included (code_key subject m least_dot)) (Included (code_key subject n greatest_dot)) (code_key subject start q) ≡ true
+in_span : (subject : List ℕ) (m n start : ℕ) (q : Dot) → m ≤ start → start ≤ n → IsDot q
+    → range_contains code_cmp (Included (code_key subject m least_dot)) (Included (code_key subject n greatest_dot)) (code_key subject start q) ≡ true
 in_span subject m n start q above below h = and_from _ _
     (ap is_le (code_order subject m start least_dot q) ∙ elim (number_le m start above) [
       | inl less ↦ ap (λ o. is_le (ordering_then o (dot_cmp least_dot q))) less
@@ -93,7 +102,8 @@ in_span subject m n start q above below h = and_from _ _
           ∙ ap (λ o. not (is_lt o)) (dot_cmp_total.antisymm greatest_dot q) ∙ not_past (dot_cmp q greatest_dot) (to_last q h)
     ])
 
-kept_dot : (c : CodeKey → Bool) (k : CodeKey) (ks : List CodeKey) → among code_cmp k ks ≡ true → c k ≡ true → has (dots_of (filter c ks)) k.code ≡ true
+kept_dot : (c : CodeKey → Bool) (k : CodeKey) (ks : List CodeKey) → among code_cmp k ks ≡ true
+    → c k ≡ true → has (dots_of (filter c ks)) k.code ≡ true
 kept_dot c k [] at kept = absurd (true≢false (sym at))
 kept_dot c k (x ∷ xs) at kept = elim (or_cases (is_at (code_cmp k) x) (among code_cmp k xs) at) [
   | inl tie ↦
@@ -115,7 +125,9 @@ kept_dot c k (x ∷ xs) at kept = elim (or_cases (is_at (code_cmp k) x) (among c
     or_later false b h = h
 
 -- the span of the digest has the dot of each code that is listed under the digest and starts in it
-pub in_codes : (t : BTreeSet CodeKey) (subject : List ℕ) (m n start : ℕ) (d : Dot) → m ≤ start → start ≤ n → contains code_cmp t (code_key subject start d) ≡ true → IsDot d → has (dots_of (codes_started t subject m n)) d ≡ true
+pub in_codes : (t : BTreeSet CodeKey) (subject : List ℕ) (m n start : ℕ) (d : Dot) → m ≤ start
+    → start ≤ n → contains code_cmp t (code_key subject start d) ≡ true → IsDot d
+    → has (dots_of (codes_started t subject m n)) d ≡ true
 in_codes t subject m n start d above below at ranged = kept_dot (range_contains code_cmp (Included (code_key subject m least_dot)) (Included (code_key subject n greatest_dot))) (code_key subject start d) t.keys at (in_span subject m n start d above below ranged)
 
 -- ---- sign-outs
@@ -123,7 +135,8 @@ in_codes t subject m n start d above below at ranged = kept_dot (range_contains 
 pub outs_total : IsTotalOrder out_cmp
 outs_total = then_total (on_total (λ k. k.subject) nat_list_cmp_total) (then_total (on_total (λ k. k.left) nat_cmp_total) (on_total (λ k. k.place) dot_cmp_total))
 
-pub out_tied : (g h : List ℕ) (l m : ℕ) (d q : Dot) → eq_by_cmp out_cmp (out_key g l d) (out_key h m q) ≡ (bytes_eq g h && ((l == m) && is_same_dot d q))
+pub out_tied : (g h : List ℕ) (l m : ℕ) (d q : Dot)
+    → eq_by_cmp out_cmp (out_key g l d) (out_key h m q) ≡ (bytes_eq g h && ((l == m) && is_same_dot d q))
 out_tied g h l m d q =
     both_tied (slice_cmp nat_cmp g h) _
     ∙ ap (λ x. is_eq (slice_cmp nat_cmp g h) && x) (both_tied (nat_cmp l m) (dot_cmp d q))
@@ -140,17 +153,20 @@ out_same a b h =
     let q = and_parts _ _ p.1 in
     out_by a b ((bytes_eq-Decides a.subject b.subject).0 p.0) (eqb-true a.left b.left q.0) (same_dot-true a.place b.place q.1)
 
-pub out_order : (subject : List ℕ) (l m : ℕ) (a b : Dot) → out_cmp (out_key subject l a) (out_key subject m b) ≡ ordering_then (nat_cmp l m) (dot_cmp a b)
+pub out_order : (subject : List ℕ) (l m : ℕ) (a b : Dot)
+    → out_cmp (out_key subject l a) (out_key subject m b) ≡ ordering_then (nat_cmp l m) (dot_cmp a b)
 out_order subject l m a b = ap (λ o. ordering_then o (ordering_then (nat_cmp l m) (dot_cmp a b))) (tied_itself nat_list_cmp_total subject)
 
-pub outs_forward : (subject : List ℕ) (a b : OutKey) → a ≡ out_key subject 0 least_dot → b ≡ out_key subject greatest_moment greatest_dot → IsLeBy out_cmp a b
+pub outs_forward : (subject : List ℕ) (a b : OutKey) → a ≡ out_key subject 0 least_dot
+    → b ≡ out_key subject greatest_moment greatest_dot → IsLeBy out_cmp a b
 outs_forward subject a b first last =
     ap (λ (x : OutKey). is_gt (out_cmp x b)) first
     ∙ ap (λ (x : OutKey). is_gt (out_cmp (out_key subject 0 least_dot) x)) last
     ∙ ap is_gt (out_order subject 0 greatest_moment least_dot greatest_dot)
 
 -- the key of a sign-out of the subject is in the span
-pub in_outs : (subject : List ℕ) (l : ℕ) (q : Dot) → l ≤ greatest_moment → IsDot q → range_contains out_cmp (Included (out_key subject 0 least_dot)) (Included (out_key subject greatest_moment greatest_dot)) (out_key subject l q) ≡ true
+pub in_outs : (subject : List ℕ) (l : ℕ) (q : Dot) → l ≤ greatest_moment → IsDot q
+    → range_contains out_cmp (Included (out_key subject 0 least_dot)) (Included (out_key subject greatest_moment greatest_dot)) (out_key subject l q) ≡ true
 in_outs subject l q le h = and_from _ _
     (ap is_le (out_order subject 0 l least_dot q) ∙ elim (number_le 0 l (omega arith)) [
       | inl less ↦ ap (λ o. is_le (ordering_then o (dot_cmp least_dot q))) less
@@ -164,12 +180,15 @@ in_outs subject l q le h = and_from _ _
     ])
 
 -- a key in the span is one of the subject
-pub of_subject : (subject : List ℕ) (e : OutKey) → range_contains out_cmp (Included (out_key subject 0 least_dot)) (Included (out_key subject greatest_moment greatest_dot)) e ≡ true → e.subject ≡ subject
+pub of_subject : (subject : List ℕ) (e : OutKey)
+    → range_contains out_cmp (Included (out_key subject 0 least_dot)) (Included (out_key subject greatest_moment greatest_dot)) e ≡ true
+    → e.subject ≡ subject
 of_subject subject e h = let p = and_parts _ _ h in sym (exact_bytes subject e.subject (between (slice_cmp nat_cmp subject e.subject) _ _ p.0 p.1))
 
 -- ---- codes and sign-outs that are held are listed
 
-pub code_listed : (F : FactSet) (t : BTreeSet CodeKey) (d : Dot) (code : issued.CodeIssued) → IsCodes F t
+pub code_listed : (F : FactSet) (t : BTreeSet CodeKey) (d : Dot) (code : issued.CodeIssued)
+    → IsCodes F t
     → issued_at (map.get F) d ≡ Some code → (contains code_cmp t (code_key (sha256 code.subject) code.start d) ≡ true) × IsDot d
 code_listed F t d code i h = (at, i.ranged (sha256 code.subject) code.start d at)
   where

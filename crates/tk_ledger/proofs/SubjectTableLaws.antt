@@ -2,7 +2,8 @@
 --   codes_on, outs_on         the tables after any fact, by what it issues or signs out
 --   codes_alike, outs_alike   a table with the same keys
 --   codes_back                the table after the key of a code was removed again
-use Rattle.std.proofs.Common.{◌≡◌, inl, inr, ℕ, ◌≤◌, Bool, true, false, cond, ◌&&◌, ◌||◌, ◌==◌, List, Option, Some, None, refl, sym, ap, subst, ◌∙◌}
+use Rattle.std.proofs.Common.{◌≡◌, inl, inr, ℕ, ◌≤◌, Bool, true, false, cond, ◌&&◌, ◌||◌, ◌==◌}
+use Rattle.std.proofs.Common.{List, Option, Some, None, refl, sym, ap, subst, ◌∙◌}
 use Rattle.std.proofs.lemmas.Bool.{true≢false, or_cases, and_parts}
 use Rattle.std.specs.Option.{option_and_then}
 use Rattle.std.specs.Ordering.{eq_by_cmp}
@@ -20,7 +21,8 @@ use Rattle.tk_store.proofs.PutLaws.{none_is_not_some, some_injective}
 use Rattle.tk_store.proofs.OneMoreLaws.{OneMore, cases_dots}
 use Rattle.tk_ledger.specs.Bodies.{is_same_dot}
 use Rattle.tk_ledger.specs.Changes.{change_in}
-use Rattle.tk_ledger.specs.Index.{is_at, code_cmp, code_key, is_to, is_listed_code, IsCodes, out_cmp, out_key, left_after, is_left_by, is_listed_out, IsOuts}
+use Rattle.tk_ledger.specs.Index.{is_at, code_cmp, code_key, is_to, is_listed_code, IsCodes}
+use Rattle.tk_ledger.specs.Index.{out_cmp, out_key, left_after, is_left_by, is_listed_out, IsOuts}
 use Rattle.tk_ledger.specs.SignOuts.{sign_out_in, sign_out_at}
 use Rattle.tk_ledger.specs.Tokens.{issued_in, issued_at}
 use Rattle.tk_ledger.specs.declared.change.Change.{Change}
@@ -39,7 +41,8 @@ abbrev pub issues_to : List ℕ → ℕ → Change → Bool
 issues_to subject start (change.Issue digest from) = bytes_eq digest subject && (from == start)
 issues_to subject start other = false
 
-issues-change : (subject : List ℕ) (start : ℕ) (b : Body) → is_to subject start (issued_in b) ≡ issues_to subject start (change_in b)
+issues-change : (subject : List ℕ) (start : ℕ) (b : Body)
+    → is_to subject start (issued_in b) ≡ issues_to subject start (change_in b)
 issues-change subject start (CodeIssued x) = refl
 issues-change subject start body = refl
 
@@ -48,7 +51,8 @@ abbrev pub issuing : Change → Option (List ℕ)
 issuing (change.Issue subject start) = Some subject
 issuing other = None
 
-pub issues_none : (subject : List ℕ) (start : ℕ) (y : Change) → issuing y ≡ None → issues_to subject start y ≡ false
+pub issues_none : (subject : List ℕ) (start : ℕ) (y : Change) → issuing y ≡ None
+    → issues_to subject start y ≡ false
 issues_none subject start (change.Issue digest from) h = absurd (none_is_not_some digest (sym h))
 issues_none subject start other h = refl
 
@@ -57,11 +61,13 @@ abbrev pub signs_out_by : List ℕ → ℕ → Change → Bool
 signs_out_by subject left (change.SignOut digest moment) = bytes_eq digest subject && (left_after moment == left)
 signs_out_by subject left other = false
 
-signs_out-change : (subject : List ℕ) (left : ℕ) (b : Body) → is_left_by subject left (sign_out_in b) ≡ signs_out_by subject left (change_in b)
+signs_out-change : (subject : List ℕ) (left : ℕ) (b : Body)
+    → is_left_by subject left (sign_out_in b) ≡ signs_out_by subject left (change_in b)
 signs_out-change subject left (SubjectOut x) = refl
 signs_out-change subject left body = refl
 
-pub signs_none : (subject : List ℕ) (left : ℕ) (y : Change) → signs y ≡ false → signs_out_by subject left y ≡ false
+pub signs_none : (subject : List ℕ) (left : ℕ) (y : Change) → signs y ≡ false
+    → signs_out_by subject left y ≡ false
 signs_none subject left (change.SignOut digest moment) h = absurd (true≢false h)
 signs_none subject left other h = refl
 
@@ -70,7 +76,8 @@ abbrev pub moment_of : Change → Option ℕ
 moment_of (change.SignOut digest moment) = Some moment
 moment_of other = None
 
-moment-change : (b : Body) (f : out.SubjectOut) → sign_out_in b ≡ Some f → moment_of (change_in b) ≡ Some f.moment
+moment-change : (b : Body) (f : out.SubjectOut) → sign_out_in b ≡ Some f
+    → moment_of (change_in b) ≡ Some f.moment
 moment-change (SubjectOut x) f h = ap (λ (c : out.SubjectOut). Some c.moment) (some_injective x f h)
 moment-change body f h = absurd (none_is_not_some f h)
 
@@ -80,7 +87,8 @@ moment-change body f h = absurd (none_is_not_some f h)
 abbrev pub RangedCodes : BTreeSet CodeKey → Type 0
 RangedCodes t = (subject : List ℕ) (start : ℕ) (d : Dot) → is_listed_code t subject start d ≡ true → IsDot d
 
-pub issued_on : (F G : FactSet) (d : Dot) (b : Body) (subject : List ℕ) (start : ℕ) (q : Dot) (x : Bool) → OneMore F G d b
+pub issued_on : (F G : FactSet) (d : Dot) (b : Body) (subject : List ℕ) (start : ℕ) (q : Dot) (x : Bool)
+    → OneMore F G d b
     → x ≡ is_to subject start (issued_at (map.get F) q)
     → ((issues_to subject start (change_in b) && is_at d q) || x) ≡ is_to subject start (issued_at (map.get G) q)
 issued_on F G d b subject start q x m i =
@@ -90,7 +98,8 @@ issued_on F G d b subject start q x m i =
     (λ ne. ap (λ e. is_to subject start (option_and_then issued_in e)) (m.there q ne))
     i
 
-pub codes_on : (F G : FactSet) (d : Dot) (b : Body) (t u : BTreeSet CodeKey) → OneMore F G d b → IsCodes F t → RangedCodes u
+pub codes_on : (F G : FactSet) (d : Dot) (b : Body) (t u : BTreeSet CodeKey) → OneMore F G d b
+    → IsCodes F t → RangedCodes u
     → ((subject : List ℕ) (start : ℕ) (q : Dot) → is_listed_code u subject start q ≡ ((issues_to subject start (change_in b) && is_at d q) || is_listed_code t subject start q))
     → IsCodes G u
 codes_on F G d b t u m i ranged l = record {
@@ -99,7 +108,8 @@ codes_on F G d b t u m i ranged l = record {
 }
 
 -- codes that are newly listed are in range if their dot is
-pub codes_ranged : (t u : BTreeSet CodeKey) (d : Dot) (n : List ℕ → ℕ → Bool) → IsDot d → RangedCodes t
+pub codes_ranged : (t u : BTreeSet CodeKey) (d : Dot) (n : List ℕ → ℕ → Bool) → IsDot d
+    → RangedCodes t
     → ((subject : List ℕ) (start : ℕ) (q : Dot) → is_listed_code u subject start q ≡ ((n subject start && is_same_dot d q) || is_listed_code t subject start q))
     → RangedCodes u
 codes_ranged t u d n here before l subject start q h = elim (or_cases (n subject start && is_same_dot d q) (is_listed_code t subject start q) (sym (l subject start q) ∙ h)) [
@@ -107,7 +117,8 @@ codes_ranged t u d n here before l subject start q h = elim (or_cases (n subject
   | inr old ↦ before subject start q old
 ]
 
-pub codes_alike : (F : FactSet) (t u : BTreeSet CodeKey) → IsCodes F t → ((k : CodeKey) → contains code_cmp u k ≡ contains code_cmp t k) → IsCodes F u
+pub codes_alike : (F : FactSet) (t u : BTreeSet CodeKey) → IsCodes F t
+    → ((k : CodeKey) → contains code_cmp u k ≡ contains code_cmp t k) → IsCodes F u
 codes_alike F t u i same = record {
   listed = λ subject start q. same (code_key subject start q) ∙ i.listed subject start q;
   ranged = λ subject start q h. i.ranged subject start q (sym (same (code_key subject start q)) ∙ h);
@@ -118,7 +129,8 @@ pub without : (a b : Bool) → (a ≡ true → b ≡ false) → cond a false (a 
 without true b h = sym (h refl)
 without false b h = refl
 
-pub codes_back : (F : FactSet) (d : Dot) (subject : List ℕ) (start : ℕ) (t u v : BTreeSet CodeKey) → map.get F d ≡ None → IsCodes F t
+pub codes_back : (F : FactSet) (d : Dot) (subject : List ℕ) (start : ℕ) (t u v : BTreeSet CodeKey)
+    → map.get F d ≡ None → IsCodes F t
     → ((k : CodeKey) → contains code_cmp u k ≡ (eq_by_cmp code_cmp (code_key subject start d) k || contains code_cmp t k))
     → ((k : CodeKey) → contains code_cmp v k ≡ cond (eq_by_cmp code_cmp (code_key subject start d) k) false (contains code_cmp u k))
     → IsCodes F v
@@ -127,7 +139,9 @@ codes_back F d subject start t u v free i r s = record {
   ranged = λ g n q h. i.ranged g n q (sym (back g n q) ∙ h);
 }
   where
-    unlisted : (g : List ℕ) (n : ℕ) (q : Dot) → eq_by_cmp code_cmp (code_key subject start d) (code_key g n q) ≡ true → is_listed_code t g n q ≡ false
+    unlisted : (g : List ℕ) (n : ℕ) (q : Dot)
+        → eq_by_cmp code_cmp (code_key subject start d) (code_key g n q) ≡ true
+        → is_listed_code t g n q ≡ false
     unlisted g n q tie =
         let same : d ≡ q = code_tied-dot subject g start n d q tie in
         i.listed g n q ∙ ap (λ e. is_to g n (option_and_then issued_in e)) (ap (map.get F) (sym same) ∙ free)
@@ -143,7 +157,8 @@ codes_back F d subject start t u v free i r s = record {
 abbrev pub RangedOuts : BTreeSet OutKey → Type 0
 RangedOuts t = (subject : List ℕ) (left : ℕ) (d : Dot) → is_listed_out t subject left d ≡ true → IsDot d
 
-pub signed_on : (F G : FactSet) (d : Dot) (b : Body) (subject : List ℕ) (left : ℕ) (q : Dot) (x : Bool) → OneMore F G d b
+pub signed_on : (F G : FactSet) (d : Dot) (b : Body) (subject : List ℕ) (left : ℕ) (q : Dot) (x : Bool)
+    → OneMore F G d b
     → x ≡ is_left_by subject left (sign_out_at (map.get F) q)
     → ((signs_out_by subject left (change_in b) && is_at d q) || x) ≡ is_left_by subject left (sign_out_at (map.get G) q)
 signed_on F G d b subject left q x m i =
@@ -162,11 +177,13 @@ pub unsigned_early : (y : Change) → signs y ≡ false → IsEarly y
 unsigned_early (change.SignOut digest moment) h = absurd (true≢false h)
 unsigned_early other h = tt
 
-early_moment : (y : Change) (moment : ℕ) → moment_of y ≡ Some moment → IsEarly y → moment ≤ greatest_moment
+early_moment : (y : Change) (moment : ℕ) → moment_of y ≡ Some moment → IsEarly y
+    → moment ≤ greatest_moment
 early_moment (change.SignOut digest n) moment h early = subst (λ (m : ℕ). m ≤ greatest_moment) (some_injective n moment h) early
 early_moment other moment h early = absurd (none_is_not_some moment h)
 
-pub outs_on : (F G : FactSet) (d : Dot) (b : Body) (t u : BTreeSet OutKey) → OneMore F G d b → IsOuts F t → RangedOuts u → IsEarly (change_in b)
+pub outs_on : (F G : FactSet) (d : Dot) (b : Body) (t u : BTreeSet OutKey) → OneMore F G d b
+    → IsOuts F t → RangedOuts u → IsEarly (change_in b)
     → ((subject : List ℕ) (left : ℕ) (q : Dot) → is_listed_out u subject left q ≡ ((signs_out_by subject left (change_in b) && is_at d q) || is_listed_out t subject left q))
     → IsOuts G u
 outs_on F G d b t u m i ranged early l = record {
@@ -188,7 +205,8 @@ outs_ranged t u d n here before l subject left q h = elim (or_cases (n subject l
   | inr old ↦ before subject left q old
 ]
 
-pub outs_alike : (F : FactSet) (t u : BTreeSet OutKey) → IsOuts F t → ((k : OutKey) → contains out_cmp u k ≡ contains out_cmp t k) → IsOuts F u
+pub outs_alike : (F : FactSet) (t u : BTreeSet OutKey) → IsOuts F t
+    → ((k : OutKey) → contains out_cmp u k ≡ contains out_cmp t k) → IsOuts F u
 outs_alike F t u i same = record {
   listed = λ subject left q. same (out_key subject left q) ∙ i.listed subject left q;
   ranged = λ subject left q h. i.ranged subject left q (sym (same (out_key subject left q)) ∙ h);

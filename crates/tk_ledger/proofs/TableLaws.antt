@@ -1,8 +1,9 @@
 -- Each table follows the set when that gets one more fact. Key results:
 --   own_on         a test of the body at a dot
---   clients_on, consents_on, withdrawals_on, revocations_on
---                  the tables of clients, consents, withdrawals and revocations
-use Rattle.std.proofs.Common.{◌≡◌, inl, inr, ℕ, Bool, true, false, ◌&&◌, ◌||◌, not, List, is_some, refl, sym, ap, subst, ◌∙◌}
+--   clients_on, consents_on, withdrawals_on
+--                  the tables of clients, consents and withdrawals
+use Rattle.std.proofs.Common.{◌≡◌, inl, inr, ℕ, Bool, true, false, ◌&&◌, ◌||◌, not, List, is_some}
+use Rattle.std.proofs.Common.{refl, sym, ap, subst, ◌∙◌}
 use Rattle.std.proofs.lemmas.Bool.{or_cases, and_parts}
 use Rattle.std.specs.Option.{option_and_then}
 use Rattle.std.specs.BTreeMap.{BTreeMap}
@@ -12,17 +13,19 @@ use Rattle.tk_handle.specs.declared.dot.Dot.{Dot}
 use Rattle.tk_handle.specs.declared.token_id.TokenId.{TokenId}
 use Rattle.tk_handle.specs.Dot.{IsDot, dot_cmp}
 use Rattle.tk_fact.specs.declared.body.Body.{Body}
-use Rattle.tk_fact.specs.declared.body.Body.TheVariants.{ClientAdded, ClientRetired, ConsentGiven, ConsentWithdrawn, TokenRevoked}
+use Rattle.tk_fact.specs.declared.body.Body.TheVariants.{ClientAdded, ClientRetired, ConsentGiven}
+use Rattle.tk_fact.specs.declared.body.Body.TheVariants.{ConsentWithdrawn, TokenRevoked}
 use Rattle.tk_store.specs.FactSet.{FactSet}
 use Rattle.tk_store.proofs.OneMoreLaws.{OneMore, cases_dots, apart_at, any_fact-more}
 use Rattle.tk_ledger.specs.Bodies.{is_same_dot}
-use Rattle.tk_ledger.specs.Clients.{added_in, client_at, retires_in, retires, is_retired, given_in, consent_at, withdraws_in, withdraws, is_withdrawn}
-use Rattle.tk_ledger.specs.Tokens.{revoked_by, revokes, is_revoked}
+use Rattle.tk_ledger.specs.Clients.{added_in, client_at, retires_in, retires, is_retired, given_in}
+use Rattle.tk_ledger.specs.Clients.{consent_at, withdraws_in, withdraws, is_withdrawn}
+use Rattle.tk_ledger.specs.Tokens.{revoked_by}
 use Rattle.tk_ledger.specs.Changes.{change_in, adds, retires_of, gives_to, withdraws_of, revokes_of}
-use Rattle.tk_ledger.specs.Index.{row_at, row_added, row_retired, is_at, IsClients, is_from, is_listed, IsConsents, IsWithdrawals, is_listed_revoked, IsRevocations}
+use Rattle.tk_ledger.specs.Index.{row_at, row_added, row_retired, is_at, IsClients, is_from}
+use Rattle.tk_ledger.specs.Index.{is_listed, IsConsents, IsWithdrawals}
 use Rattle.tk_ledger.specs.declared.client_rows.ClientRow.{ClientRow}
 use Rattle.tk_ledger.specs.declared.consent_keys.ConsentKey.{ConsentKey}
-use Rattle.tk_ledger.specs.declared.revocations.Revocation.{Revocation}
 use Rattle.tk_ledger.proofs.KeyLaws.{at_itself}
 use Rattle.tk_ledger.proofs.SameLaws.{same_dot-true}
 
@@ -36,7 +39,8 @@ pub retires-change : (q : Dot) (b : Body) → retires_in q b ≡ retires_of q (c
 retires-change q (ClientRetired f) = refl
 retires-change q body = refl
 
-gives-change : (client : Dot) (subject : List ℕ) (b : Body) → is_from client subject (given_in b) ≡ gives_to client subject (change_in b)
+gives-change : (client : Dot) (subject : List ℕ) (b : Body)
+    → is_from client subject (given_in b) ≡ gives_to client subject (change_in b)
 gives-change client subject (ConsentGiven f) = refl
 gives-change client subject body = refl
 
@@ -44,7 +48,8 @@ pub withdraws-change : (q : Dot) (b : Body) → withdraws_in q b ≡ withdraws_o
 withdraws-change q (ConsentWithdrawn f) = refl
 withdraws-change q body = refl
 
-pub revokes-change : (k : TokenId) (digest : List ℕ) (client : Dot) (b : Body) → revoked_by k digest client b ≡ revokes_of k digest client (change_in b)
+pub revokes-change : (k : TokenId) (digest : List ℕ) (client : Dot) (b : Body)
+    → revoked_by k digest client b ≡ revokes_of k digest client (change_in b)
 revokes-change k digest client (TokenRevoked f) = refl
 revokes-change k digest client body = refl
 
@@ -93,14 +98,17 @@ own_on d q a x at_f at_g free here there i = elim (cases_dots q d) [
 
 -- ---- clients
 
-pub added_on : (F G : FactSet) (d : Dot) (b : Body) (q : Dot) (x : Bool) → OneMore F G d b → x ≡ is_some (client_at F q) → ((adds (change_in b) && is_at d q) || x) ≡ is_some (client_at G q)
+pub added_on : (F G : FactSet) (d : Dot) (b : Body) (q : Dot) (x : Bool) → OneMore F G d b
+    → x ≡ is_some (client_at F q)
+    → ((adds (change_in b) && is_at d q) || x) ≡ is_some (client_at G q)
 added_on F G d b q x m i = own_on d q (adds (change_in b)) x (is_some (client_at F q)) (is_some (client_at G q))
     (λ same. ap (λ e. is_some (option_and_then added_in e)) (ap (map.get F) same ∙ m.free))
     (λ same. ap (λ e. is_some (option_and_then added_in e)) (ap (map.get G) same ∙ m.here) ∙ adds-change b)
     (λ ne. ap (λ e. is_some (option_and_then added_in e)) (m.there q ne))
     i
 
-pub clients_on : (F G : FactSet) (d : Dot) (b : Body) (t u : BTreeMap Dot ClientRow) → OneMore F G d b → IsClients F t
+pub clients_on : (F G : FactSet) (d : Dot) (b : Body) (t u : BTreeMap Dot ClientRow)
+    → OneMore F G d b → IsClients F t
     → ((q : Dot) → row_added (row_at u q) ≡ ((adds (change_in b) && is_at d q) || row_added (row_at t q)))
     → ((q : Dot) → row_retired (row_at u q) ≡ (retires_of q (change_in b) || row_retired (row_at t q)))
     → IsClients G u
@@ -111,7 +119,9 @@ clients_on F G d b t u m i a r = record {
 
 -- ---- consents
 
-pub given_on : (F G : FactSet) (d : Dot) (b : Body) (client : Dot) (subject : List ℕ) (q : Dot) (x : Bool) → OneMore F G d b → x ≡ is_from client subject (consent_at F q) → ((gives_to client subject (change_in b) && is_at d q) || x) ≡ is_from client subject (consent_at G q)
+pub given_on : (F G : FactSet) (d : Dot) (b : Body) (client : Dot) (subject : List ℕ) (q : Dot) (x : Bool)
+    → OneMore F G d b → x ≡ is_from client subject (consent_at F q)
+    → ((gives_to client subject (change_in b) && is_at d q) || x) ≡ is_from client subject (consent_at G q)
 given_on F G d b client subject q x m i = own_on d q (gives_to client subject (change_in b)) x (is_from client subject (consent_at F q)) (is_from client subject (consent_at G q))
     (λ same. ap (λ e. is_from client subject (option_and_then given_in e)) (ap (map.get F) same ∙ m.free))
     (λ same. ap (λ e. is_from client subject (option_and_then given_in e)) (ap (map.get G) same ∙ m.here) ∙ gives-change client subject b)
@@ -119,7 +129,8 @@ given_on F G d b client subject q x m i = own_on d q (gives_to client subject (c
     i
 
 -- a consent is withdrawn if the new fact withdraws it, or a fact before did
-pub withdrawn_on : (F G : FactSet) (d : Dot) (b : Body) (q : Dot) → OneMore F G d b → (withdraws_of q (change_in b) || is_withdrawn F q) ≡ is_withdrawn G q
+pub withdrawn_on : (F G : FactSet) (d : Dot) (b : Body) (q : Dot) → OneMore F G d b
+    → (withdraws_of q (change_in b) || is_withdrawn F q) ≡ is_withdrawn G q
 withdrawn_on F G d b q m = ap (λ x. x || is_withdrawn F q) (sym (withdraws-change q b)) ∙ sym (any_fact-more (withdraws q) F G d b m)
 
 -- each dot that is listed is in range
@@ -127,15 +138,18 @@ abbrev pub Ranged : BTreeSet ConsentKey → Type 0
 Ranged t = (client : Dot) (subject : List ℕ) (d : Dot) → is_listed t client subject d ≡ true → IsDot d
 
 -- a consent is live if it was given, now or before, and is not withdrawn, now or before
-live_on : (a f w v x given gone : Bool) → x ≡ (f && not w) → (a || f) ≡ given → (v || w) ≡ gone → (((a && not w) || x) && not v) ≡ (given && not gone)
+live_on : (a f w v x given gone : Bool) → x ≡ (f && not w) → (a || f) ≡ given → (v || w) ≡ gone
+    → (((a && not w) || x) && not v) ≡ (given && not gone)
 live_on a f w v x given gone i g n =
     ap (λ z. ((a && not w) || z) && not v) i ∙ spread a f w v ∙ ap (λ z. z && not (v || w)) g ∙ ap (λ z. given && not z) n
   where
-    spread : (a f w v : Bool) → (((a && not w) || (f && not w)) && not v) ≡ ((a || f) && not (v || w))
+    spread : (a f w v : Bool)
+        → (((a && not w) || (f && not w)) && not v) ≡ ((a || f) && not (v || w))
     spread a f true v = simp (and_no, or_yes)
     spread a f false v = simp (and_yes, or_no)
 
-pub consents_on : (F G : FactSet) (d : Dot) (b : Body) (t u : BTreeSet ConsentKey) → OneMore F G d b → IsConsents F t → Ranged u
+pub consents_on : (F G : FactSet) (d : Dot) (b : Body) (t u : BTreeSet ConsentKey) → OneMore F G d b
+    → IsConsents F t → Ranged u
     → ((client : Dot) (subject : List ℕ) (q : Dot) → is_listed u client subject q ≡ ((((gives_to client subject (change_in b) && is_at d q) && not (is_withdrawn F q)) || is_listed t client subject q) && not (withdraws_of q (change_in b))))
     → IsConsents G u
 consents_on F G d b t u m i ranged l = record {
@@ -154,15 +168,8 @@ ranged_on t u d n here before l client subject q h = elim (or_cases (n client su
   | inr old ↦ before client subject q old
 ]
 
-pub withdrawals_on : (F G : FactSet) (d : Dot) (b : Body) (t u : BTreeSet Dot) → OneMore F G d b → IsWithdrawals F t
+pub withdrawals_on : (F G : FactSet) (d : Dot) (b : Body) (t u : BTreeSet Dot) → OneMore F G d b
+    → IsWithdrawals F t
     → ((q : Dot) → contains dot_cmp u q ≡ (withdraws_of q (change_in b) || contains dot_cmp t q))
     → IsWithdrawals G u
 withdrawals_on F G d b t u m i w q = w q ∙ ap (λ x. withdraws_of q (change_in b) || x) (i q) ∙ withdrawn_on F G d b q m
-
--- ---- revocations
-
-pub revocations_on : (F G : FactSet) (d : Dot) (b : Body) (t u : BTreeSet Revocation) → OneMore F G d b → IsRevocations F t
-    → ((k : TokenId) (digest : List ℕ) (client : Dot) → is_listed_revoked u k digest client ≡ (revokes_of k digest client (change_in b) || is_listed_revoked t k digest client))
-    → IsRevocations G u
-revocations_on F G d b t u m i r k digest client = r k digest client ∙ ap (λ x. revokes_of k digest client (change_in b) || x) (i k digest client)
-    ∙ ap (λ x. x || is_revoked F k digest client) (sym (revokes-change k digest client b)) ∙ sym (any_fact-more (revokes k digest client) F G d b m)

@@ -35,7 +35,8 @@ use Rattle.tk_ledger.specs.SignOuts.{IsSignedOut, signs_out_in, signs_out, is_si
 use Rattle.tk_ledger.proofs.SameLaws.{same_dot-true, same_dot-false, same_dot-apart, same_dot-itself, same_token-true, same_token-itself, names_token-true, names_token-of, names_dot-true, names_dot-of}
 
 -- a value of a function on an option is that of a value in the option
-pub from_some : {A B : Type 0} (f : A → Option B) (o : Option A) (y : B) → option_and_then f o ≡ Some y → (x : A) × (o ≡ Some x) × (f x ≡ Some y)
+pub from_some : {A B : Type 0} (f : A → Option B) (o : Option A) (y : B)
+    → option_and_then f o ≡ Some y → (x : A) × (o ≡ Some x) × (f x ≡ Some y)
 from_some f None y h = absurd (nothing h)
   where
     nothing : ¬ (None ≡ Some y)
@@ -57,30 +58,36 @@ uses_agree (bodies.TokenRevoked f) = refl
 uses_agree (bodies.ReuseSeen f) = refl
 uses_agree (bodies.SubjectOut f) = refl
 
-pub links_at : (F : FactSet) (d : Dot) (b : Body) → map.get F d ≡ Some b → links_in (map.get F) d ≡ link_of b
+pub links_at : (F : FactSet) (d : Dot) (b : Body) → map.get F d ≡ Some b
+    → links_in (map.get F) d ≡ link_of b
 links_at F d b h = ap (option_and_then link_of) h
 
-use_at : (F : FactSet) (d : Dot) (b : Body) (k : TokenId) → map.get F d ≡ Some b → use_of (link_of b) ≡ Some k → use_of (links_in (map.get F) d) ≡ Some k
+use_at : (F : FactSet) (d : Dot) (b : Body) (k : TokenId) → map.get F d ≡ Some b
+    → use_of (link_of b) ≡ Some k → use_of (links_in (map.get F) d) ≡ Some k
 use_at F d b k held h = ap use_of (links_at F d b held) ∙ h
 
-use_from : (o : Option Body) (k : TokenId) → use_of (option_and_then link_of o) ≡ Some k → (b : Body) × (o ≡ Some b) × (use_of (link_of b) ≡ Some k)
+use_from : (o : Option Body) (k : TokenId) → use_of (option_and_then link_of o) ≡ Some k
+    → (b : Body) × (o ≡ Some b) × (use_of (link_of b) ≡ Some k)
 use_from None k h = absurd (nothing h)
   where
     nothing : ¬ (None ≡ Some k)
     nothing h = cc
 use_from (Some b) k h = (b, refl, h)
 
-pub is_used-sound : (F : FactSet) (k : TokenId) → is_used F k ≡ true → IsUsed (links_in (map.get F)) k
+pub is_used-sound : (F : FactSet) (k : TokenId) → is_used F k ≡ true
+    → IsUsed (links_in (map.get F)) k
 is_used-sound F k h =
     let x : Passing (uses k) F = any_fact-held (uses k) F h in
     record { user = x.dot; by = use_at F x.dot x.body k x.held (names_token-true (use_of (link_of x.body)) k x.passes) }
 
-pub is_used-complete : (F : FactSet) (k : TokenId) → IsUsed (links_in (map.get F)) k → is_used F k ≡ true
+pub is_used-complete : (F : FactSet) (k : TokenId) → IsUsed (links_in (map.get F)) k
+    → is_used F k ≡ true
 is_used-complete F k u =
     let x : (b : Body) × (map.get F u.user ≡ Some b) × (use_of (link_of b) ≡ Some k) = use_from (map.get F u.user) k u.by in
     any_fact-of (uses k) F u.user x.0 x.1 (names_token-of (use_of (link_of x.0)) k x.2)
 
-pub is_twice-sound : (F : FactSet) (k : TokenId) → is_twice F k ≡ true → IsTwice (links_in (map.get F)) k
+pub is_twice-sound : (F : FactSet) (k : TokenId) → is_twice F k ≡ true
+    → IsTwice (links_in (map.get F)) k
 is_twice-sound F k h =
     let x : Passing (uses_first F k) F = any_fact-held (uses_first F k) F h in
     let p = and_parts _ _ x.passes in
@@ -94,7 +101,8 @@ is_twice-sound F k h =
       by_two = use_at F y.dot y.body k y.held (names_token-true (use_of (link_of y.body)) k q.1);
     }
 
-pub is_twice-complete : (F : FactSet) (k : TokenId) → IsTwice (links_in (map.get F)) k → is_twice F k ≡ true
+pub is_twice-complete : (F : FactSet) (k : TokenId) → IsTwice (links_in (map.get F)) k
+    → is_twice F k ≡ true
 is_twice-complete F k t =
     let x : (b : Body) × (map.get F t.one ≡ Some b) × (use_of (link_of b) ≡ Some k) = use_from (map.get F t.one) k t.by_one in
     let y : (b : Body) × (map.get F t.two ≡ Some b) × (use_of (link_of b) ≡ Some k) = use_from (map.get F t.two) k t.by_two in
@@ -111,29 +119,35 @@ record Revoking (k : TokenId) (digest : List ℕ) (client : Dot) (b : Body) : Ty
   pub digested : revocation.digest ≡ digest
   pub by : revocation.client ≡ client
 
-revoking : (k : TokenId) (digest : List ℕ) (client : Dot) (b : Body) → revoked_by k digest client b ≡ true → Revoking k digest client b
+revoking : (k : TokenId) (digest : List ℕ) (client : Dot) (b : Body)
+    → revoked_by k digest client b ≡ true → Revoking k digest client b
 revoking k digest client (TokenRevoked x) h =
     let p = and_parts _ _ h in
     let q = and_parts _ _ p.1 in
     record { revocation = x; body = refl; token = same_token-true x.token k p.0; digested = (bytes_eq-Decides x.digest digest).0 q.0; by = same_dot-true x.client client q.1 }
 revoking k digest client body h = absurd (true≢false (sym h))
 
-pub is_revoked-sound : (F : FactSet) (k : TokenId) (digest : List ℕ) (client : Dot) → is_revoked F k digest client ≡ true → IsRevoked (map.get F) k digest client
+pub is_revoked-sound : (F : FactSet) (k : TokenId) (digest : List ℕ) (client : Dot)
+    → is_revoked F k digest client ≡ true → IsRevoked (map.get F) k digest client
 is_revoked-sound F k digest client h =
     let x : Passing (revokes k digest client) F = any_fact-held (revokes k digest client) F h in
     let r : Revoking k digest client x.body = revoking k digest client x.body x.passes in
     record { place = x.dot; revocation = r.revocation; held = x.held ∙ ap (λ (b : Body). Some b) r.body; token = r.token; digest_is = r.digested; client_is = r.by }
 
-pub is_revoked-complete : (F : FactSet) (k : TokenId) (digest : List ℕ) (client : Dot) → IsRevoked (map.get F) k digest client → is_revoked F k digest client ≡ true
+pub is_revoked-complete : (F : FactSet) (k : TokenId) (digest : List ℕ) (client : Dot)
+    → IsRevoked (map.get F) k digest client → is_revoked F k digest client ≡ true
 is_revoked-complete F k digest client r =
     any_fact-of (revokes k digest client) F r.place (TokenRevoked r.revocation) r.held
     (and_from _ _ (ap (λ (t : TokenId). is_same_token t k) r.token ∙ same_token-itself k)
     (and_from _ _ ((bytes_eq-Decides r.revocation.digest digest).1 r.digest_is) (ap (λ (d : Dot). is_same_dot d client) r.client_is ∙ same_dot-itself client)))
 
-pub root_at : (F : FactSet) (c : Dot) (o : Root) → root_of (map.get F) c ≡ Some o → (c ≡ o.code) × (issued_at (map.get F) o.code ≡ Some o.issued)
+pub root_at : (F : FactSet) (c : Dot) (o : Root) → root_of (map.get F) c ≡ Some o
+    → (c ≡ o.code) × (issued_at (map.get F) o.code ≡ Some o.issued)
 root_at F c o h = parts (issued_at (map.get F) c) refl h
   where
-    parts : (i : Option issued.CodeIssued) → issued_at (map.get F) c ≡ i → option_map (λ f. record { code = c; issued = f }) i ≡ Some o → (c ≡ o.code) × (issued_at (map.get F) o.code ≡ Some o.issued)
+    parts : (i : Option issued.CodeIssued) → issued_at (map.get F) c ≡ i
+        → option_map (λ f. record { code = c; issued = f }) i ≡ Some o
+        → (c ≡ o.code) × (issued_at (map.get F) o.code ≡ Some o.issued)
     parts None at h = absurd (nothing h)
       where
         nothing : ¬ (None ≡ Some o)
@@ -144,18 +158,23 @@ root_at F c o h = parts (issued_at (map.get F) c) refl h
         same h = cc
 
 -- the root that is found has the code that the dot is under, and the fact that issued that code
-pub root-sound : (F : FactSet) (d : Dot) (o : Root) → root_in (map.get F) d ≡ Some o → IsUnder (links_in (map.get F)) d o.code × (issued_at (map.get F) o.code ≡ Some o.issued)
+pub root-sound : (F : FactSet) (d : Dot) (o : Root) → root_in (map.get F) d ≡ Some o
+    → IsUnder (links_in (map.get F)) d o.code × (issued_at (map.get F) o.code ≡ Some o.issued)
 root-sound F d o h =
     let c : (c : Dot) × (code_in (map.get F) d ≡ Some c) × (root_of (map.get F) c ≡ Some o) = from_some (root_of (map.get F)) (code_in (map.get F) d) o h in
     let p = root_at F c.0 o c.2 in
     (subst (λ (x : Dot). IsUnder (links_in (map.get F)) d x) p.0 (code_of-sound (links_in (map.get F)) d c.0 c.1), p.1)
 
-pub root-complete : (F : FactSet) (d c : Dot) (code : issued.CodeIssued) → IsUnder (links_in (map.get F)) d c → issued_at (map.get F) c ≡ Some code → root_in (map.get F) d ≡ Some (record { code = c; issued = code })
+pub root-complete : (F : FactSet) (d c : Dot) (code : issued.CodeIssued)
+    → IsUnder (links_in (map.get F)) d c → issued_at (map.get F) c ≡ Some code
+    → root_in (map.get F) d ≡ Some (record { code = c; issued = code })
 root-complete F d c code under issues =
     ap (option_and_then (root_of (map.get F))) (code_of-complete (links_in (map.get F)) d c under)
     ∙ ap (option_map (λ (f : issued.CodeIssued). record { code = c; issued = f })) issues
 
-ended_by-sound : (F : FactSet) (k : TokenId) (m : Option MintedFields) (o : Option Root) → minted_in (map.get F) k ≡ m → root_in (map.get F) k.dot ≡ o → is_ended_by F k m o ≡ true → IsEnded (map.get F) k
+ended_by-sound : (F : FactSet) (k : TokenId) (m : Option MintedFields) (o : Option Root)
+    → minted_in (map.get F) k ≡ m → root_in (map.get F) k.dot ≡ o → is_ended_by F k m o ≡ true
+    → IsEnded (map.get F) k
 ended_by-sound F k None o i j h = absurd (true≢false (sym h))
 ended_by-sound F k (Some m) None i j h = absurd (true≢false (sym h))
 ended_by-sound F k (Some m) (Some o) i j h =
@@ -188,24 +207,28 @@ record SigningOut (subject : List ℕ) (moment : ℕ) (b : Body) : Type 0 where
   pub subject_is : sign_out.subject ≡ subject
   pub not_before : moment ≤ sign_out.moment
 
-signing_out : (subject : List ℕ) (moment : ℕ) (b : Body) → signs_out_in subject moment b ≡ true → SigningOut subject moment b
+signing_out : (subject : List ℕ) (moment : ℕ) (b : Body) → signs_out_in subject moment b ≡ true
+    → SigningOut subject moment b
 signing_out subject moment (bodies.SubjectOut x) h =
     let p = and_parts _ _ h in
     record { sign_out = x; body = refl; subject_is = (bytes_eq-Decides x.subject subject).0 p.0; not_before = leb-true moment x.moment p.1 }
 signing_out subject moment body h = absurd (true≢false (sym h))
 
-pub is_signed_out-sound : (F : FactSet) (subject : List ℕ) (moment : ℕ) → is_signed_out F subject moment ≡ true → IsSignedOut (map.get F) subject moment
+pub is_signed_out-sound : (F : FactSet) (subject : List ℕ) (moment : ℕ)
+    → is_signed_out F subject moment ≡ true → IsSignedOut (map.get F) subject moment
 is_signed_out-sound F subject moment h =
     let x : Passing (signs_out subject moment) F = any_fact-held (signs_out subject moment) F h in
     let s : SigningOut subject moment x.body = signing_out subject moment x.body x.passes in
     record { place = x.dot; sign_out = s.sign_out; held = x.held ∙ ap (λ (b : Body). Some b) s.body; subject_is = s.subject_is; not_before = s.not_before }
 
-pub is_signed_out-complete : (F : FactSet) (subject : List ℕ) (moment : ℕ) → IsSignedOut (map.get F) subject moment → is_signed_out F subject moment ≡ true
+pub is_signed_out-complete : (F : FactSet) (subject : List ℕ) (moment : ℕ)
+    → IsSignedOut (map.get F) subject moment → is_signed_out F subject moment ≡ true
 is_signed_out-complete F subject moment s =
     any_fact-of (signs_out subject moment) F s.place (bodies.SubjectOut s.sign_out) s.held
     (and_from _ _ ((bytes_eq-Decides s.sign_out.subject subject).1 s.subject_is) (le-leb moment s.sign_out.moment s.not_before))
 
-out_by-sound : (F : FactSet) (d : Dot) (o : Option issued.CodeIssued) → issued_at (map.get F) d ≡ o → is_out_by F o ≡ true → IsOut (map.get F) d
+out_by-sound : (F : FactSet) (d : Dot) (o : Option issued.CodeIssued) → issued_at (map.get F) d ≡ o
+    → is_out_by F o ≡ true → IsOut (map.get F) d
 out_by-sound F d None at h = absurd (true≢false (sym h))
 out_by-sound F d (Some code) at h = record { issued = code; issues = at; signed_out = is_signed_out-sound F code.subject code.start h }
 
@@ -217,7 +240,8 @@ is_out-complete F d o = ap (is_out_by F) o.issues ∙ is_signed_out-complete F o
 
 -- ---- marks
 
-reusing : (k : TokenId) (b : Body) → reuse_of k b ≡ true → (r : seen.ReuseSeen) × (b ≡ ReuseSeen r) × (r.token ≡ k)
+reusing : (k : TokenId) (b : Body) → reuse_of k b ≡ true
+    → (r : seen.ReuseSeen) × (b ≡ ReuseSeen r) × (r.token ≡ k)
 reusing k (ReuseSeen x) h = (x, refl, same_token-true x.token k h)
 reusing k body h = absurd (true≢false (sym h))
 
@@ -237,7 +261,8 @@ is_stopped-sound F k h = elim (or_cases (is_refresh k.kind && is_ended F k) (is_
   | inr gone ↦ let p = and_parts _ _ gone in inr (code_is k.kind p.0, is_out-sound F k.dot p.1)
 ]
 
-pub is_stopped-complete : (F : FactSet) (k : TokenId) → IsStopped (map.get F) k → is_stopped F k ≡ true
+pub is_stopped-complete : (F : FactSet) (k : TokenId) → IsStopped (map.get F) k
+    → is_stopped F k ≡ true
 is_stopped-complete F k (inl e) = or_left (is_refresh k.kind && is_ended F k) (is_code k.kind && is_out F k.dot) (and_from _ _ (ap is_refresh e.0) (is_ended-complete F k e.1))
 is_stopped-complete F k (inr o) = or_right (is_refresh k.kind && is_ended F k) (is_code k.kind && is_out F k.dot) (and_from _ _ (ap is_code o.0) (is_out-complete F k.dot o.1))
 
@@ -256,7 +281,8 @@ is_marked-complete F k (inr s) = or_right (is_reused F k) (is_stopped F k) (is_s
 
 -- ---- bad grants and dead families
 
-bad-sound : (F : FactSet) (d : Dot) (o : Option Link) → links_in (map.get F) d ≡ o → is_bad_grant F d o ≡ true → IsBad (links_in (map.get F)) (IsMarked (map.get F)) d
+bad-sound : (F : FactSet) (d : Dot) (o : Option Link) → links_in (map.get F) d ≡ o
+    → is_bad_grant F d o ≡ true → IsBad (links_in (map.get F)) (IsMarked (map.get F)) d
 bad-sound F d None at h = absurd (true≢false (sym h))
 bad-sound F d (Some l) at h = record {
   link = l;
@@ -267,13 +293,15 @@ bad-sound F d (Some l) at h = record {
   ];
 }
 
-bad-complete : (F : FactSet) (d : Dot) → IsBad (links_in (map.get F)) (IsMarked (map.get F)) d → is_bad_grant F d (links_in (map.get F) d) ≡ true
+bad-complete : (F : FactSet) (d : Dot) → IsBad (links_in (map.get F)) (IsMarked (map.get F)) d
+    → is_bad_grant F d (links_in (map.get F) d) ≡ true
 bad-complete F d b = ap (is_bad_grant F d) b.here ∙ (elim b.why [
   | inl marked ↦ or_left (is_marked F (grant_at d b.link)) (is_twice F (grant_at d b.link)) (is_marked-complete F (grant_at d b.link) marked)
   | inr twice ↦ or_right (is_marked F (grant_at d b.link)) (is_twice F (grant_at d b.link)) (is_twice-complete F (grant_at d b.link) twice)
 ])
 
-pub is_dead-sound : (F : FactSet) (c : Dot) → is_dead F c ≡ true → IsDead (links_in (map.get F)) (IsMarked (map.get F)) c
+pub is_dead-sound : (F : FactSet) (c : Dot) → is_dead F c ≡ true
+    → IsDead (links_in (map.get F)) (IsMarked (map.get F)) c
 is_dead-sound F c h =
     let x : Passing (kills F c) F = any_fact-held (kills F c) F h in
     let p = and_parts _ _ x.passes in
@@ -283,7 +311,8 @@ is_dead-sound F c h =
       bad = bad-sound F x.dot (link_of x.body) (links_at F x.dot x.body x.held) p.1;
     }
 
-pub is_dead-complete : (F : FactSet) (c : Dot) → IsDead (links_in (map.get F)) (IsMarked (map.get F)) c → is_dead F c ≡ true
+pub is_dead-complete : (F : FactSet) (c : Dot)
+    → IsDead (links_in (map.get F)) (IsMarked (map.get F)) c → is_dead F c ≡ true
 is_dead-complete F c x =
     let y : (b : Body) × (map.get F x.member ≡ Some b) × (link_of b ≡ Some x.bad.link) = from_some link_of (map.get F x.member) x.bad.link x.bad.here in
     any_fact-of (kills F c) F x.member y.0 y.1 (and_from _ _
@@ -292,19 +321,24 @@ is_dead-complete F c x =
 
 -- ---- more facts
 
-below-and_then : {B : Type 0} (f : Body → Option B) (F G : FactSet) → IsSubset F G → (d : Dot) (y : B) → option_and_then f (map.get F d) ≡ Some y → option_and_then f (map.get G d) ≡ Some y
+below-and_then : {B : Type 0} (f : Body → Option B) (F G : FactSet) → IsSubset F G
+    → (d : Dot) (y : B) → option_and_then f (map.get F d) ≡ Some y
+    → option_and_then f (map.get G d) ≡ Some y
 below-and_then f F G w d y h =
     let x : (b : Body) × (map.get F d ≡ Some b) × (f b ≡ Some y) = from_some f (map.get F d) y h in
     ap (option_and_then f) (w d x.0 x.1) ∙ x.2
 
-pub links-below : (F G : FactSet) → IsSubset F G → LinksWithin (links_in (map.get F)) (links_in (map.get G))
+pub links-below : (F G : FactSet) → IsSubset F G
+    → LinksWithin (links_in (map.get F)) (links_in (map.get G))
 links-below F G w d l h = below-and_then link_of F G w d l h
 
-pub minted-below : (F G : FactSet) → IsSubset F G → (k : TokenId) (m : MintedFields) → minted_in (map.get F) k ≡ Some m → minted_in (map.get G) k ≡ Some m
+pub minted-below : (F G : FactSet) → IsSubset F G → (k : TokenId) (m : MintedFields)
+    → minted_in (map.get F) k ≡ Some m → minted_in (map.get G) k ≡ Some m
 minted-below F G w k m h = below-and_then (λ b. minted_of b k.kind) F G w k.dot m h
 
 -- a token that its client revoked stays revoked
-pub IsEnded-below : (F G : FactSet) → IsSubset F G → (k : TokenId) → IsEnded (map.get F) k → IsEnded (map.get G) k
+pub IsEnded-below : (F G : FactSet) → IsSubset F G → (k : TokenId) → IsEnded (map.get F) k
+    → IsEnded (map.get G) k
 IsEnded-below F G w k e = record {
   minted = e.minted;
   code = e.code;
@@ -323,26 +357,35 @@ IsEnded-below F G w k e = record {
 }
 
 -- a subject that signed out stays signed out
-pub IsSignedOut-below : (F G : FactSet) → IsSubset F G → (subject : List ℕ) (moment : ℕ) → IsSignedOut (map.get F) subject moment → IsSignedOut (map.get G) subject moment
+pub IsSignedOut-below : (F G : FactSet) → IsSubset F G → (subject : List ℕ) (moment : ℕ)
+    → IsSignedOut (map.get F) subject moment → IsSignedOut (map.get G) subject moment
 IsSignedOut-below F G w subject moment s = record { place = s.place; sign_out = s.sign_out; held = w s.place (bodies.SubjectOut s.sign_out) s.held; subject_is = s.subject_is; not_before = s.not_before }
 
-pub IsOut-below : (F G : FactSet) → IsSubset F G → (d : Dot) → IsOut (map.get F) d → IsOut (map.get G) d
+pub IsOut-below : (F G : FactSet) → IsSubset F G → (d : Dot) → IsOut (map.get F) d
+    → IsOut (map.get G) d
 IsOut-below F G w d o = record { issued = o.issued; issues = below-and_then issued_in F G w d o.issued o.issues; signed_out = IsSignedOut-below F G w o.issued.subject o.issued.start o.signed_out }
 
-IsStopped-below : (F G : FactSet) → IsSubset F G → (k : TokenId) → IsStopped (map.get F) k → IsStopped (map.get G) k
+IsStopped-below : (F G : FactSet) → IsSubset F G → (k : TokenId) → IsStopped (map.get F) k
+    → IsStopped (map.get G) k
 IsStopped-below F G w k (inl e) = inl (e.0, IsEnded-below F G w k e.1)
 IsStopped-below F G w k (inr o) = inr (o.0, IsOut-below F G w k.dot o.1)
 
-pub IsMarked-below : (F G : FactSet) → IsSubset F G → (k : TokenId) → IsMarked (map.get F) k → IsMarked (map.get G) k
+pub IsMarked-below : (F G : FactSet) → IsSubset F G → (k : TokenId) → IsMarked (map.get F) k
+    → IsMarked (map.get G) k
 IsMarked-below F G w k (inl r) = inl (record { place = r.place; reuse = r.reuse; held = w r.place (ReuseSeen r.reuse) r.held; token = r.token })
 IsMarked-below F G w k (inr s) = inr (IsStopped-below F G w k s)
 
-pub marks-below : (F G : FactSet) → IsSubset F G → MarksWithin (IsMarked (map.get F)) (IsMarked (map.get G))
+pub marks-below : (F G : FactSet) → IsSubset F G
+    → MarksWithin (IsMarked (map.get F)) (IsMarked (map.get G))
 marks-below F G w k h = IsMarked-below F G w k h
 
 -- a bad grant stays bad, and a dead family dead
-pub IsBad-below : (F G : FactSet) → IsSubset F G → (d : Dot) → IsBad (links_in (map.get F)) (IsMarked (map.get F)) d → IsBad (links_in (map.get G)) (IsMarked (map.get G)) d
+pub IsBad-below : (F G : FactSet) → IsSubset F G → (d : Dot)
+    → IsBad (links_in (map.get F)) (IsMarked (map.get F)) d
+    → IsBad (links_in (map.get G)) (IsMarked (map.get G)) d
 IsBad-below F G w d b = IsBad-within (links_in (map.get F)) (links_in (map.get G)) (IsMarked (map.get F)) (IsMarked (map.get G)) (links-below F G w) (marks-below F G w) d b
 
-pub IsDead-below : (F G : FactSet) → IsSubset F G → (c : Dot) → IsDead (links_in (map.get F)) (IsMarked (map.get F)) c → IsDead (links_in (map.get G)) (IsMarked (map.get G)) c
+pub IsDead-below : (F G : FactSet) → IsSubset F G → (c : Dot)
+    → IsDead (links_in (map.get F)) (IsMarked (map.get F)) c
+    → IsDead (links_in (map.get G)) (IsMarked (map.get G)) c
 IsDead-below F G w c x = IsDead-within (links_in (map.get F)) (links_in (map.get G)) (IsMarked (map.get F)) (IsMarked (map.get G)) (links-below F G w) (marks-below F G w) c x

@@ -4,8 +4,11 @@
 --   wakes_none, wakes_then     the marks at no dot, and at more dots
 --   wakes_more, wakes_whole    the loop over dots
 --   wakes_rest                 the loop over codes
-use Rattle.std.proofs.Common.{◌≡◌, ◌⊎◌, inl, inr, ℕ, ◌+◌, ◌<◌, ◌≤◌, Bool, true, false, ◌&&◌, ◌||◌, not, cond, List, [], ◌∷◌, ◌++◌, get_or, take, length, Some, is_some, Result, Ok, OnOk, refl, sym, ap, subst, ◌∙◌}
-use Rattle.std.proofs.lemmas.Bool.{true≢false, cases_Bool, false_from_ne_true, cond-true, cond-false}
+use Rattle.std.proofs.Common.{◌≡◌, ◌⊎◌, inl, inr, ℕ, ◌+◌, ◌<◌, ◌≤◌, Bool, true, false, ◌&&◌, ◌||◌}
+use Rattle.std.proofs.Common.{not, cond, List, [], ◌∷◌, ◌++◌, get_or, take, length, Some, is_some}
+use Rattle.std.proofs.Common.{Result, Ok, OnOk, refl, sym, ap, subst, ◌∙◌}
+use Rattle.std.proofs.lemmas.Bool.{true≢false, cases_Bool, false_from_ne_true, cond-true}
+use Rattle.std.proofs.lemmas.Bool.{cond-false}
 use Rattle.std.proofs.lemmas.List.{take_more, take_all}
 use Rattle.std.specs.FinMap as map
 use Rattle.std.specs.FinSet as set
@@ -50,12 +53,16 @@ less_cond true b = refl
 less_cond false b = refl
 
 -- the marks after one more, and after one less
-pub mark_set : (x y : ForestFacts) (j : TokenId) (m : Bool) → m ≡ true → y.marks ≡ set.insert x.marks j → (k : TokenId) → set.contains y.marks k ≡ cond (is_same_token j k) m (set.contains x.marks k)
+pub mark_set : (x y : ForestFacts) (j : TokenId) (m : Bool) → m ≡ true
+    → y.marks ≡ set.insert x.marks j → (k : TokenId)
+    → set.contains y.marks k ≡ cond (is_same_token j k) m (set.contains x.marks k)
 mark_set x y j m is new k =
     mark_put x.marks y.marks j new k ∙ ap (λ b. b || set.contains x.marks k) (token_tied j k)
     ∙ or_cond (is_same_token j k) (set.contains x.marks k) ∙ ap (λ b. cond (is_same_token j k) b (set.contains x.marks k)) (sym is)
 
-pub mark_cleared : (x y : ForestFacts) (j : TokenId) (m : Bool) → m ≡ false → y.marks ≡ set.remove x.marks j → (k : TokenId) → set.contains y.marks k ≡ cond (is_same_token j k) m (set.contains x.marks k)
+pub mark_cleared : (x y : ForestFacts) (j : TokenId) (m : Bool) → m ≡ false
+    → y.marks ≡ set.remove x.marks j → (k : TokenId)
+    → set.contains y.marks k ≡ cond (is_same_token j k) m (set.contains x.marks k)
 mark_cleared x y j m is new k =
     ap (λ (s : set.FinSet token_cmp). set.contains s k) new ∙ set.contains-remove tokens_total x.marks j k
     ∙ ap (λ b. not b && set.contains x.marks k) (token_tied j k)
@@ -75,7 +82,8 @@ elsewhere : (j k : TokenId) → dot_eq k.dot j.dot ≡ false → is_same_token j
 elsewhere j k apart = false_from_ne_true (is_same_token j k) (λ h. true≢false (sym (at_itself k.dot) ∙ ap (λ (t : TokenId). dot_eq k.dot t.dot) (sym (same_token-true j k h)) ∙ apart))
 
 -- the marks of the code and the refresh token of a dot were written
-pub wakes_both : (F : FactSet) (x y z : ForestFacts) (d : Dot) → y.links ≡ x.links → z.links ≡ y.links
+pub wakes_both : (F : FactSet) (x y z : ForestFacts) (d : Dot) → y.links ≡ x.links
+    → z.links ≡ y.links
     → ((k : TokenId) → set.contains y.marks k ≡ cond (is_same_token (record { dot = d; kind = kind.Code }) k) (is_marked F (record { dot = d; kind = kind.Code })) (set.contains x.marks k))
     → ((k : TokenId) → set.contains z.marks k ≡ cond (is_same_token (record { dot = d; kind = kind.Refresh }) k) (is_marked F (record { dot = d; kind = kind.Refresh })) (set.contains y.marks k))
     → Wakes F x (λ q. dot_eq q d) z
@@ -94,11 +102,14 @@ wakes_both F x y z d first second code refresh = record {
     written (Rotates p g) = written_refresh
 
 -- the links of a forest, as a whole
-pub links_path : (F : FactSet) (x : ForestFacts) → ((q : Dot) → map.get x.links q ≡ links_in (map.get F) q) → links_at x ≡ links_in (map.get F)
+pub links_path : (F : FactSet) (x : ForestFacts)
+    → ((q : Dot) → map.get x.links q ≡ links_in (map.get F) q) → links_at x ≡ links_in (map.get F)
 links_path F x h = λ i q. h q i
 
 -- no grant at a dot that is under no code is in a family
-pub wakes_apart : (F : FactSet) (x : ForestFacts) (d : Dot) → ((q : Dot) → map.get x.links q ≡ links_in (map.get F) q) → is_some (code_of (links_at x) d) ≡ false → Wakes F x (λ q. dot_eq q d) x
+pub wakes_apart : (F : FactSet) (x : ForestFacts) (d : Dot)
+    → ((q : Dot) → map.get x.links q ≡ links_in (map.get F) q)
+    → is_some (code_of (links_at x) d) ≡ false → Wakes F x (λ q. dot_eq q d) x
 wakes_apart F x d same none = record {
   links = refl;
   here = λ q c l at _ under. absurd (true≢false (sym (ap is_some (code_of-complete (links_in (map.get F)) q c under))
@@ -114,7 +125,8 @@ pub wakes_none : (F : FactSet) (x : ForestFacts) → Wakes F x (λ _. false) x
 wakes_none F x = record { links = refl; here = λ q c l at _ _. absurd (true≢false (sym at)); there = λ _ _. refl }
 
 -- the marks at the same dots were written
-pub wakes_as : (F : FactSet) (x y : ForestFacts) (a b : Dot → Bool) → ((q : Dot) → b q ≡ a q) → Wakes F x a y → Wakes F x b y
+pub wakes_as : (F : FactSet) (x y : ForestFacts) (a b : Dot → Bool) → ((q : Dot) → b q ≡ a q)
+    → Wakes F x a y → Wakes F x b y
 wakes_as F x y a b same w = record { links = w.links; here = λ q c l at. w.here q c l (sym (same q) ∙ at); there = λ k apart. w.there k (sym (same k.dot) ∙ apart) }
 
 neither : (a b : Bool) → (a || b) ≡ false → (a ≡ false) × (b ≡ false)
@@ -122,14 +134,16 @@ neither true b h = absurd (true≢false h)
 neither false b h = (refl, h)
 
 -- the marks at some dots were written, and then those at others
-pub wakes_then : (F : FactSet) (x y z : ForestFacts) (a b : Dot → Bool) → Wakes F x a y → Wakes F y b z → Wakes F x (λ q. b q || a q) z
+pub wakes_then : (F : FactSet) (x y z : ForestFacts) (a b : Dot → Bool) → Wakes F x a y
+    → Wakes F y b z → Wakes F x (λ q. b q || a q) z
 wakes_then F x y z a b first second = record {
   links = second.links ∙ first.links;
   here = λ q c l at link under. by_test q c l at link under (cases_Bool (b q));
   there = λ k apart. (let both = neither (b k.dot) (a k.dot) apart in second.there k both.0 ∙ first.there k both.1);
 }
   where
-    by_test : (q c : Dot) (l : Link) → (b q || a q) ≡ true → links_in (map.get F) q ≡ Some l → IsUnder (links_in (map.get F)) q c
+    by_test : (q c : Dot) (l : Link) → (b q || a q) ≡ true → links_in (map.get F) q ≡ Some l
+        → IsUnder (links_in (map.get F)) q c
         → (b q ≡ true) ⊎ (b q ≡ false) → set.contains z.marks (grant_at q l) ≡ is_marked F (grant_at q l)
     by_test q c l at link under (inl now) = second.here q c l now link under
     by_test q c l at link under (inr apart) =
@@ -137,7 +151,9 @@ wakes_then F x y z a b first second = record {
         ∙ first.here q c l (sym (ap (λ t. t || a q) apart) ∙ at) link under
 
 -- the marks at one more dot of a list were written
-pub wakes_more : (F : FactSet) (x y z : ForestFacts) (ds : List Dot) (i : ℕ) (e d : Dot) → i < length ds → d ≡ get_or ds i e → Wakes F x (has (take i ds)) y → Wakes F y (λ q. dot_eq q d) z → Wakes F x (has (take (i + 1) ds)) z
+pub wakes_more : (F : FactSet) (x y z : ForestFacts) (ds : List Dot) (i : ℕ) (e d : Dot)
+    → i < length ds → d ≡ get_or ds i e → Wakes F x (has (take i ds)) y
+    → Wakes F y (λ q. dot_eq q d) z → Wakes F x (has (take (i + 1) ds)) z
 wakes_more F x y z ds i e d lt is first second =
     wakes_as F x z (λ q. dot_eq q d || has (take i ds) q) (has (take (i + 1) ds))
     (λ q. ap (λ xs. has xs q) (take_more ds i e lt) ∙ has_push q (take i ds) (get_or ds i e) ∙ ap (λ (p : Dot). dot_eq q p || has (take i ds) q) (sym is))
@@ -153,11 +169,14 @@ wakes_more F x y z ds i e d lt is first second =
     has_push q (o ∷ xs) p = ap (λ t. dot_eq q o || t) (has_push q xs p) ∙ swap (dot_eq q o) (dot_eq q p) (has xs q)
 
 -- the marks at all dots of a list were written
-pub wakes_whole : (F : FactSet) (x y : ForestFacts) (ds : List Dot) (i : ℕ) → length ds ≤ i → Wakes F x (has (take i ds)) y → Wakes F x (has ds) y
+pub wakes_whole : (F : FactSet) (x y : ForestFacts) (ds : List Dot) (i : ℕ) → length ds ≤ i
+    → Wakes F x (has (take i ds)) y → Wakes F x (has ds) y
 wakes_whole F x y ds i end w = subst (λ (xs : List Dot). Wakes F x (has xs) y) (take_all i ds end) w
 
 -- if the marks at the first of some codes were written, those at the rest are left
-pub wakes_rest : (F : FactSet) (x y z : ForestFacts) (e : CodeKey) (rest : List CodeKey) → Wakes F x (λ q. dot_eq q e.code) y → Wakes F y (has (dots_of rest)) z → Wakes F x (has (dots_of (e ∷ rest))) z
+pub wakes_rest : (F : FactSet) (x y z : ForestFacts) (e : CodeKey) (rest : List CodeKey)
+    → Wakes F x (λ q. dot_eq q e.code) y → Wakes F y (has (dots_of rest)) z
+    → Wakes F x (has (dots_of (e ∷ rest))) z
 wakes_rest F x y z e rest first second =
     wakes_as F x z (λ q. has (dots_of rest) q || dot_eq q e.code) (has (dots_of (e ∷ rest))) (λ q. turn (dot_eq q e.code) (has (dots_of rest) q))
     (wakes_then F x y z (λ q. dot_eq q e.code) (has (dots_of rest)) first second)

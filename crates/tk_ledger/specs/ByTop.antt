@@ -32,7 +32,7 @@ use Rattle.tk_fact.specs.declared.code_issued.CodeIssued as issued
 use Rattle.tk_store.specs.FactSet.{FactSet}
 use Rattle.tk_ledger.specs.Bodies.{Bodies}
 use Rattle.tk_ledger.specs.Clients.{is_live_client, is_live_consent}
-use Rattle.tk_ledger.specs.Index.{is_listed_revoked}
+use Rattle.tk_ledger.specs.Index.{has_revocation}
 use Rattle.tk_ledger.specs.StandingFields.{StandingFields}
 use Rattle.tk_ledger.specs.Status.{generation_of}
 use Rattle.tk_ledger.specs.Tokens.{Root, root_of, code_in, is_dead, is_used, is_revoked}
@@ -57,7 +57,7 @@ root_by body_at code = option_and_then (root_of body_at) code
 abbrev pub ended_in : BTreeSet Revocation → TokenId → Option MintedFields → Option Root → Bool
 ended_in t k None root = false
 ended_in t k (Some minted) None = false
-ended_in t k (Some minted) (Some root) = is_listed_revoked t k minted.digest root.issued.client
+ended_in t k (Some minted) (Some root) = has_revocation t k minted.digest root.issued.client
 
 -- the top of the dot has the code that the dot is under, and whether that code's family is dead
 abbrev pub TopSays : FactSet → Dot → Top → Type 0

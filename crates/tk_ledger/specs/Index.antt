@@ -4,6 +4,7 @@
 --   is_live_from                       a live consent to a client, by the digest of its subject
 --   is_key_at                          a key is that of the consent at a dot
 --   revocation_cmp, revocation_key     the keys of revocations, and their order
+--   revocation_keys, has_revocation    the keys of one token and client, and whether there is one
 --   IsClients, IsConsents, IsWithdrawals, IsRevocations
 --                                      each table has what the set has
 --   code_cmp, code_key                 the keys of codes, and their order
@@ -66,7 +67,7 @@ use Rattle.tk_store.specs.FactSet.{FactSet}
 use Rattle.tk_ledger.specs.Bodies.{is_same_dot}
 use Rattle.tk_ledger.specs.Clients.{client_at, is_retired, consent_at, is_withdrawn}
 use Rattle.tk_ledger.specs.SignOuts.{sign_out_at}
-use Rattle.tk_ledger.specs.Tokens.{links_in, issued_at, is_revoked, reuse_of, is_marked}
+use Rattle.tk_ledger.specs.Tokens.{links_in, issued_at, revoked_by, reuse_of, is_marked}
 use Rattle.tk_ledger.specs.declared.client_rows.ClientRow.{ClientRow}
 use Rattle.tk_ledger.specs.declared.consent_keys.ConsentKey.{ConsentKey}
 use Rattle.tk_ledger.specs.declared.reuses.ReuseKey.{ReuseKey}
@@ -155,27 +156,46 @@ IsWithdrawals F t = (q : Dot) → keys.contains dot_cmp t q ≡ is_withdrawn F q
 
 -- ---- revocations
 
--- the order of revocations: by token, then by its digest, then by the client
+-- the order of revocations: by token, then by its digest, then by the client, then by the dot of
+-- the fact
 abbrev pub revocation_cmp : Revocation → Revocation → Ordering
 revocation_cmp a b =
     ordering_then (dot_cmp a.dot b.dot)
     (ordering_then (nat_cmp a.kind b.kind) (ordering_then (slice_cmp nat_cmp a.digest b.digest)
-    (dot_cmp a.client b.client)))
+    (ordering_then (dot_cmp a.client b.client) (dot_cmp a.place b.place))))
 
 -- the key of a revocation
-abbrev pub revocation_key : TokenId → List ℕ → Dot → Revocation
-revocation_key k digest client =
-    record { dot = k.dot; kind = kind_number k.kind; digest = digest; client = client }
+abbrev pub revocation_key : TokenId → List ℕ → Dot → Dot → Revocation
+revocation_key k digest client d =
+    record { dot = k.dot; kind = kind_number k.kind; digest = digest; client = client; place = d }
+
+-- the keys of the revocations, by the client, of the token with the digest
+abbrev pub revocation_keys : BTreeSet Revocation → TokenId → List ℕ → Dot → List Revocation
+revocation_keys t k digest client =
+    keys.keys_between revocation_cmp (Included (revocation_key k digest client least_dot))
+    (Included (revocation_key k digest client greatest_dot)) t
 
 -- the table has that the client revoked the token with the digest
-abbrev pub is_listed_revoked : BTreeSet Revocation → TokenId → List ℕ → Dot → Bool
-is_listed_revoked t k digest client =
-    keys.contains revocation_cmp t (revocation_key k digest client)
+abbrev pub has_revocation : BTreeSet Revocation → TokenId → List ℕ → Dot → Bool
+has_revocation t k digest client = list_any (λ e. true) (revocation_keys t k digest client)
 
--- the table has each revocation, and no other
-abbrev pub IsRevocations : FactSet → BTreeSet Revocation → Type 0
-IsRevocations F t = (k : TokenId) (digest : List ℕ) (client : Dot)
-    → is_listed_revoked t k digest client ≡ is_revoked F k digest client
+-- there is a body, and it is that the client revoked the token with the digest
+abbrev pub is_revocation_of : TokenId → List ℕ → Dot → Option Body → Bool
+is_revocation_of k digest client None = false
+is_revocation_of k digest client (Some b) = revoked_by k digest client b
+
+-- the table has that by the fact at the dot the client revoked the token with the digest
+abbrev pub is_listed_revocation : BTreeSet Revocation → TokenId → List ℕ → Dot → Dot → Bool
+is_listed_revocation t k digest client d =
+    keys.contains revocation_cmp t (revocation_key k digest client d)
+
+-- the table has each revocation, under its token, digest and client and the dot of its fact, and no
+-- other
+pub record IsRevocations (F : FactSet) (t : BTreeSet Revocation) : Type 0 where
+  pub listed : (k : TokenId) (digest : List ℕ) (client d : Dot)
+      → is_listed_revocation t k digest client d ≡ is_revocation_of k digest client (map.get F d)
+  pub ranged : (k : TokenId) (digest : List ℕ) (client d : Dot)
+      → is_listed_revocation t k digest client d ≡ true → IsDot d
 
 -- ---- codes and sign-outs
 

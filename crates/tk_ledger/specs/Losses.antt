@@ -12,10 +12,11 @@ use Rattle.tk_ledger.specs.declared.change.Change.{Change}
 use Rattle.tk_ledger.specs.declared.change.Change.TheVariants as change
 use Rattle.tk_ledger.specs.declared.index.Index.{Index}
 
--- the change issues a code, redeems one, rotates a refresh token, or is a reuse
+-- the change issues a code, redeems one, rotates a refresh token, revokes a token, or is a reuse
 abbrev pub passes : Change → Bool
 passes (change.Issue subject start) = true
 passes (change.Put link) = true
+passes (change.Revoke f) = true
 passes (change.Mark token) = true
 passes other = false
 

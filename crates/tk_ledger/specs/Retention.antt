@@ -1,14 +1,16 @@
 -- Which facts may be skipped: those of families that are over (own).
---   IsTokenUnder           a token was minted, and is under a code
---   MaySkip, may_skip      the fact at a dot is kept for a token of a family that is over
---   is_over                a token was minted, and its family is over
+--   IsOverAt               the family that a dot is in is over
+--   MintsNothing           the fact at a dot mints no token
+--   MaySkip, may_skip      the fact at a dot is kept for a token of a family that is over, or for
+--                          one that can't come any more
+--   is_over                the family of a token is over, or the token can't come any more
 --   picked, dots_over      the dots of all facts that may be skipped, codes first
 --   Prunes                 the store after a prune
 --   SkipsAll, AllMayGo     the store after some dots were skipped, which may go
 use Rattle.std.specs.Prelude.{
   map as map_list,
   ◌≡◌,
-  ◌≢◌,
+  ◌||◌,
   ◌≤◌,
   ◌+◌,
   ◌++◌,
@@ -40,23 +42,30 @@ use Rattle.tk_store.specs.Skipping.{MayGo}
 use Rattle.tk_store.specs.Slots.{Skipped}
 use Rattle.tk_store.specs.StoreFields.{StoreFields, held_facts}
 use Rattle.tk_ledger.specs.Bodies.{Bodies}
-use Rattle.tk_ledger.specs.Tokens.{links_in, issued_in, issued_at, minted_in, Root, root_in}
+use Rattle.tk_ledger.specs.Tokens.{link_of, links_in, issued_in, issued_at, Root, root_in}
 
--- the token was minted, and is under the code
-abbrev pub IsTokenUnder : Bodies → TokenId → Dot → Type 0
-IsTokenUnder body_at k c = (minted_in body_at k ≢ None) × IsUnder (links_in body_at) k.dot c
+-- the family that the dot is in is over at the horizon
+pub record IsOverAt (body_at : Bodies) (horizon : ℕ) (d : Dot) : Type 0 where
+  pub root : Dot
+  pub under : IsUnder (links_in body_at) d root
+  pub code : issued.CodeIssued
+  pub issues : issued_at body_at root ≡ Some code
+  pub over : code.family_end ≤ horizon
 
--- the fact at the dot is kept for a token of a family that is over at the horizon
+-- a fact is at the dot, and it mints no token: none with the dot can come any more
+pub record MintsNothing (body_at : Bodies) (d : Dot) : Type 0 where
+  pub fact : Body
+  pub here : body_at d ≡ Some fact
+  pub barren : link_of fact ≡ None
+
+-- the fact at the dot is kept for a token of a family that is over at the horizon, or for one that
+-- can't come any more
 pub record MaySkip (body_at : Bodies) (horizon : ℕ) (d : Dot) : Type 0 where
   pub fact : Body
   pub here : body_at d ≡ Some fact
   pub token : TokenId
   pub kept : kept_for d fact ≡ Some token
-  pub root : Dot
-  pub under : IsTokenUnder body_at token root
-  pub code : issued.CodeIssued
-  pub issues : issued_at body_at root ≡ Some code
-  pub over : code.family_end ≤ horizon
+  pub why : IsOverAt body_at horizon token.dot ⊎ MintsNothing body_at token.dot
 
 -- ---- the test
 
@@ -65,17 +74,23 @@ abbrev pub is_over_by : ℕ → Option Root → Bool
 is_over_by horizon None = false
 is_over_by horizon (Some root) = nat_le root.issued.family_end horizon
 
--- the token was minted, and is of a family that is over at the horizon
+-- there is a body, and it mints no token
+abbrev pub mints_nothing : Option Body → Bool
+mints_nothing None = false
+mints_nothing (Some body) = not (is_some (link_of body))
+
+-- the token is of a family that is over at the horizon, or can't come any more
 abbrev pub is_over : FactSet → ℕ → TokenId → Bool
 is_over F horizon k =
-    is_some (minted_in (map.get F) k) && is_over_by horizon (root_in (map.get F) k.dot)
+    mints_nothing (map.get F k.dot) || is_over_by horizon (root_in (map.get F) k.dot)
 
--- there is a token, and it is of a family that is over at the horizon
+-- there is a token, and it is of a family that is over at the horizon, or can't come any more
 abbrev pub is_any_over : FactSet → ℕ → Option TokenId → Bool
 is_any_over F horizon None = false
 is_any_over F horizon (Some k) = is_over F horizon k
 
--- the fact is kept for a token of a family that is over at the horizon: the test
+-- the fact is kept for a token of a family that is over at the horizon, or for one that can't come
+-- any more: the test
 abbrev pub may_skip : FactSet → ℕ → Dot × Body → Bool
 may_skip F horizon f = is_any_over F horizon (kept_for f.0 f.1)
 

@@ -206,6 +206,7 @@ fn revoke_token(
         &fact.token,
         &fact.digest,
         fact.client,
+        dot,
     ) {
         Ok(()) => {
             wake(

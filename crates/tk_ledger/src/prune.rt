@@ -102,7 +102,8 @@ impl Ledger {
     }
 
     /// Raises the horizon to the moment, and skips all facts that are kept for a token of a family
-    /// that is over then. Returns the number of facts that went.
+    /// that is over then, or for one that can't come any more. Returns the number of facts that
+    /// went.
     ///
     /// Costs O(n log n) for n facts. If memory for the list of their dots runs out, the
     /// ledger is unchanged.

@@ -1,17 +1,17 @@
 //! The facts of families that are over, which may be skipped.
 
-ghost use Rattle.std.specs.Prelude.{◌≡◌, ◌++◌, true, IfOk, OnOk};
+ghost use Rattle.std.specs.Prelude.{◌≡◌, ◌++◌, true, is_some, IfOk, OnOk};
 ghost use Rattle.std.specs.FinMap as map;
 ghost use Rattle.tk_handle.specs.declared.dot.Dot.{Dot as the_dot};
 ghost use Rattle.tk_family.specs.Dots.{has};
 ghost use Rattle.tk_store.specs.StoreFields.{held_facts};
 ghost use Rattle.tk_ledger.specs.Retention as spec;
-ghost use Rattle.tk_ledger.specs.Tokens.{links_in};
+ghost use Rattle.tk_ledger.specs.Tokens.{link_of, links_in};
 
-use crate::looks::{issued_in, minted_at, root_above};
+use crate::looks::{issued_in, root_above};
 use crate::root::Root;
 use std::alloc::{AllocError, Global};
-use tk_fact::Fact;
+use tk_fact::{Body, Fact};
 use tk_family::Forest;
 use tk_handle::{Dot, Moment, TokenId};
 use tk_store::FactStore;
@@ -26,16 +26,37 @@ fn is_over_by(horizon: Moment, root: &Option<Root<'_>>) -> bool
     }
 }
 
-// Returns whether the token was minted, and is of a family that is over at the horizon.
+// Returns whether a fact with the body mints a token.
+fn mints(body: &Body) -> bool
+    ensures { result ≡ is_some (link_of body.now) }
+{
+    match body {
+        Body::CodeIssued(_) | Body::CodeRedeemed(_) | Body::RefreshRotated(_) => true,
+        _ => false,
+    }
+}
+
+// Returns whether a fact is at the dot, and mints no token.
+fn mints_nothing(facts: &FactStore, dot: Dot) -> bool
+    ensures { result ≡ spec.mints_nothing (map.get (held_facts facts.now) dot) }
+{
+    match facts.get(dot) {
+        Some(fact) => !mints(&fact.body),
+        None => false,
+    }
+}
+
+// Returns whether the token is of a family that is over at the horizon, or can't come any more.
 fn is_over(facts: &FactStore, forest: &Forest, horizon: Moment, token: &TokenId) -> bool
     requires links { (q : the_dot)
         → map.get forest.now.links q ≡ links_in (map.get (held_facts facts.now)) q }
     ensures { result ≡ spec.is_over (held_facts facts.now) horizon token.now }
 {
-    minted_at(facts, token).is_some() && is_over_by(horizon, &root_above(facts, forest, token.dot))
+    mints_nothing(facts, token.dot) || is_over_by(horizon, &root_above(facts, forest, token.dot))
 }
 
-// Returns whether the fact is kept for a token of a family that is over at the horizon.
+// Returns whether the fact is kept for a token of a family that is over at the horizon, or for one
+// that can't come any more.
 pub(crate) fn may_skip(facts: &FactStore, forest: &Forest, horizon: Moment, fact: &Fact) -> bool
     requires links { (q : the_dot)
         → map.get forest.now.links q ≡ links_in (map.get (held_facts facts.now)) q }

@@ -35,6 +35,7 @@ fn named(body: &Body) -> Option<Dot>
     match body {
         Body::CodeRedeemed(fact) => Some(fact.code),
         Body::RefreshRotated(fact) => Some(fact.parent),
+        Body::TokenRevoked(fact) => Some(fact.token.dot),
         Body::ReuseSeen(fact) => Some(fact.token.dot),
         _ => None,
     }

@@ -8,6 +8,7 @@ ghost use Rattle.tk_ledger.specs.Losses.{WasIndexed, passes};
 use crate::change::Change;
 use crate::index::Index;
 use crate::reuses::drop_reuse;
+use crate::revocations::drop_revocation;
 use crate::subject_keys::drop_code;
 use crate::wake::wake;
 use tk_handle::Dot;
@@ -26,6 +27,23 @@ pub(crate) fn unfollow(facts: &FactStore, index: &mut Index, dot: Dot, change: &
             index.forest.take(dot);
         }
         Change::Put(_) => index.forest.take(dot),
+        Change::Revoke(fact) => {
+            drop_revocation(
+                &mut index.revocations,
+                &fact.token,
+                &fact.digest,
+                fact.client,
+                dot,
+            );
+            wake(
+                facts,
+                &index.revocations,
+                &index.outs,
+                &index.reuses,
+                &mut index.forest,
+                fact.token.dot,
+            );
+        }
         Change::Mark(token) => {
             drop_reuse(&mut index.reuses, token, dot);
             wake(
@@ -37,6 +55,6 @@ pub(crate) fn unfollow(facts: &FactStore, index: &mut Index, dot: Dot, change: &
                 token.dot,
             );
         }
-        _ => unreachable!(),
+        _ => unreachable!("no other change is undone"),
     }
 }

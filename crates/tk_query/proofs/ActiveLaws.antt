@@ -2,7 +2,8 @@
 --   says_active    the reply for an active token that the sender may see
 --   says_nothing   the reply for a token that is not active
 --   hides_refresh  the reply to a resource server for a refresh token, if it sees none
-use Rattle.std.proofs.Common.{◌≡◌, ◌≢◌, ℕ, Bool, true, false, ◌||◌, not, cond, List, refl, sym, ap, ◌∙◌}
+use Rattle.std.proofs.Common.{◌≡◌, ◌≢◌, ℕ, Bool, true, false, ◌||◌, not, cond, List, refl, sym, ap}
+use Rattle.std.proofs.Common.{◌∙◌}
 use Rattle.std.proofs.lemmas.Bool.{false_from_ne_true}
 use Rattle.std.specs.FinMap as map
 use Rattle.tk_handle.specs.declared.dot.Dot.{Dot}
@@ -51,7 +52,9 @@ second_fails true c x y h = ap (λ t. cond (not t) x y) h
 second_fails false c x y h = refl
 
 -- the outcome for a token that is not active
-quiet : (P : StoreFields) (seen : RefreshSeen) (now : ℕ) (client_kind : ClientKind) (asker : Dot) (h : Handle) (k : Kind) (x : Status) → status_here P now h ≡ x → h.id.kind ≢ kind.Code → ¬ IsActive (map.get (held_facts P)) now h → introspected_by_status seen client_kind asker k x ≡ Inactive
+quiet : (P : StoreFields) (seen : RefreshSeen) (now : ℕ) (client_kind : ClientKind) (asker : Dot) (h : Handle) (k : Kind) (x : Status)
+    → status_here P now h ≡ x → h.id.kind ≢ kind.Code → ¬ IsActive (map.get (held_facts P)) now h
+    → introspected_by_status seen client_kind asker k x ≡ Inactive
 quiet P seen now client_kind asker h k Unseen e nc n = refl
 quiet P seen now client_kind asker h k Wrong e nc n = refl
 quiet P seen now client_kind asker h k (Broken t) e nc n = refl
@@ -65,23 +68,29 @@ no_code k a c = let e : kind.Access ≡ kind.Code = sym a ∙ c in cc
 no_code_either : (k : Kind) → k ≡ kind.Refresh → k ≢ kind.Code
 no_code_either k a c = let e : kind.Refresh ≡ kind.Code = sym a ∙ c in cc
 
-quiet_by_kind : (P : StoreFields) (seen : RefreshSeen) (now : ℕ) (client_kind : ClientKind) (asker : Dot) (h : Handle) (k : Kind) → h.id.kind ≡ k → ¬ IsActive (map.get (held_facts P)) now h → introspected_by_kind P seen now client_kind asker h k ≡ Inactive
+quiet_by_kind : (P : StoreFields) (seen : RefreshSeen) (now : ℕ) (client_kind : ClientKind) (asker : Dot) (h : Handle) (k : Kind)
+    → h.id.kind ≡ k → ¬ IsActive (map.get (held_facts P)) now h
+    → introspected_by_kind P seen now client_kind asker h k ≡ Inactive
 quiet_by_kind P seen now client_kind asker h kind.Code e n = refl
 quiet_by_kind P seen now client_kind asker h kind.Access e n = quiet P seen now client_kind asker h kind.Access (status_here P now h) refl (no_code h.id.kind e) n
 quiet_by_kind P seen now client_kind asker h kind.Refresh e n = quiet P seen now client_kind asker h kind.Refresh (status_here P now h) refl (no_code_either h.id.kind e) n
 
-pub says_nothing : (P : StoreFields) (seen : RefreshSeen) (now : ℕ) (client_kind : ClientKind) (asker : Dot) (h : Handle) → ¬ IsActive (map.get (held_facts P)) now h → told_to P seen now client_kind asker h ≡ inactive_reply
+pub says_nothing : (P : StoreFields) (seen : RefreshSeen) (now : ℕ) (client_kind : ClientKind) (asker : Dot) (h : Handle)
+    → ¬ IsActive (map.get (held_facts P)) now h
+    → told_to P seen now client_kind asker h ≡ inactive_reply
 says_nothing P seen now client_kind asker h n = ap told (quiet_by_kind P seen now client_kind asker h h.id.kind refl n)
 
 -- ---- the reply for a refresh token that resource servers don't see
 
-hidden_by_status : (digest : List ℕ) (asker : Dot) (x : Status) → introspected_by_status ByClient (Resource digest) asker kind.Refresh x ≡ Inactive
+hidden_by_status : (digest : List ℕ) (asker : Dot) (x : Status)
+    → introspected_by_status ByClient (Resource digest) asker kind.Refresh x ≡ Inactive
 hidden_by_status digest asker Unseen = refl
 hidden_by_status digest asker Wrong = refl
 hidden_by_status digest asker (Broken t) = refl
 hidden_by_status digest asker (Known s) = refl
 
-pub hides_refresh : (P : StoreFields) (now : ℕ) (digest : List ℕ) (asker : Dot) (h : Handle) → h.id.kind ≡ kind.Refresh → told_to P ByClient now (Resource digest) asker h ≡ inactive_reply
+pub hides_refresh : (P : StoreFields) (now : ℕ) (digest : List ℕ) (asker : Dot) (h : Handle)
+    → h.id.kind ≡ kind.Refresh → told_to P ByClient now (Resource digest) asker h ≡ inactive_reply
 hides_refresh P now digest asker h is =
     ap (λ (k : Kind). told (introspected_by_kind P ByClient now (Resource digest) asker h k)) is
     ∙ ap told (hidden_by_status digest asker (status_here P now h))
@@ -99,7 +108,8 @@ pub record Tells (P : StoreFields) (now : ℕ) (h : Handle) (a : IsActive (map.g
   pub subject : s.subject ≡ a.issued.subject
 
 -- an active token has a standing with the fields that the reply has
-tells : (P : StoreFields) (now : ℕ) (h : Handle) (a : IsActive (map.get (held_facts P)) now h) → (s : StandingFields) × Tells P now h a s
+tells : (P : StoreFields) (now : ℕ) (h : Handle) (a : IsActive (map.get (held_facts P)) now h)
+    → (s : StandingFields) × Tells P now h a s
 tells P now h a =
     let y : (s : StandingFields) × (status_in (held_facts P) now h ≡ Known s) × (s.state ≡ state.Live) = active_is_live (held_facts P) now h a in
     let x : Knows (held_facts P) now h y.0 = known_parts (held_facts P) now h y.0 y.1 in
@@ -122,27 +132,36 @@ both_hold : (a b : Bool) (x y : Introspected) → a ≡ true → b ≡ true → 
 both_hold a b x y h i = rw (h, i) refl
 
 -- the outcome for an active token by its standing
-loud_as : (P : StoreFields) (seen : RefreshSeen) (now : ℕ) (client_kind : ClientKind) (asker : Dot) (h : Handle) (a : IsActive (map.get (held_facts P)) now h) (s : StandingFields) → Tells P now h a s → (k : Kind) → sees seen client_kind k asker a.issued.client ≡ true → introspected_by_status seen client_kind asker k (status_here P now h) ≡ active k s
+loud_as : (P : StoreFields) (seen : RefreshSeen) (now : ℕ) (client_kind : ClientKind) (asker : Dot) (h : Handle) (a : IsActive (map.get (held_facts P)) now h) (s : StandingFields)
+    → Tells P now h a s → (k : Kind) → sees seen client_kind k asker a.issued.client ≡ true
+    → introspected_by_status seen client_kind asker k (status_here P now h) ≡ active k s
 loud_as P seen now client_kind asker h a s t k may =
     ap (introspected_by_status seen client_kind asker k) t.is
     ∙ both_hold (sees seen client_kind k asker s.client) (is_live s.state) Inactive (active k s) (ap (sees seen client_kind k asker) t.client ∙ may) (ap is_live t.live)
 
 -- the reply for an active token by the fields of its standing
-told_fields : (k : Kind) (s : StandingFields) → told (active k s) ≡ told_by_kind k s.client s.expiry s.start s.scope s.subject
+told_fields : (k : Kind) (s : StandingFields)
+    → told (active k s) ≡ told_by_kind k s.client s.expiry s.start s.scope s.subject
 told_fields kind.Code s = refl
 told_fields kind.Access s = refl
 told_fields kind.Refresh s = refl
 
-same_fields : (P : StoreFields) (now : ℕ) (h : Handle) (a : IsActive (map.get (held_facts P)) now h) (s : StandingFields) → Tells P now h a s → (k : Kind) → told_by_kind k s.client s.expiry s.start s.scope s.subject ≡ told_by_kind k a.issued.client a.minted.expiry a.minted.start a.minted.scope a.issued.subject
+same_fields : (P : StoreFields) (now : ℕ) (h : Handle) (a : IsActive (map.get (held_facts P)) now h) (s : StandingFields)
+    → Tells P now h a s → (k : Kind)
+    → told_by_kind k s.client s.expiry s.start s.scope s.subject ≡ told_by_kind k a.issued.client a.minted.expiry a.minted.start a.minted.scope a.issued.subject
 same_fields P now h a s t k = rw (t.client, t.expiry, t.start, t.scope, t.subject) refl
 
 -- the outcome for an active token by its kind
-loud_by_kind : (P : StoreFields) (seen : RefreshSeen) (now : ℕ) (client_kind : ClientKind) (asker : Dot) (h : Handle) (a : IsActive (map.get (held_facts P)) now h) (s : StandingFields) → Tells P now h a s → (k : Kind) → sees seen client_kind k asker a.issued.client ≡ true → h.id.kind ≡ k → introspected_by_kind P seen now client_kind asker h k ≡ active k s
+loud_by_kind : (P : StoreFields) (seen : RefreshSeen) (now : ℕ) (client_kind : ClientKind) (asker : Dot) (h : Handle) (a : IsActive (map.get (held_facts P)) now h) (s : StandingFields)
+    → Tells P now h a s → (k : Kind) → sees seen client_kind k asker a.issued.client ≡ true
+    → h.id.kind ≡ k → introspected_by_kind P seen now client_kind asker h k ≡ active k s
 loud_by_kind P seen now client_kind asker h a s t kind.Code may e = absurd (a.no_code e)
 loud_by_kind P seen now client_kind asker h a s t kind.Access may e = loud_as P seen now client_kind asker h a s t kind.Access may
 loud_by_kind P seen now client_kind asker h a s t kind.Refresh may e = loud_as P seen now client_kind asker h a s t kind.Refresh may
 
-pub says_active : (P : StoreFields) (seen : RefreshSeen) (now : ℕ) (client_kind : ClientKind) (asker : Dot) (h : Handle) (a : IsActive (map.get (held_facts P)) now h) → sees seen client_kind h.id.kind asker a.issued.client ≡ true → told_to P seen now client_kind asker h ≡ told_by_kind h.id.kind a.issued.client a.minted.expiry a.minted.start a.minted.scope a.issued.subject
+pub says_active : (P : StoreFields) (seen : RefreshSeen) (now : ℕ) (client_kind : ClientKind) (asker : Dot) (h : Handle) (a : IsActive (map.get (held_facts P)) now h)
+    → sees seen client_kind h.id.kind asker a.issued.client ≡ true
+    → told_to P seen now client_kind asker h ≡ told_by_kind h.id.kind a.issued.client a.minted.expiry a.minted.start a.minted.scope a.issued.subject
 says_active P seen now client_kind asker h a may =
     let x : (s : StandingFields) × Tells P now h a s = tells P now h a in
     ap told (loud_by_kind P seen now client_kind asker h a x.0 x.1 h.id.kind may refl)

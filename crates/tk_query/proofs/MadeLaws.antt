@@ -1,7 +1,9 @@
--- Revocation makes no fact that names a token's dot. Key result:
+-- Revocation makes no fact but revocations. Key result:
 --   revokes_alone   revocation requests
-use Rattle.std.proofs.Common.{◌≡◌, ℕ, None, IfSome, refl}
-use Rattle.tk_fact.specs.Keeping.{names_of}
+use Rattle.std.proofs.Common.{◌≡◌, ℕ, IfSome, refl}
+use Rattle.tk_fact.specs.declared.body.Body.{Body}
+use Rattle.tk_fact.specs.declared.body.Body.TheVariants as body
+use Rattle.tk_fact.specs.declared.token_revoked.TokenRevoked.{TokenRevoked}
 use Rattle.tk_store.specs.StoreFields.{StoreFields, held_facts}
 use Rattle.tk_message.specs.Caller.{caller_of}
 use Rattle.tk_message.specs.RequestFields.{RequestFields}
@@ -12,11 +14,16 @@ use Rattle.tk_query.specs.Revoked.{revoked_by_caller}
 use Rattle.tk_query.specs.declared.revoked.Revocation.{Revocation}
 use Rattle.tk_query.specs.declared.revoked.Revocation.TheVariants.{Refused, Done, Revokes, Later}
 
-revoked_alone : (r : Revocation) → IfSome (revoked_by r).made (λ b. names_of b ≡ None)
+-- the body is a revocation
+abbrev pub Revoking : Body → Type 0
+Revoking b = (f : TokenRevoked) × (b ≡ body.TokenRevoked f)
+
+revoked_alone : (r : Revocation) → IfSome (revoked_by r).made Revoking
 revoked_alone (Refused why) = tt
 revoked_alone (Done why) = tt
 revoked_alone Later = tt
-revoked_alone (Revokes fact) = refl
+revoked_alone (Revokes fact) = (fact, refl)
 
-pub revokes_alone : (P : StoreFields) (place : Place) (now : ℕ) (request : RequestFields) → IfSome (revocation_of P place now request).made (λ b. names_of b ≡ None)
+pub revokes_alone : (P : StoreFields) (place : Place) (now : ℕ) (request : RequestFields)
+    → IfSome (revocation_of P place now request).made Revoking
 revokes_alone P place now request = revoked_alone (revoked_by_caller P place now request.params (caller_of (held_facts P) known_names request))

@@ -5,8 +5,8 @@
 --   HidesRefresh   the reply to a resource server reports no refresh token, if it sees none
 -- The clauses of `queries_alike`, of two stores that answer each handle alike:
 --   IntrospectionsAlike   they give equal replies to introspection requests
---   RevocationsAlike      they decide revocation requests alike
-use Rattle.std.specs.Prelude.{◌≡◌, ℕ, List, Some, true}
+--   RevocationsAlike      they decide revocation requests alike, or one as if it was the first
+use Rattle.std.specs.Prelude.{◌≡◌, ◌≢◌, ◌⊎◌, ℕ, List, Some, true}
 use Rattle.std.specs.FinMap as map
 use Rattle.tk_handle.specs.declared.dot.Dot.{Dot}
 use Rattle.tk_handle.specs.declared.kind.Kind.{Kind}
@@ -29,6 +29,7 @@ use Rattle.tk_message.specs.RequestFields.{RequestFields}
 use Rattle.tk_message.specs.declared.choices.RefreshSeen.{RefreshSeen}
 use Rattle.tk_message.specs.declared.choices.RefreshSeen.TheVariants.{ByClient}
 use Rattle.tk_message.specs.declared.place.Place.{Place}
+use Rattle.tk_query.specs.Anew.{IsAnew, IsEarly}
 use Rattle.tk_query.specs.Caller.{known_names}
 use Rattle.tk_query.specs.Revocation.{revocation_of}
 use Rattle.tk_query.specs.Introspected.{introspected_by_handle, sees}
@@ -81,13 +82,20 @@ IntrospectionsAlike = (P Q : StoreFields) (seen : RefreshSeen) (now : ℕ) (requ
     → caller_of (held_facts P) known_names request ≡ caller_of (held_facts Q) known_names request
     → introspection_of P seen now request ≡ introspection_of Q seen now request
 
--- two stores that answer each handle alike, and have the same revocations and clients, decide a
--- revocation request alike
+-- P and Q answer each handle alike, and have the same clients. Q has each revocation that P has,
+-- and P has each one that Q has of a token that is known and hasn't expired. Then they decide a
+-- revocation request alike, unless the token is not seen and Q alone has its revocation: there P
+-- decides as if it was the first
 abbrev pub RevocationsAlike : Type 0
 RevocationsAlike = (P Q : StoreFields) (place : Place) (now : ℕ) (request : RequestFields)
     → ((h : Handle) → AnsweredAlike now h (status_here P now h) (status_here Q now h))
-    → ((k : TokenId) (digest : List ℕ) (client : Dot) → is_revoked (held_facts P) k digest client
-    ≡ is_revoked (held_facts Q) k digest client)
+    → ((k : TokenId) (digest : List ℕ) (client : Dot)
+    → is_revoked (held_facts P) k digest client ≡ true
+    → is_revoked (held_facts Q) k digest client ≡ true)
+    → ((h : Handle) (digest : List ℕ) (client : Dot) → h.id.kind ≢ kind.Code
+    → IsEarly now (status_here P now h)
+    → is_revoked (held_facts P) h.id digest client ≡ is_revoked (held_facts Q) h.id digest client)
     → ((d : Dot) → client_view (held_facts P) d ≡ client_view (held_facts Q) d)
     → caller_of (held_facts P) known_names request ≡ caller_of (held_facts Q) known_names request
-    → revocation_of P place now request ≡ revocation_of Q place now request
+    → (revocation_of P place now request ≡ revocation_of Q place now request)
+    ⊎ IsAnew Q place now request (revocation_of P place now request)

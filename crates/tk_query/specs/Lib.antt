@@ -6,8 +6,10 @@
 --   Revoked           revoked_by_caller, the outcome of revocation
 --   SoundRevocation   IsSoundRevocation, the fact that is made passes its check
 --   Revocation        revocation_of, the decision of a revocation request
+--   Anew              IsAnew, the revocation of an unseen token as if it was the first
 --   Laws              SaysActive, SaysNothing, HidesRefresh, IntrospectionsAlike and
 --                     RevocationsAlike, the laws
+pub mod Anew
 pub mod Caller
 pub mod Introspected
 pub mod Introspection

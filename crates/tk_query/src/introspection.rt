@@ -9,7 +9,7 @@ use crate::introspected::{Introspected, introspect};
 use std::alloc::{AllocError, Global};
 use tk_handle::Moment;
 use tk_ledger::Ledger;
-use tk_message::{Decision, RefreshSeen, Reply, Request, Told};
+use tk_message::{Decision, JsonReply, RefreshSeen, Reply, Request};
 
 /// Decides an introspection request at a moment, and returns the reply (RFC 7662, 2).
 ///
@@ -38,9 +38,9 @@ fn reply_to(alloc: Global, known: Introspected<'_>) -> Result<Reply, AllocError>
     ensures { IfOk result (λ reply. reply ≡ spec.told known.entry) }
 {
     match known {
-        Introspected::Refused(why) => Told::Error(why.code()).reply(alloc),
-        Introspected::Inactive => Told::Inactive.reply(alloc),
-        Introspected::Access(standing) => Told::Access(standing).reply(alloc),
-        Introspected::Refresh(standing) => Told::Refresh(standing).reply(alloc),
+        Introspected::Refused(why) => JsonReply::Error(why.code()).reply(alloc),
+        Introspected::Inactive => JsonReply::Inactive.reply(alloc),
+        Introspected::Access(standing) => JsonReply::Access(standing).reply(alloc),
+        Introspected::Refresh(standing) => JsonReply::Refresh(standing).reply(alloc),
     }
 }

@@ -20,7 +20,8 @@ pub fn says_active()
 {}
 
 /// States a law: two stores that answer each handle alike answer introspection and revocation
-/// requests alike.
+/// requests alike. If one has a revocation of a token that neither has seen, and the other doesn't,
+/// the other decides as if it was the first.
 pub fn queries_alike()
     ensures introspections { IntrospectionsAlike }
     ensures revocations { RevocationsAlike }

@@ -5,7 +5,8 @@
 --   fact_stands     a fact is made, or taken in at an unknown dot
 --   drop_stands     a fact is dropped at a skipped dot
 --   sound_stays     soundness of all facts made is kept by one more
-use Rattle.std.proofs.Common.{◌≡◌, ◌≢◌, inl, inr, true, ℕ, ◌≤◌, max, List, [], ◌∷◌, Option, None, Some, refl, sym, ap, subst, ◌∙◌, arith}
+use Rattle.std.proofs.Common.{◌≡◌, ◌≢◌, ◌⊎◌, inl, inr, true, ℕ, ◌≤◌, max, List, [], ◌∷◌, Option}
+use Rattle.std.proofs.Common.{None, Some, refl, sym, ap, subst, ◌∙◌, arith}
 use Rattle.std.specs.FinMap as map
 use Rattle.tk_handle.specs.declared.dot.Dot.{Dot}
 use Rattle.tk_handle.specs.declared.kind.Kind.TheVariants as kind
@@ -19,52 +20,58 @@ use Rattle.tk_fact.specs.Tokens.{MintedFields, minted_of}
 use Rattle.tk_fact.specs.declared.body.Body.{Body}
 use Rattle.tk_store.specs.FactSet.{FactSet, IsSubset}
 use Rattle.tk_store.specs.Slots.{Slot, Slots, Held, Skipped, is_skipped}
-use Rattle.tk_store.specs.StoreFields.{StoreFields, held_facts, with_fact, with_skipped, with_horizon}
+use Rattle.tk_store.specs.StoreFields.{StoreFields, held_facts, with_fact, with_skipped}
+use Rattle.tk_store.specs.StoreFields.{with_horizon}
 use Rattle.tk_store.proofs.PutLaws.{by_dot, get_here, none_is_not_some, some_injective}
 use Rattle.std.specs.Option.{option_and_then}
-use Rattle.tk_ledger.specs.Retention.{MaySkip, Prunes}
+use Rattle.tk_ledger.specs.Retention.{IsOverAt, MintsNothing, MaySkip, Prunes}
 use Rattle.tk_ledger.specs.Tokens.{link_of, links_in, minted_in, issued_in}
 use Rattle.tk_ledger.proofs.TokenLaws.{links-below, minted-below, from_some}
 use Rattle.tk_retention.specs.StandsFor.{SlotStands, StandsFor, AreSound, AddsOne, MeetsFamily}
 use Rattle.tk_retention.proofs.StandingLaws.{at_skipped, held_made, held_part, none_some}
 
-pub minted_more : (F G : FactSet) → IsSubset F G → (k : TokenId) (o : Option MintedFields) → minted_in (map.get F) k ≡ o → o ≢ None → minted_in (map.get G) k ≢ None
+pub minted_more : (F G : FactSet) → IsSubset F G → (k : TokenId) (o : Option MintedFields)
+    → minted_in (map.get F) k ≡ o → o ≢ None → minted_in (map.get G) k ≢ None
 minted_more F G w k None h some = absurd (some refl)
 minted_more F G w k (Some m) h some = λ none. none_some (minted_in (map.get G) k) m none (minted-below F G w k m h)
 
 -- what may be skipped may be skipped where more facts are made, and later
-pub may_more : (U V : FactSet) → IsSubset U V → (t s : ℕ) → t ≤ s → (d : Dot) → MaySkip (map.get U) t d → MaySkip (map.get V) s d
-may_more U V w t s h d may =
-    let code = from_some issued_in (map.get U may.root) may.code may.issues in
-    record {
-      fact = may.fact;
-      here = w d may.fact may.here;
-      token = may.token;
-      kept = may.kept;
-      root = may.root;
-      under = (minted_more U V w may.token (minted_in (map.get U) may.token) refl may.under.0, IsUnder-within (links_in (map.get U)) (links_in (map.get V)) (links-below U V w) may.token.dot may.root may.under.1);
-      code = may.code;
-      issues = ap (option_and_then issued_in) (w may.root code.0 code.1) ∙ code.2;
-      over = (let a = may.over in omega (arith, a, h));
-    }
+pub may_more : (U V : FactSet) → IsSubset U V → (t s : ℕ) → t ≤ s → (d : Dot)
+    → MaySkip (map.get U) t d → MaySkip (map.get V) s d
+may_more U V w t s h d may = record { fact = may.fact; here = w d may.fact may.here; token = may.token; kept = may.kept; why = by may.token.dot may.why }
+  where
+    by : (q : Dot) → IsOverAt (map.get U) t q ⊎ MintsNothing (map.get U) q
+        → IsOverAt (map.get V) s q ⊎ MintsNothing (map.get V) q
+    by q (inr none) = inr (record { fact = none.fact; here = w q none.fact none.here; barren = none.barren })
+    by q (inl o) = (let code = from_some issued_in (map.get U o.root) o.code o.issues in inl (record {
+      root = o.root;
+      under = IsUnder-within (links_in (map.get U)) (links_in (map.get V)) (links-below U V w) q o.root o.under;
+      code = o.code;
+      issues = ap (option_and_then issued_in) (w o.root code.0 code.1) ∙ code.2;
+      over = (let a = o.over in omega (arith, a, h));
+    }))
 
-pub slot_more : (U V : FactSet) → IsSubset U V → (t s : ℕ) → t ≤ s → (d : Dot) (o : Option Slot) (p : Option Body) → SlotStands U t d o p → SlotStands V s d o p
+pub slot_more : (U V : FactSet) → IsSubset U V → (t s : ℕ) → t ≤ s
+    → (d : Dot) (o : Option Slot) (p : Option Body) → SlotStands U t d o p → SlotStands V s d o p
 slot_more U V w t s h d None p x = x
 slot_more U V w t s h d (Some (Held b)) p x = (x.0, w d b x.1)
 slot_more U V w t s h d (Some Skipped) p x = (x.0 ∙ (x.1.here ∙ sym (w d x.1.fact x.1.here)), may_more U V w t s h d x.1)
 
 -- more facts are made
-pub stands_more : (P : StoreFields) (U V F : FactSet) → IsSubset U V → StandsFor P U F → StandsFor P V F
+pub stands_more : (P : StoreFields) (U V F : FactSet) → IsSubset U V → StandsFor P U F
+    → StandsFor P V F
 stands_more P U V F w S d = slot_more U V w P.horizon P.horizon (omega arith) d (map.get P.slots d) (map.get F d) (S d)
 
 itself : (U : FactSet) → IsSubset U U
 itself U d b h = h
 
-slot_at : (U : FactSet) (t : ℕ) (d : Dot) (o p : Option Slot) (f : Option Body) → o ≡ p → SlotStands U t d p f → SlotStands U t d o f
+slot_at : (U : FactSet) (t : ℕ) (d : Dot) (o p : Option Slot) (f : Option Body) → o ≡ p
+    → SlotStands U t d p f → SlotStands U t d o f
 slot_at U t d o p f same x = subst (λ (q : Option Slot). SlotStands U t d q f) (sym same) x
 
 -- a prune
-pub prune_stands : (old new : StoreFields) (moment n : ℕ) (U F : FactSet) → Prunes old moment n new → StandsFor old U F → StandsFor new U F
+pub prune_stands : (old new : StoreFields) (moment n : ℕ) (U F : FactSet) → Prunes old moment n new
+    → StandsFor old U F → StandsFor new U F
 prune_stands old new moment n U F prunes S d =
     let later : old.horizon ≤ new.horizon = (let raised = prunes.raised in omega (arith, raised)) in
     elim (prunes.keeps d) [
@@ -76,7 +83,8 @@ prune_stands old new moment n U F prunes S d =
     ]
 
 -- what stands at a dot after one slot was put there
-pub slot_put : (U : FactSet) (t : ℕ) (T : Slots) (d : Dot) (s : Slot) (G : FactSet) → SlotStands U t d (Some s) (map.get G d)
+pub slot_put : (U : FactSet) (t : ℕ) (T : Slots) (d : Dot) (s : Slot) (G : FactSet)
+    → SlotStands U t d (Some s) (map.get G d)
     → ((q : Dot) → q ≢ d → SlotStands U t q (map.get T q) (map.get G q)) → (q : Dot) → SlotStands U t q (map.get (map.insert T d s) q) (map.get G q)
 slot_put U t T d s G here others q = elim (cases_dots q d) [
   | inl same ↦ subst (λ (x : Dot). SlotStands U t x (map.get (map.insert T d s) x) (map.get G x)) (sym same)
@@ -86,7 +94,10 @@ slot_put U t T d s G here others q = elim (cases_dots q d) [
 ]
 
 -- a dot is skipped, with the horizon of the bundle that said so
-pub mark_stands : (P : StoreFields) (U F G : FactSet) (horizon : ℕ) (d : Dot) → MaySkip (map.get U) horizon d → map.get G d ≡ map.get U d → ((q : Dot) → q ≢ d → map.get G q ≡ map.get F q) → StandsFor P U F → StandsFor (with_skipped (with_horizon P horizon) d) U G
+pub mark_stands : (P : StoreFields) (U F G : FactSet) (horizon : ℕ) (d : Dot)
+    → MaySkip (map.get U) horizon d → map.get G d ≡ map.get U d
+    → ((q : Dot) → q ≢ d → map.get G q ≡ map.get F q) → StandsFor P U F
+    → StandsFor (with_skipped (with_horizon P horizon) d) U G
 mark_stands P U F G horizon d may here others S =
     slot_put U (max P.horizon horizon) P.slots d Skipped G
     (here, may_more U U (itself U) horizon (max P.horizon horizon) (omega arith) d may)
@@ -94,13 +105,17 @@ mark_stands P U F G horizon d may here others S =
     (slot_more U U (itself U) P.horizon (max P.horizon horizon) (omega arith) q (map.get P.slots q) (map.get F q) (S q)))
 
 -- a fact that is made, or taken in at an unknown dot
-pub fact_stands : (P : StoreFields) (U F G : FactSet) (d : Dot) (b : Body) → map.get U d ≡ Some b → map.get G d ≡ Some b → ((q : Dot) → q ≢ d → map.get G q ≡ map.get F q) → StandsFor P U F → StandsFor (with_fact P d b) U G
+pub fact_stands : (P : StoreFields) (U F G : FactSet) (d : Dot) (b : Body) → map.get U d ≡ Some b
+    → map.get G d ≡ Some b → ((q : Dot) → q ≢ d → map.get G q ≡ map.get F q) → StandsFor P U F
+    → StandsFor (with_fact P d b) U G
 fact_stands P U F G d b made here others S =
     slot_put U P.horizon P.slots d (Held b) G (here, made)
     (λ q ne. subst (λ (f : Option Body). SlotStands U P.horizon q (map.get P.slots q) f) (sym (others q ne)) (S q))
 
 -- a fact that is dropped at a skipped dot changes nothing
-pub drop_stands : (P : StoreFields) (U F G : FactSet) (d : Dot) → is_skipped P.slots d ≡ true → map.get G d ≡ map.get U d → ((q : Dot) → q ≢ d → map.get G q ≡ map.get F q) → StandsFor P U F → StandsFor P U G
+pub drop_stands : (P : StoreFields) (U F G : FactSet) (d : Dot) → is_skipped P.slots d ≡ true
+    → map.get G d ≡ map.get U d → ((q : Dot) → q ≢ d → map.get G q ≡ map.get F q) → StandsFor P U F
+    → StandsFor P U G
 drop_stands P U F G d skipped here others S q = elim (cases_dots q d) [
   | inl same ↦ subst (λ (x : Dot). SlotStands U P.horizon x (map.get P.slots x) (map.get G x)) (sym same)
       (subst (λ (f : Option Body). SlotStands U P.horizon d (map.get P.slots d) f) (at_skipped P U F S d skipped ∙ sym here) (S d))
@@ -109,12 +124,14 @@ drop_stands P U F G d skipped here others S q = elim (cases_dots q d) [
 
 -- ---- soundness of all facts made is kept by one more
 
-named_use : (l : Link) (p : Dot) → named_by l ≡ Some p → (k : TokenId) × (used_by l ≡ Some k) × (k.dot ≡ p)
+named_use : (l : Link) (p : Dot) → named_by l ≡ Some p
+    → (k : TokenId) × (used_by l ≡ Some k) × (k.dot ≡ p)
 named_use Code p h = absurd (none_is_not_some p h)
 named_use (Redeems c) p h = (record { dot = c; kind = kind.Code }, refl, some_injective c p h)
 named_use (Rotates q g) p h = (record { dot = q; kind = kind.Refresh }, refl, some_injective q p h)
 
-parent_use : (f : Links) (e p : Dot) → IsParent f e p → (k : TokenId) × (use_of (f e) ≡ Some k) × (k.dot ≡ p)
+parent_use : (f : Links) (e p : Dot) → IsParent f e p
+    → (k : TokenId) × (use_of (f e) ≡ Some k) × (k.dot ≡ p)
 parent_use f e p a = (let x = named_use a.link p a.names in (x.0, ap use_of a.here ∙ x.1, x.2))
 
 part_of_adds : (U V : FactSet) (d : Dot) (b : Body) → AddsOne U d b V → IsSubset U V
@@ -136,7 +153,8 @@ module _ (U V : FactSet) (d : Dot) (b : Body) (A : AddsOne U d b V) (sound : Are
       let old = sound.parents e by.0 u in
       none_some (links_in (map.get U) by.0.dot) old.above (ap (option_and_then link_of) free) old.there
 
-  trail_old : (q : Dot) (ps : List Dot) (c : Dot) → q ≢ d → IsTrail (links_in (map.get V)) q ps c → IsTrail (links_in (map.get U)) q ps c
+  trail_old : (q : Dot) (ps : List Dot) (c : Dot) → q ≢ d → IsTrail (links_in (map.get V)) q ps c
+      → IsTrail (links_in (map.get U)) q ps c
   trail_old q [] c ne m = m
   trail_old q (p ∷ ps) c ne m =
       let other : p ≢ d = parent_old q p ne m.0 in (
@@ -144,7 +162,8 @@ module _ (U V : FactSet) (d : Dot) (b : Body) (A : AddsOne U d b V) (sound : Are
         trail_old p ps c other m.1,
       )
 
-  root_old : (q : Dot) (ps : List Dot) (c : Dot) → q ≢ d → IsTrail (links_in (map.get V)) q ps c → c ≢ d
+  root_old : (q : Dot) (ps : List Dot) (c : Dot) → q ≢ d → IsTrail (links_in (map.get V)) q ps c
+      → c ≢ d
   root_old q [] c ne m = λ same. ne (m ∙ same)
   root_old q (p ∷ ps) c ne m = root_old p ps c (parent_old q p ne m.0) m.1
 

@@ -1,10 +1,12 @@
 -- What facts that last determine is the same over the facts that a store holds and over those for
 -- which it stands. Key results:
 --   any_lasting, at_lasting        a test, and what a fact has
---   client_view_same, consent_view_same, consent_for_same, signed_out_same, revoked_same
---                                  clients, consents, sign-outs and revocations
+--   client_view_same, consent_view_same, consent_for_same, signed_out_same
+--                                  clients, consents and sign-outs
+--   revoked_up                     a revocation that is held is one of all facts
 --   caller_same                    the sender of a request
-use Rattle.std.proofs.Common.{◌≡◌, inl, inr, ℕ, Bool, true, ◌&&◌, not, cond, List, Option, None, Some, is_some, option_map, refl, sym, ap, ◌∙◌}
+use Rattle.std.proofs.Common.{◌≡◌, inl, inr, ℕ, Bool, true, ◌&&◌, not, cond, List, Option, None}
+use Rattle.std.proofs.Common.{Some, is_some, option_map, refl, sym, ap, ◌∙◌}
 use Rattle.std.proofs.lemmas.Bool.{cases_Bool}
 use Rattle.std.specs.Option.{option_and_then}
 use Rattle.std.specs.FinMap as map
@@ -18,7 +20,9 @@ use Rattle.tk_store.specs.Slots.{is_skipped}
 use Rattle.tk_store.specs.StoreFields.{StoreFields, held_facts}
 use Rattle.tk_store.proofs.EntryLaws.{Passing, any_fact-held, any_fact-of}
 use Rattle.tk_store.proofs.PutLaws.{none_is_not_some}
-use Rattle.tk_ledger.specs.Clients.{client_at, added_in, is_retired, retires, is_live_client, consent_at, given_in, is_withdrawn, withdraws, IsWithdrawn, IsConsentFor, IsLeastConsent, consent_for}
+use Rattle.tk_ledger.specs.Clients.{client_at, added_in, is_retired, retires, is_live_client}
+use Rattle.tk_ledger.specs.Clients.{consent_at, given_in, is_withdrawn, withdraws, IsWithdrawn}
+use Rattle.tk_ledger.specs.Clients.{IsConsentFor, IsLeastConsent, consent_for}
 use Rattle.tk_ledger.specs.SignOuts.{signs_out, is_signed_out}
 use Rattle.tk_ledger.specs.Tokens.{revokes, is_revoked}
 use Rattle.tk_ledger.specs.Views.{client_view, consent_view}
@@ -33,24 +37,29 @@ use Rattle.tk_message.specs.RequestFields.{RequestFields}
 use Rattle.tk_message.specs.declared.caller.Caller.{Caller}
 use Rattle.tk_message.specs.declared.caller.Caller.TheVariants.{DuplicateParameter}
 use Rattle.tk_retention.specs.StandsFor.{StandsFor}
-use Rattle.tk_retention.proofs.StandingLaws.{none_some, at_skipped, at_held, apart, may_skip, held_part, lasting_held}
+use Rattle.tk_retention.proofs.StandingLaws.{none_some, at_skipped, at_held, apart, may_skip}
+use Rattle.tk_retention.proofs.StandingLaws.{held_part, lasting_held}
 
 module _ (P : StoreFields) (U F : FactSet) (S : StandsFor P U F) where
   abbrev H : FactSet
   H = held_facts P
 
   -- a test that only facts that last pass
-  pub any_lasting : (p : Dot × Body → Bool) → ((d : Dot) (b : Body) → p (d, b) ≡ true → kept_for d b ≡ None) → any_fact p H ≡ any_fact p F
+  pub any_lasting : (p : Dot × Body → Bool)
+      → ((d : Dot) (b : Body) → p (d, b) ≡ true → kept_for d b ≡ None) → any_fact p H ≡ any_fact p F
   any_lasting p lasts = same_tests (any_fact p H) (any_fact p F)
       (λ h. (let x : Passing p H = any_fact-held p H h in any_fact-of p F x.dot x.body (held_part P U F S x.dot x.body x.held) x.passes))
       (λ h. (let x : Passing p F = any_fact-held p F h in any_fact-of p H x.dot x.body (lasting_held P U F S x.dot x.body (lasts x.dot x.body x.passes) x.held) x.passes))
 
-  none_of : {A : Type 0} (f : Body → Option A) (o : Option A) (b : Body) → f b ≡ o → ((y : A) → f b ≡ Some y → ⊥) → f b ≡ None
+  none_of : {A : Type 0} (f : Body → Option A) (o : Option A) (b : Body) → f b ≡ o
+      → ((y : A) → f b ≡ Some y → ⊥) → f b ≡ None
   none_of f None b h never = h
   none_of f (Some y) b h never = absurd (never y h)
 
   -- what a fact that lasts has
-  pub at_lasting : {A : Type 0} (f : Body → Option A) → ((d : Dot) (b : Body) (y : A) → f b ≡ Some y → kept_for d b ≡ None) → (d : Dot) → option_and_then f (map.get H d) ≡ option_and_then f (map.get F d)
+  pub at_lasting : {A : Type 0} (f : Body → Option A)
+      → ((d : Dot) (b : Body) (y : A) → f b ≡ Some y → kept_for d b ≡ None) → (d : Dot)
+      → option_and_then f (map.get H d) ≡ option_and_then f (map.get F d)
   at_lasting f lasts d = elim (cases_Bool (is_skipped P.slots d)) [
     | inl skipped ↦
         let may = may_skip P U F S d skipped in
@@ -114,7 +123,9 @@ module _ (P : StoreFields) (U F : FactSet) (S : StandsFor P U F) where
   withdrawal_down : (d : Dot) → IsWithdrawn (map.get F) d → IsWithdrawn (map.get H) d
   withdrawal_down d x = record { place = x.place; withdrawal = x.withdrawal; held = lasting_held P U F S x.place (body.ConsentWithdrawn x.withdrawal) refl x.held; names = x.names }
 
-  consent_up : (client : Dot) (subject scope : List ℕ) (d : Dot) → IsConsentFor (map.get H) client subject scope d → IsConsentFor (map.get F) client subject scope d
+  consent_up : (client : Dot) (subject scope : List ℕ) (d : Dot)
+      → IsConsentFor (map.get H) client subject scope d
+      → IsConsentFor (map.get F) client subject scope d
   consent_up client subject scope d x = record {
     live = record {
       consent = x.live.consent;
@@ -126,7 +137,9 @@ module _ (P : StoreFields) (U F : FactSet) (S : StandsFor P U F) where
     includes = x.includes;
   }
 
-  consent_down : (client : Dot) (subject scope : List ℕ) (d : Dot) → IsConsentFor (map.get F) client subject scope d → IsConsentFor (map.get H) client subject scope d
+  consent_down : (client : Dot) (subject scope : List ℕ) (d : Dot)
+      → IsConsentFor (map.get F) client subject scope d
+      → IsConsentFor (map.get H) client subject scope d
   consent_down client subject scope d x = record {
     live = record {
       consent = x.live.consent;
@@ -138,30 +151,35 @@ module _ (P : StoreFields) (U F : FactSet) (S : StandsFor P U F) where
     includes = x.includes;
   }
 
-  least_up : (client : Dot) (subject scope : List ℕ) (o : Option Dot) → IsLeastConsent (map.get H) client subject scope o → IsLeastConsent (map.get F) client subject scope o
+  least_up : (client : Dot) (subject scope : List ℕ) (o : Option Dot)
+      → IsLeastConsent (map.get H) client subject scope o
+      → IsLeastConsent (map.get F) client subject scope o
   least_up client subject scope None h = λ d x. h d (consent_down client subject scope d x)
   least_up client subject scope (Some d) h = (consent_up client subject scope d h.0, λ q x. h.1 q (consent_down client subject scope q x))
 
-  pub consent_for_same : (client : Dot) (subject scope : List ℕ) → consent_for H client subject scope ≡ consent_for F client subject scope
+  pub consent_for_same : (client : Dot) (subject scope : List ℕ)
+      → consent_for H client subject scope ≡ consent_for F client subject scope
   consent_for_same client subject scope = first_is F client subject scope (consent_for H client subject scope) (least_up client subject scope (consent_for H client subject scope) (least_consent H client subject scope))
 
-  pub signed_out_same : (subject : List ℕ) (moment : ℕ) → is_signed_out H subject moment ≡ is_signed_out F subject moment
+  pub signed_out_same : (subject : List ℕ) (moment : ℕ)
+      → is_signed_out H subject moment ≡ is_signed_out F subject moment
   signed_out_same subject moment = any_lasting (signs_out subject moment) lasts
     where
       lasts : (q : Dot) (b : Body) → signs_out subject moment (q, b) ≡ true → kept_for q b ≡ None
       lasts q (body.SubjectOut f) h = refl
       lasts q b h = absurd (cc)
 
-  pub revoked_same : (k : TokenId) (digest : List ℕ) (client : Dot) → is_revoked H k digest client ≡ is_revoked F k digest client
-  revoked_same k digest client = any_lasting (revokes k digest client) lasts
-    where
-      lasts : (q : Dot) (b : Body) → revokes k digest client (q, b) ≡ true → kept_for q b ≡ None
-      lasts q (body.TokenRevoked f) h = refl
-      lasts q b h = absurd (cc)
+  -- a revocation that is held is one of all facts
+  pub revoked_up : (k : TokenId) (digest : List ℕ) (client : Dot)
+      → is_revoked H k digest client ≡ true → is_revoked F k digest client ≡ true
+  revoked_up k digest client h =
+      let x : Passing (revokes k digest client) H = any_fact-held (revokes k digest client) H h in
+      any_fact-of (revokes k digest client) F x.dot x.body (held_part P U F S x.dot x.body x.held) x.passes
 
   -- ---- the sender of a request
 
-  authenticated_same : (secret : Option (List ℕ)) (o : Option Dot) → authenticated_at H secret o ≡ authenticated_at F secret o
+  authenticated_same : (secret : Option (List ℕ)) (o : Option Dot)
+      → authenticated_at H secret o ≡ authenticated_at F secret o
   authenticated_same secret None = refl
   authenticated_same secret (Some d) = ap (authenticated_as d secret) (client_view_same d)
 
@@ -170,5 +188,6 @@ module _ (P : StoreFields) (U F : FactSet) (S : StandsFor P U F) where
   caller_by_same Unreadable = refl
   caller_by_same (Presents c) = ap caller_by_auth (authenticated_same c.secret _)
 
-  pub caller_same : (names : List (List ℕ)) (request : RequestFields) → caller_of H names request ≡ caller_of F names request
+  pub caller_same : (names : List (List ℕ)) (request : RequestFields)
+      → caller_of H names request ≡ caller_of F names request
   caller_same names request = ap (λ (x : Caller). cond (has_twice names request.params) DuplicateParameter x) (caller_by_same (presented_in request.authorization request.params))

@@ -1,6 +1,8 @@
 -- What a fact that a region makes uses and mints. Key result:
 --   made_meets   its tokens end with their family, and what it names was minted for it
-use Rattle.std.proofs.Common.{◌≡◌, ◌≢◌, ℕ, ◌≤◌, nat_lt, true, false, ◌&&◌, cond, List, [], ◌∷◌, Option, None, Some, is_some, IfSome, option_map, refl, sym, ap, subst, ◌∙◌}
+use Rattle.std.proofs.Common.{◌≡◌, ◌≢◌, ℕ, ◌≤◌, nat_lt, true, false, ◌&&◌, cond, List, [], ◌∷◌}
+use Rattle.std.proofs.Common.{Option, None, Some, is_some, IfSome, option_map, refl, sym, ap, subst}
+use Rattle.std.proofs.Common.{◌∙◌}
 use Rattle.std.specs.FinMap as map
 use Rattle.std.specs.Option.{option_and_then}
 use Rattle.tk_handle.specs.declared.dot.Dot.{Dot}
@@ -33,7 +35,7 @@ use Rattle.tk_message.specs.declared.request.Endpoint.TheVariants as endpoint
 use Rattle.tk_authorize.proofs.MadeLaws.{authorizes_alone, administers_alone, lists_alone}
 use Rattle.tk_grant.specs.Within.{IsCodeOf, IsWithin}
 use Rattle.tk_grant.proofs.MadeLaws.{grants_within}
-use Rattle.tk_query.proofs.MadeLaws.{revokes_alone}
+use Rattle.tk_query.proofs.MadeLaws.{Revoking, revokes_alone}
 use Rattle.tk_region.specs.Decision.{decision_by}
 use Rattle.tk_region.specs.RegionFields.{RegionFields, place_in}
 use Rattle.tk_region.specs.Step.{at_dot, early_in, prepared_at, prepared_by, prepared_of}
@@ -51,23 +53,30 @@ abbrev MakesWithin : FactSet → Decision → Type 0
 MakesWithin F d = IfSome d.made (IsWithin F)
 
 -- a fact that names no token's dot is within
-alone_within : (F : FactSet) (o : Option Body) → IfSome o (λ b. names_of b ≡ None) → IfSome o (IsWithin F)
+alone_within : (F : FactSet) (o : Option Body) → IfSome o (λ b. names_of b ≡ None)
+    → IfSome o (IsWithin F)
 alone_within F None alone = tt
 alone_within F (Some (body.CodeRedeemed f)) alone = absurd (none_is_not_some _ (sym alone))
 alone_within F (Some (body.RefreshRotated f)) alone = absurd (none_is_not_some _ (sym alone))
 alone_within F (Some (body.ReuseSeen f)) alone = absurd (none_is_not_some _ (sym alone))
 alone_within F (Some b) alone = tt
 
+-- a revocation is within
+revoking_within : (F : FactSet) (o : Option Body) → IfSome o Revoking → IfSome o (IsWithin F)
+revoking_within F None revoking = tt
+revoking_within F (Some b) revoking = subst (IsWithin F) (sym revoking.1) tt
+
 module _ (P : StoreFields) (place : Place) (now : ℕ) (words : List ℕ) (request : RequestFields) where
   administered : MakesWithin (held_facts P) (decision_by endpoint.AddClient P place now words request)
   administered = alone_within (held_facts P) (decision_by endpoint.AddClient P place now words request).made (administers_alone (held_facts P) place now request)
 
   -- each decision makes a fact that is within its family, if it makes one
-  made_within : (e : Endpoint) → MakesWithin (held_facts P) (decision_by e P place now words request)
+  made_within : (e : Endpoint)
+      → MakesWithin (held_facts P) (decision_by e P place now words request)
   made_within endpoint.Authorize = alone_within (held_facts P) (decision_by endpoint.Authorize P place now words request).made (authorizes_alone (held_facts P) place now words request)
   made_within endpoint.Token = grants_within P place now words request
   made_within endpoint.Introspect = tt
-  made_within endpoint.Revoke = alone_within (held_facts P) (decision_by endpoint.Revoke P place now words request).made (revokes_alone P place now request)
+  made_within endpoint.Revoke = revoking_within (held_facts P) (decision_by endpoint.Revoke P place now words request).made (revokes_alone P place now request)
   made_within endpoint.AddClient = administered
   made_within endpoint.ShowClient = administered
   made_within endpoint.ListClients = subst (λ (o : Option Body). IfSome o (IsWithin (held_facts P))) (sym (lists_alone (held_facts P) request.params)) tt
@@ -76,14 +85,17 @@ module _ (P : StoreFields) (place : Place) (now : ℕ) (words : List ℕ) (reque
   made_within endpoint.Withdraw = administered
   made_within endpoint.SignOut = administered
 
-  prepares_at : (d : Decision) → MakesWithin (held_facts P) d → IfSome (prepared_at (next_in place) d).fact (λ f. IsWithin (held_facts P) f.1)
+  prepares_at : (d : Decision) → MakesWithin (held_facts P) d
+      → IfSome (prepared_at (next_in place) d).fact (λ f. IsWithin (held_facts P) f.1)
   prepares_at d within = by d.made within
     where
-      by : (o : Option Body) → IfSome o (IsWithin (held_facts P)) → IfSome (option_map (at_dot (next_in place)) o) (λ f. IsWithin (held_facts P) f.1)
+      by : (o : Option Body) → IfSome o (IsWithin (held_facts P))
+          → IfSome (option_map (at_dot (next_in place)) o) (λ f. IsWithin (held_facts P) f.1)
       by None x = tt
       by (Some b) x = x
 
-  prepares_within : (cap : ℕ) (d : Decision) → MakesWithin (held_facts P) d → IfSome (prepared_by cap place d).fact (λ f. IsWithin (held_facts P) f.1)
+  prepares_within : (cap : ℕ) (d : Decision) → MakesWithin (held_facts P) d
+      → IfSome (prepared_by cap place d).fact (λ f. IsWithin (held_facts P) f.1)
   prepares_within cap d within =
       elim (is_some d.made && nat_lt cap place.next) as (λ t. IfSome (prepared_at (next_in place) (cond t (refused TemporarilyUnavailable) d)).fact (λ f. IsWithin (held_facts P) f.1)) [
         | true ↦ tt
@@ -105,27 +117,32 @@ module _ (F U V : FactSet) (d : Dot) (b : Body) (part : IsSubset F U) (adds : Ad
   link_here : links_in (map.get V) d ≡ link_of b
   link_here = ap (option_and_then link_of) adds.here
 
-  code_grown : (c : Dot) (code : issued.CodeIssued) → issued_at (map.get F) c ≡ Some code → issued_at (map.get V) c ≡ Some code
+  code_grown : (c : Dot) (code : issued.CodeIssued) → issued_at (map.get F) c ≡ Some code
+      → issued_at (map.get V) c ≡ Some code
   code_grown c code h =
       let from = from_some issued_in (map.get F c) code h in
       ap (option_and_then issued_in) (grown c from.0 from.1) ∙ from.2
 
   -- a dot that names p is under the codes that p is under
-  above_code : (l : Link) (p c : Dot) → link_of b ≡ Some l → l ≢ Code → named_by l ≡ Some p → IsUnder (links_in (map.get V)) d c → IsUnder (links_in (map.get V)) p c
+  above_code : (l : Link) (p c : Dot) → link_of b ≡ Some l → l ≢ Code → named_by l ≡ Some p
+      → IsUnder (links_in (map.get V)) d c → IsUnder (links_in (map.get V)) p c
   above_code l p c is other names under = by under.path under.leads
     where
-      by : (ps : List Dot) → IsPath (links_in (map.get V)) d ps c → IsUnder (links_in (map.get V)) p c
+      by : (ps : List Dot) → IsPath (links_in (map.get V)) d ps c
+          → IsUnder (links_in (map.get V)) p c
       by [] leads = absurd (other (some_injective l Code (sym is ∙ sym link_here ∙ ap (links_in (map.get V)) leads.0 ∙ leads.1)))
       by (q ∷ ps) leads =
           let same : leads.0.0.link ≡ l = some_injective leads.0.0.link l (sym leads.0.0.here ∙ link_here ∙ is) in
           let here : q ≡ p = some_injective q p (sym leads.0.0.names ∙ ap named_by same ∙ names) in
           subst (λ (x : Dot). IsUnder (links_in (map.get V)) x c) here (record { path = ps; leads = (leads.0.1, leads.1) })
 
-  code_itself : (c : Dot) (code : issued.CodeIssued) → issued_at (map.get F) c ≡ Some code → IsUnder (links_in (map.get V)) c c
+  code_itself : (c : Dot) (code : issued.CodeIssued) → issued_at (map.get F) c ≡ Some code
+      → IsUnder (links_in (map.get V)) c c
   code_itself c code h = code_under V c code (code_grown c code h)
 
   -- the family of what is above ends at the moment
-  ends_by : (p root c : Dot) (moment : ℕ) (code : issued.CodeIssued) → IsUnder (links_in (map.get V)) p root → IsCodeOf F root moment
+  ends_by : (p root c : Dot) (moment : ℕ) (code : issued.CodeIssued)
+      → IsUnder (links_in (map.get V)) p root → IsCodeOf F root moment
       → IsUnder (links_in (map.get V)) p c → issued_at (map.get V) c ≡ Some code → moment ≡ code.family_end
   ends_by p root c moment code under of under_c issues =
       let same : c ≡ root = IsUnder-one (links_in (map.get V)) p c root under_c under in
@@ -135,7 +152,8 @@ module _ (F U V : FactSet) (d : Dot) (b : Body) (part : IsSubset F U) (adds : Ad
   minted_here : (k : TokenId) → k.dot ≡ d → minted_in (map.get V) k ≡ minted_of b k.kind
   minted_here k same = ap (λ (q : Dot). option_and_then (λ (x : Body). minted_of x k.kind) (map.get V q)) same ∙ ap (option_and_then (λ (x : Body). minted_of x k.kind)) adds.here
 
-  ends_within : (b' : Body) (access refresh : ℕ) (k : Kind) (m : MintedFields) (moment : ℕ) → k ≢ kind.Code
+  ends_within : (b' : Body) (access refresh : ℕ) (k : Kind) (m : MintedFields) (moment : ℕ)
+      → k ≢ kind.Code
       → ((x : MintedFields) → minted_of b' kind.Access ≡ Some x → x.expiry ≡ access) → ((x : MintedFields) → minted_of b' kind.Refresh ≡ Some x → x.expiry ≡ refresh)
       → access ≤ moment → refresh ≤ moment → minted_of b' k ≡ Some m → m.expiry ≤ moment
   ends_within b' access refresh kind.Code m moment other a r x y h = absurd (other refl)
@@ -162,7 +180,8 @@ codes_alone U f = (none, refl, λ reuse same. absurd (cc))
     none kind.Access other = refl
     none kind.Refresh other = refl
 
-pub meets : (F U V : FactSet) (d : Dot) (b : Body) → IsSubset F U → AddsOne U d b V → IsWithin F b → MeetsFamily U d V
+pub meets : (F U V : FactSet) (d : Dot) (b : Body) → IsSubset F U → AddsOne U d b V → IsWithin F b
+    → MeetsFamily U d V
 meets F U V d (body.CodeRedeemed f) part adds within =
     let b : Body = body.CodeRedeemed f in
     let of = within.1 in
@@ -193,7 +212,8 @@ meets F U V d (body.CodeRedeemed f) part adds within =
     no_reuse : (reuse : seen.ReuseSeen) → body.CodeRedeemed f ≡ body.ReuseSeen reuse → ⊥
     no_reuse reuse e = cc
 
-    code_link : (code : issued.CodeIssued) → issued_at (map.get V) f.code ≡ Some code → links_in (map.get V) f.code ≡ Some Code
+    code_link : (code : issued.CodeIssued) → issued_at (map.get V) f.code ≡ Some code
+        → links_in (map.get V) f.code ≡ Some Code
     code_link code h =
         let from = from_some issued_in (map.get V f.code) code h in
         ap (option_and_then link_of) from.1 ∙ by from.0 from.2
@@ -244,7 +264,8 @@ meets F U V d (body.ReuseSeen f) part adds within = alone_meets U V d (body.Reus
 meets F U V d b part adds within = alone_meets U V d b adds (λ k other. refl, refl, λ reuse same. absurd (cc))
 
 -- a fact that a region makes ends with its family, and names what was minted for it
-pub made_meets : (r : RegionFields) (U V : FactSet) (now : ℕ) (words : List ℕ) (request : RequestFields) → IsSubset (held_facts r.facts) U
+pub made_meets : (r : RegionFields) (U V : FactSet) (now : ℕ) (words : List ℕ) (request : RequestFields)
+    → IsSubset (held_facts r.facts) U
     → IfSome (prepared_of r now words request).fact (λ f. AddsOne U f.0 f.1 V → MeetsFamily U f.0 V)
 made_meets r U V now words request part =
     elim (nat_lt now r.facts.horizon) as (λ t. IfSome (cond t (early_in (place_in r)) (prepared_by r.settings.cap (place_in r) (decision_by request.endpoint r.facts (place_in r) now words request))).fact (λ f. AddsOne U f.0 f.1 V → MeetsFamily U f.0 V)) [
@@ -252,6 +273,7 @@ made_meets r U V now words request part =
       | false ↦ by _ (prepares_within r.facts (place_in r) now words request r.settings.cap (decision_by request.endpoint r.facts (place_in r) now words request) (made_within r.facts (place_in r) now words request request.endpoint))
     ]
   where
-    by : (o : Option (Dot × Body)) → IfSome o (λ f. IsWithin (held_facts r.facts) f.1) → IfSome o (λ f. AddsOne U f.0 f.1 V → MeetsFamily U f.0 V)
+    by : (o : Option (Dot × Body)) → IfSome o (λ f. IsWithin (held_facts r.facts) f.1)
+        → IfSome o (λ f. AddsOne U f.0 f.1 V → MeetsFamily U f.0 V)
     by None x = tt
     by (Some f) x = λ adds. meets (held_facts r.facts) U V f.0 f.1 part adds x

@@ -2,7 +2,8 @@
 --   goes_soundly   a fact that may go may be skipped by all facts made
 --   slice_stands   a store of which a slice was pruned stands for the same facts
 --   progresses     as long as a fact that may be skipped is held, some fact may go
-use Rattle.std.proofs.Common.{◌≡◌, ◌≢◌, ◌⊎◌, inl, inr, true, false, ℕ, ◌≤◌, max, List, [], ◌∷◌, Option, None, Some, refl, sym, ap, subst, ◌∙◌, arith}
+use Rattle.std.proofs.Common.{◌≡◌, ◌≢◌, ◌⊎◌, inl, inr, true, false, ℕ, ◌≤◌, max, List, [], ◌∷◌}
+use Rattle.std.proofs.Common.{Option, None, Some, refl, sym, ap, subst, ◌∙◌, arith}
 use Rattle.std.proofs.lemmas.Bool.{true≢false, cases_Bool}
 use Rattle.std.specs.Option.{option_and_then}
 use Rattle.std.specs.FinMap as map
@@ -13,7 +14,6 @@ use Rattle.tk_family.specs.declared.link.Link.{Link}
 use Rattle.tk_family.specs.declared.link.Link.TheVariants.{Code, Redeems, Rotates}
 use Rattle.tk_family.specs.Families.{named_by, use_of, IsParent, IsPath, IsUnder}
 use Rattle.tk_fact.specs.Keeping.{kept_for, names_of}
-use Rattle.tk_fact.specs.Tokens.{MintedFields, minted_of}
 use Rattle.tk_fact.specs.declared.body.Body.{Body}
 use Rattle.tk_fact.specs.declared.body.Body.TheVariants as body
 use Rattle.tk_fact.specs.declared.code_issued.CodeIssued as issued
@@ -21,15 +21,15 @@ use Rattle.tk_store.specs.FactSet.{FactSet}
 use Rattle.tk_store.specs.Slots.{Skipped, is_skipped}
 use Rattle.tk_store.specs.StoreFields.{StoreFields, held_facts, with_horizon, with_skipped}
 use Rattle.tk_store.proofs.PutLaws.{none_is_not_some, some_injective}
-use Rattle.tk_ledger.specs.Retention.{MaySkip}
+use Rattle.tk_ledger.specs.Retention.{IsOverAt, MintsNothing, MaySkip}
 use Rattle.tk_ledger.specs.Slices.{Goes, PrunesSome, Steps}
-use Rattle.tk_ledger.specs.Tokens.{link_of, links_in, issued_in, issued_at, minted_in}
+use Rattle.tk_ledger.specs.Tokens.{link_of, links_in, issued_in, issued_at}
 use Rattle.tk_ledger.specs.declared.slices.Slice.{Slice}
 use Rattle.tk_ledger.proofs.TokenLaws.{from_some}
 use Rattle.tk_retention.specs.StandsFor.{StandsFor, AreSound}
 use Rattle.tk_retention.proofs.KeepingLaws.{may_more, slot_more, slot_put}
-use Rattle.tk_retention.proofs.StandingLaws.{kept_linked, link_from, code_under, at_held, may_skip, held_made, held_part}
-use Rattle.tk_retention.proofs.StatusStandsLaws.{mint_link}
+use Rattle.tk_retention.proofs.StandingLaws.{kept_linked, link_from, code_under, at_held, may_skip}
+use Rattle.tk_retention.proofs.StandingLaws.{held_made, held_part}
 
 module _ (P : StoreFields) (U F : FactSet) (S : StandsFor P U F) where
   abbrev H : FactSet
@@ -37,62 +37,73 @@ module _ (P : StoreFields) (U F : FactSet) (S : StandsFor P U F) where
 
   -- ---- what may go may be skipped
 
-  -- what is minted at a skipped dot is under the code for which the dot may be skipped
-  under_skipped : (q : Dot) (l : Link) → links_in (map.get U) q ≡ Some l → (may : MaySkip (map.get U) P.horizon q) → IsUnder (links_in (map.get U)) q may.root
-  under_skipped q l at may =
-      subst (λ (x : Dot). IsUnder (links_in (map.get U)) x may.root) (kept_linked q may.fact l may.token (link_from (map.get U q) may.fact may.here l at) may.kept) may.under.1
+  -- what mints at a skipped dot is of a family that is over
+  over_skipped : (q : Dot) (l : Link) → links_in (map.get U) q ≡ Some l
+      → MaySkip (map.get U) P.horizon q → IsOverAt (map.get U) P.horizon q
+  over_skipped q l at may = by may.token.dot (kept_linked q may.fact l may.token (link_from (map.get U q) may.fact may.here l at) may.kept) may.why
+    where
+      by : (e : Dot) → e ≡ q → IsOverAt (map.get U) P.horizon e ⊎ MintsNothing (map.get U) e
+          → IsOverAt (map.get U) P.horizon q
+      by e own (inl o) = subst (λ (x : Dot). IsOverAt (map.get U) P.horizon x) own o
+      by e own (inr none) =
+          let here : MintsNothing (map.get U) q = subst (λ (x : Dot). MintsNothing (map.get U) x) own none in
+          absurd (none_is_not_some l (sym (ap (option_and_then link_of) here.here ∙ here.barren) ∙ at))
 
   -- a fact whose parent may be skipped may be skipped
-  child_skips : (d q : Dot) (b : Body) (k : TokenId) → map.get U d ≡ Some b → kept_for d b ≡ Some k → k.dot ≡ d → minted_in (map.get U) k ≢ None → IsParent (links_in (map.get U)) d q → MaySkip (map.get U) P.horizon q → MaySkip (map.get U) P.horizon d
-  child_skips d q b k here kept own minted parent may =
-      let above = under_skipped q parent.above parent.there may in
+  child_skips : (d q : Dot) (b : Body) (k : TokenId) → map.get U d ≡ Some b → kept_for d b ≡ Some k
+      → k.dot ≡ d → IsParent (links_in (map.get U)) d q → MaySkip (map.get U) P.horizon q
+      → MaySkip (map.get U) P.horizon d
+  child_skips d q b k here kept own parent may =
+      let o = over_skipped q parent.above parent.there may in
       record {
         fact = b;
         here = here;
         token = k;
         kept = kept;
-        root = may.root;
-        under = (minted, subst (λ (x : Dot). IsUnder (links_in (map.get U)) x may.root) (sym own) (record { path = q ∷ above.path; leads = ((parent, above.leads.0), above.leads.1) }));
-        code = may.code;
-        issues = may.issues;
-        over = may.over;
+        why = inl (record {
+          root = o.root;
+          under = subst (λ (x : Dot). IsUnder (links_in (map.get U)) x o.root) (sym own) (record { path = q ∷ o.under.path; leads = ((parent, o.under.leads.0), o.under.leads.1) });
+          code = o.code;
+          issues = o.issues;
+          over = o.over;
+        });
       }
 
-  some_minted : (b : Body) (k : TokenId) (m : MintedFields) → map.get U k.dot ≡ Some b → minted_of b k.kind ≡ Some m → minted_in (map.get U) k ≢ None
-  some_minted b k m here mints none = none_is_not_some m (sym none ∙ ap (option_and_then (λ (x : Body). minted_of x k.kind)) here ∙ mints)
+  -- a token whose dot may be skipped is of a family that is over, or can't come
+  named_over : (q : Dot) → MaySkip (map.get U) P.horizon q
+      → IsOverAt (map.get U) P.horizon q ⊎ MintsNothing (map.get U) q
+  named_over q may = by (link_of may.fact) refl
+    where
+      by : (o : Option Link) → link_of may.fact ≡ o
+          → IsOverAt (map.get U) P.horizon q ⊎ MintsNothing (map.get U) q
+      by None none = inr (record { fact = may.fact; here = may.here; barren = none })
+      by (Some l) link = inl (over_skipped q l (ap (option_and_then link_of) may.here ∙ link) may)
 
   module _ (sound : AreSound U) (d : Dot) where
-    names_soundly : (b : Body) (q : Dot) → map.get U d ≡ Some b → names_of b ≡ Some q → is_skipped P.slots q ≡ true → MaySkip (map.get U) P.horizon d
+    names_soundly : (b : Body) (q : Dot) → map.get U d ≡ Some b → names_of b ≡ Some q
+        → is_skipped P.slots q ≡ true → MaySkip (map.get U) P.horizon d
     names_soundly (body.CodeRedeemed f) q here names skipped =
         child_skips d f.code (body.CodeRedeemed f) (record { dot = d; kind = kind.Refresh }) here refl refl
-        (some_minted (body.CodeRedeemed f) (record { dot = d; kind = kind.Refresh }) _ here refl)
         (sound.parents d (record { dot = f.code; kind = kind.Code }) (ap (λ o. use_of (option_and_then link_of o)) here))
         (may_skip P U F S f.code (ap (is_skipped P.slots) (some_injective f.code q names) ∙ skipped))
     names_soundly (body.RefreshRotated f) q here names skipped =
         child_skips d f.parent (body.RefreshRotated f) (record { dot = d; kind = kind.Refresh }) here refl refl
-        (some_minted (body.RefreshRotated f) (record { dot = d; kind = kind.Refresh }) _ here refl)
         (sound.parents d (record { dot = f.parent; kind = kind.Refresh }) (ap (λ o. use_of (option_and_then link_of o)) here))
         (may_skip P U F S f.parent (ap (is_skipped P.slots) (some_injective f.parent q names) ∙ skipped))
-    names_soundly (body.ReuseSeen f) q here names skipped =
-        let may = may_skip P U F S f.token.dot (ap (is_skipped P.slots) (some_injective f.token.dot q names) ∙ skipped) in
-        by may (minted_in (map.get U) f.token) refl
-      where
-        by : MaySkip (map.get U) P.horizon f.token.dot → (o : Option MintedFields) → minted_in (map.get U) f.token ≡ o → MaySkip (map.get U) P.horizon d
-        by may None none = absurd (sound.reuses d f here none)
-        by may (Some m) mints =
-            let x = from_some (λ (y : Body). minted_of y f.token.kind) (map.get U f.token.dot) m mints in
-            let link = mint_link x.0 f.token.kind m x.2 in
-            record {
-              fact = body.ReuseSeen f;
-              here = here;
-              token = f.token;
-              kept = refl;
-              root = may.root;
-              under = (sound.reuses d f here, under_skipped f.token.dot link.0 (ap (option_and_then link_of) x.1 ∙ link.1) may);
-              code = may.code;
-              issues = may.issues;
-              over = may.over;
-            }
+    names_soundly (body.TokenRevoked f) q here names skipped = record {
+      fact = body.TokenRevoked f;
+      here = here;
+      token = f.token;
+      kept = refl;
+      why = named_over f.token.dot (may_skip P U F S f.token.dot (ap (is_skipped P.slots) (some_injective f.token.dot q names) ∙ skipped));
+    }
+    names_soundly (body.ReuseSeen f) q here names skipped = record {
+      fact = body.ReuseSeen f;
+      here = here;
+      token = f.token;
+      kept = refl;
+      why = named_over f.token.dot (may_skip P U F S f.token.dot (ap (is_skipped P.slots) (some_injective f.token.dot q names) ∙ skipped));
+    }
     names_soundly b q here names skipped = absurd (none_is_not_some q names)
 
     pub goes_soundly : Goes P d → MaySkip (map.get U) P.horizon d
@@ -120,14 +131,16 @@ module _ (P : StoreFields) (U F : FactSet) (S : StandsFor P U F) where
     | inr held ↦ at_held P U F S q held
   ]
 
-  names_link : (b : Body) (l : Link) (p : Dot) → link_of b ≡ Some l → named_by l ≡ Some p → names_of b ≡ Some p
+  names_link : (b : Body) (l : Link) (p : Dot) → link_of b ≡ Some l → named_by l ≡ Some p
+      → names_of b ≡ Some p
   names_link (body.CodeIssued f) l p h n = absurd (none_is_not_some p (ap named_by (some_injective Code l h) ∙ n))
   names_link (body.CodeRedeemed f) l p h n = ap named_by (some_injective (Redeems f.code) l h) ∙ n
   names_link (body.RefreshRotated f) l p h n = ap named_by (some_injective (Rotates f.parent f.generation) l h) ∙ n
   names_link b l p h n = absurd (none_is_not_some l h)
 
   -- a code that is held, and whose family is over, may go
-  code_goes : (c : Dot) (code : issued.CodeIssued) → issued_at (map.get H) c ≡ Some code → code.family_end ≤ P.horizon → Goes P c
+  code_goes : (c : Dot) (code : issued.CodeIssued) → issued_at (map.get H) c ≡ Some code
+      → code.family_end ≤ P.horizon → Goes P c
   code_goes c code held over =
       let x = from_some issued_in (map.get H c) code held in
       by x.0 x.1 x.2
@@ -138,16 +151,14 @@ module _ (P : StoreFields) (U F : FactSet) (S : StandsFor P U F) where
         here = here;
         token = record { dot = c; kind = kind.Code };
         kept = refl;
-        root = c;
-        under = (λ none. none_is_not_some _ (sym none ∙ ap (option_and_then (λ (y : Body). minted_of y kind.Code)) here), code_under H c code held);
-        code = code;
-        issues = held;
-        over = over;
+        why = inl (record { root = c; under = code_under H c code held; code = code; issues = held; over = over });
       })
       by b here is = absurd (none_is_not_some code is)
 
   -- along the chain of a fact that is held, to its code
-  on_path : (d : Dot) (ps : List Dot) (c : Dot) (code : issued.CodeIssued) → IsPath (links_in (map.get F)) d ps c → issued_at (map.get F) c ≡ Some code → code.family_end ≤ P.horizon
+  on_path : (d : Dot) (ps : List Dot) (c : Dot) (code : issued.CodeIssued)
+      → IsPath (links_in (map.get F)) d ps c → issued_at (map.get F) c ≡ Some code
+      → code.family_end ≤ P.horizon
       → is_skipped P.slots d ≢ true → (e : Dot) × Goes P e
   on_path d [] c code m issues over off =
       (c, code_goes c code (ap (option_and_then issued_in) (sym (unskipped c (λ on. off (ap (is_skipped P.slots) m.0 ∙ on)))) ∙ issues) over)
@@ -159,30 +170,51 @@ module _ (P : StoreFields) (U F : FactSet) (S : StandsFor P U F) where
   ]
 
   -- a fact is kept for a token of its own, or names the token's dot
-  own_or_named : (d : Dot) (b : Body) (k : TokenId) → kept_for d b ≡ Some k → (k.dot ≡ d) ⊎ (names_of b ≡ Some k.dot)
+  own_or_named : (d : Dot) (b : Body) (k : TokenId) → kept_for d b ≡ Some k
+      → (k.dot ≡ d) ⊎ (names_of b ≡ Some k.dot)
   own_or_named d (body.CodeIssued f) k h = inl (ap (λ (x : TokenId). x.dot) (sym (some_injective _ k h)))
   own_or_named d (body.CodeRedeemed f) k h = inl (ap (λ (x : TokenId). x.dot) (sym (some_injective _ k h)))
   own_or_named d (body.RefreshRotated f) k h = inl (ap (λ (x : TokenId). x.dot) (sym (some_injective _ k h)))
+  own_or_named d (body.TokenRevoked f) k h = inr (ap (λ (x : TokenId). Some x.dot) (some_injective f.token k h))
   own_or_named d (body.ReuseSeen f) k h = inr (ap (λ (x : TokenId). Some x.dot) (some_injective f.token k h))
   own_or_named d b k h = absurd (none_is_not_some k h)
 
-  pub progresses : (d : Dot) → MaySkip (map.get F) P.horizon d → is_skipped P.slots d ≢ true → (e : Dot) × Goes P e
+  pub progresses : (d : Dot) → MaySkip (map.get F) P.horizon d → is_skipped P.slots d ≢ true
+      → (e : Dot) × Goes P e
   progresses d may off = elim (cases_Bool (is_skipped P.slots may.token.dot)) [
-    | inr held ↦ on_path may.token.dot may.under.1.path may.root may.code may.under.1.leads may.issues may.over (λ on. true≢false (sym on ∙ held))
+    | inr held ↦ by may.why (λ on. true≢false (sym on ∙ held))
     | inl skipped ↦ elim (own_or_named d may.fact may.token may.kept) [
       | inl own ↦ absurd (off (ap (is_skipped P.slots) (sym own) ∙ skipped))
       | inr names ↦ (d, inr (record { fact = may.fact; here = sym (unskipped d off) ∙ may.here; named = may.token.dot; names = names; skipped = skipped }))
     ]
   ]
+    where
+      by : IsOverAt (map.get F) P.horizon may.token.dot ⊎ MintsNothing (map.get F) may.token.dot
+          → is_skipped P.slots may.token.dot ≢ true → (e : Dot) × Goes P e
+      by (inl o) held = on_path may.token.dot o.under.path o.root o.code o.under.leads o.issues o.over held
+      by (inr none) held = (
+        d,
+        inl (record {
+          fact = may.fact;
+          here = sym (unskipped d off) ∙ may.here;
+          token = may.token;
+          kept = may.kept;
+          why = inr (record { fact = none.fact; here = sym (unskipped may.token.dot held) ∙ none.here; barren = none.barren });
+        }),
+      )
 
 -- ---- slices
 
-later_stands : (P : StoreFields) (U F : FactSet) → StandsFor P U F → (moment : ℕ) → StandsFor (with_horizon P moment) U F
+later_stands : (P : StoreFields) (U F : FactSet) → StandsFor P U F → (moment : ℕ)
+    → StandsFor (with_horizon P moment) U F
 later_stands P U F S moment q = slot_more U U (λ d b h. h) P.horizon (max P.horizon moment) (omega arith) q (map.get P.slots q) (map.get F q) (S q)
 
-steps_stand : (P Q : StoreFields) (U F : FactSet) → StandsFor P U F → AreSound U → (ds : List Dot) → Steps P ds Q → StandsFor Q U F
+steps_stand : (P Q : StoreFields) (U F : FactSet) → StandsFor P U F → AreSound U → (ds : List Dot)
+    → Steps P ds Q → StandsFor Q U F
 steps_stand P Q U F S sound [] is = subst (λ (R : StoreFields). StandsFor R U F) (sym is) S
 steps_stand P Q U F S sound (d ∷ ds) steps = steps_stand (with_skipped P d) Q U F (step_stands P U F S sound d steps.0) sound ds steps.1
 
-pub slice_stands : (old new : StoreFields) (moment : ℕ) (after : Option Dot) (count : ℕ) (slice : Slice) (U F : FactSet) → PrunesSome old moment after count slice new → StandsFor old U F → AreSound U → StandsFor new U F
+pub slice_stands : (old new : StoreFields) (moment : ℕ) (after : Option Dot) (count : ℕ) (slice : Slice) (U F : FactSet)
+    → PrunesSome old moment after count slice new → StandsFor old U F → AreSound U
+    → StandsFor new U F
 slice_stands old new moment after count slice U F looks S sound = steps_stand (with_horizon old moment) new U F (later_stands old U F S moment) sound looks.went.dots looks.went.steps

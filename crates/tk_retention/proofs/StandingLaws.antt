@@ -4,9 +4,10 @@
 --   held_made, all_made, held_part    the sets within each other
 --   lasting_held                      a fact that is kept for no token is held
 --   skipped_over                      what is skipped is under a code whose family is over
---   under_held, mint_held, code_held, ended_held, used_held, dead_held
+--   under_held, mint_held, code_held, revoked_held, ended_held, used_held, dead_held
 --                                     it is held, or the family is over
-use Rattle.std.proofs.Common.{◌≡◌, ◌≢◌, ◌⊎◌, inl, inr, ℕ, ◌≤◌, true, false, Option, None, Some, List, [], ◌∷◌, refl, sym, ap, subst, ◌∙◌}
+use Rattle.std.proofs.Common.{◌≡◌, ◌≢◌, ◌⊎◌, inl, inr, ℕ, ◌≤◌, true, false, Option, None, Some}
+use Rattle.std.proofs.Common.{List, [], ◌∷◌, refl, sym, ap, subst, ◌∙◌}
 use Rattle.std.proofs.lemmas.Bool.{true≢false, cases_Bool}
 use Rattle.std.specs.Option.{option_and_then}
 use Rattle.std.specs.FinMap as map
@@ -15,7 +16,8 @@ use Rattle.tk_handle.specs.declared.kind.Kind.TheVariants as kind
 use Rattle.tk_handle.specs.declared.token_id.TokenId.{TokenId}
 use Rattle.tk_family.specs.declared.link.Link.{Link}
 use Rattle.tk_family.specs.declared.link.Link.TheVariants.{Code, Redeems, Rotates}
-use Rattle.tk_family.specs.Families.{Links, used_by, named_by, grant_at, IsParent, IsPath, IsUnder, use_of, IsUsed, IsTwice, IsDead}
+use Rattle.tk_family.specs.Families.{Links, used_by, named_by, grant_at, IsParent, IsPath, IsUnder}
+use Rattle.tk_family.specs.Families.{use_of, IsUsed, IsTwice, IsDead}
 use Rattle.tk_family.proofs.FamilyLaws.{IsUnder-one, IsUnder-within, use_of-within}
 use Rattle.tk_fact.specs.Keeping.{kept_for}
 use Rattle.tk_fact.specs.Tokens.{MintedFields, minted_of}
@@ -27,9 +29,11 @@ use Rattle.tk_store.specs.Slots.{Slot, Held, Skipped, held_slot, is_skipped, is_
 use Rattle.tk_store.specs.StoreFields.{StoreFields, held_facts}
 use Rattle.tk_store.proofs.PutLaws.{none_is_not_some, some_injective}
 use Rattle.tk_store.proofs.SlotLaws.{get_held}
-use Rattle.tk_ledger.specs.Retention.{MaySkip}
+use Rattle.tk_ledger.specs.Bodies.{Bodies}
+use Rattle.tk_ledger.specs.Retention.{IsOverAt, MintsNothing, MaySkip}
 use Rattle.tk_ledger.specs.SignOuts.{IsSignedOut}
-use Rattle.tk_ledger.specs.Tokens.{link_of, links_in, issued_in, issued_at, minted_in, IsRevoked, IsEnded, IsReused, IsOut, IsMarked}
+use Rattle.tk_ledger.specs.Tokens.{link_of, links_in, issued_in, issued_at, minted_in, IsRevoked}
+use Rattle.tk_ledger.specs.Tokens.{IsEnded, IsReused, IsOut, IsMarked}
 use Rattle.tk_ledger.proofs.TokenLaws.{links-below}
 use Rattle.tk_retention.specs.StandsFor.{SlotStands, StandsFor}
 
@@ -86,6 +90,19 @@ issues_link : (o : Option Body) (code : issued.CodeIssued) → option_and_then i
 issues_link None code h = absurd (none_is_not_some code h)
 issues_link (Some (body.CodeIssued c)) code h = refl
 issues_link (Some b) code h = absurd (none_is_not_some code h)
+
+-- where a dot is under a code, its fact mints a token
+under_mints : (body_at : Bodies) (d c : Dot) → IsUnder (links_in body_at) d c → MintsNothing body_at d → ⊥
+under_mints body_at d c under none =
+    let link = path_link (links_in body_at) d under.path c under.leads in
+    none_some (links_in body_at d) link.0 (ap (option_and_then link_of) none.here ∙ none.barren) link.1
+
+-- a family that is over, by a token's dot
+over_from : (U : FactSet) (t : ℕ) (e d c : Dot) → IsOverAt (map.get U) t e ⊎ MintsNothing (map.get U) e → e ≡ d → IsUnder (links_in (map.get U)) d c → IsOver U t c
+over_from U t e d c (inl o) same under =
+    over_at U t o.root c o.code (IsUnder-one (links_in (map.get U)) d o.root c (under_at (links_in (map.get U)) e d o.root same o.under) under) o.issues o.over
+over_from U t e d c (inr none) same under =
+    absurd (under_mints (map.get U) d c under (subst (λ (q : Dot). MintsNothing (map.get U) q) same none))
 
 -- a code is under itself
 pub code_under : (F : FactSet) (c : Dot) (code : issued.CodeIssued) → issued_at (map.get F) c ≡ Some code → IsUnder (links_in (map.get F)) c c
@@ -162,8 +179,7 @@ module _ (P : StoreFields) (U F : FactSet) (S : StandsFor P U F) where
       let may = may_skip d skipped in
       let link = path_link (links_in (map.get U)) d under.path c under.leads in
       let own : may.token.dot ≡ d = kept_linked d may.fact link.0 may.token (link_from (map.get U d) may.fact may.here link.0 link.1) may.kept in
-      let above : IsUnder (links_in (map.get U)) d may.root = under_at (links_in (map.get U)) may.token.dot d may.root own may.under.1 in
-      over_at U P.horizon may.root c may.code (IsUnder-one (links_in (map.get U)) d may.root c above under) may.issues may.over
+      over_from U P.horizon may.token.dot d c may.why own under
 
   made_up : (d c : Dot) → IsUnder (links_in (map.get F)) d c → IsUnder (links_in (map.get U)) d c
   made_up d c u = IsUnder-within (links_in (map.get F)) (links_in (map.get U)) (links-below F U all_made) d c u
@@ -214,9 +230,16 @@ module _ (P : StoreFields) (U F : FactSet) (S : StandsFor P U F) where
         let may = may_skip e skipped in
         let above = used_link (links_in (map.get U) e) k (made_use e k u) in
         let own : may.token.dot ≡ e = kept_linked e may.fact above.0 may.token (link_from (map.get U e) may.fact may.here above.0 above.1) may.kept in
-        let here : IsUnder (links_in (map.get U)) e may.root = under_at (links_in (map.get U)) may.token.dot e may.root own may.under.1 in
-        inr (over_at U P.horizon may.root c may.code (user_over e c k may.root here.path (made_use e k u) here.leads under) may.issues may.over)
+        inr (by may.token.dot own above.0 above.1 may.why)
   ]
+    where
+      by : (q : Dot) → q ≡ e → (l : Link) → links_in (map.get U) e ≡ Some l → IsOverAt (map.get U) P.horizon q ⊎ MintsNothing (map.get U) q → IsOver U P.horizon c
+      by q own l at (inl o) =
+          let here : IsUnder (links_in (map.get U)) e o.root = under_at (links_in (map.get U)) q e o.root own o.under in
+          over_at U P.horizon o.root c o.code (user_over e c k o.root here.path (made_use e k u) here.leads under) o.issues o.over
+      by q own l at (inr none) =
+          let here : MintsNothing (map.get U) e = subst (λ (x : Dot). MintsNothing (map.get U) x) own none in
+          absurd (none_some (links_in (map.get U) e) l (ap (option_and_then link_of) here.here ∙ here.barren) at)
 
   twice_held : (c : Dot) (k : TokenId) → IsTwice (links_in (map.get F)) k → IsUnder (links_in (map.get U)) k.dot c → IsTwice (links_in (map.get H)) k ⊎ IsOver U P.horizon c
   twice_held c k t under = elim (use_held t.one c k t.by_one under) [
@@ -234,9 +257,7 @@ module _ (P : StoreFields) (U F : FactSet) (S : StandsFor P U F) where
         let may = may_skip s.place skipped in
         let fact : may.fact ≡ body.ReuseSeen s.reuse = some_injective may.fact (body.ReuseSeen s.reuse) (sym may.here ∙ sym (at_skipped s.place skipped) ∙ s.held) in
         let token : may.token ≡ s.reuse.token = some_injective may.token s.reuse.token (sym may.kept ∙ ap (kept_for s.place) fact) in
-        let own : may.token.dot ≡ k.dot = ap (λ (x : TokenId). x.dot) (token ∙ s.token) in
-        let above : IsUnder (links_in (map.get U)) k.dot may.root = under_at (links_in (map.get U)) may.token.dot k.dot may.root own may.under.1 in
-        inr (over_at U P.horizon may.root c may.code (IsUnder-one (links_in (map.get U)) k.dot may.root c above under) may.issues may.over)
+        inr (over_from U P.horizon may.token.dot k.dot c may.why (ap (λ (x : TokenId). x.dot) (token ∙ s.token)) under)
   ]
 
   pub mint_held : (c : Dot) (k : TokenId) (m : MintedFields) → minted_in (map.get F) k ≡ Some m → IsUnder (links_in (map.get U)) k.dot c → (minted_in (map.get H) k ≡ Some m) ⊎ IsOver U P.horizon c
@@ -251,15 +272,23 @@ module _ (P : StoreFields) (U F : FactSet) (S : StandsFor P U F) where
     | inr held ↦ inl (ap (option_and_then issued_in) (sym (at_held c held)) ∙ is)
   ]
 
-  revoked_held : (k : TokenId) (digest : List ℕ) (client : Dot) → IsRevoked (map.get F) k digest client → IsRevoked (map.get H) k digest client
-  revoked_held k digest client r = record {
-    place = r.place;
-    revocation = r.revocation;
-    held = lasting_held r.place (body.TokenRevoked r.revocation) refl r.held;
-    token = r.token;
-    digest_is = r.digest_is;
-    client_is = r.client_is;
-  }
+  -- a revocation is held, or its token's family is over, or its token can't come
+  pub revoked_held : (k : TokenId) (digest : List ℕ) (client : Dot) → IsRevoked (map.get F) k digest client → IsRevoked (map.get H) k digest client ⊎ (IsOverAt (map.get U) P.horizon k.dot ⊎ MintsNothing (map.get U) k.dot)
+  revoked_held k digest client r = elim (cases_Bool (is_skipped P.slots r.place)) [
+    | inr held ↦ inl (record {
+      place = r.place;
+      revocation = r.revocation;
+      held = sym (at_held r.place held) ∙ r.held;
+      token = r.token;
+      digest_is = r.digest_is;
+      client_is = r.client_is;
+    })
+    | inl skipped ↦
+        let may = may_skip r.place skipped in
+        let fact : may.fact ≡ body.TokenRevoked r.revocation = some_injective may.fact (body.TokenRevoked r.revocation) (sym may.here ∙ sym (at_skipped r.place skipped) ∙ r.held) in
+        let token : may.token ≡ r.revocation.token = some_injective may.token r.revocation.token (sym may.kept ∙ ap (kept_for r.place) fact) in
+        inr (subst (λ (q : Dot). IsOverAt (map.get U) P.horizon q ⊎ MintsNothing (map.get U) q) (ap (λ (x : TokenId). x.dot) (token ∙ r.token)) may.why)
+  ]
 
   signed_held : (subject : List ℕ) (moment : ℕ) → IsSignedOut (map.get F) subject moment → IsSignedOut (map.get H) subject moment
   signed_held subject moment s = record {
@@ -279,15 +308,18 @@ module _ (P : StoreFields) (U F : FactSet) (S : StandsFor P U F) where
           | inr over ↦ inr (subst (λ (q : Dot). IsOver U P.horizon q) same over)
           | inl above ↦ elim (code_held e.code e.issued e.issues) [
             | inr over ↦ inr (subst (λ (q : Dot). IsOver U P.horizon q) same over)
-            | inl is ↦ inl (record {
-              minted = e.minted;
-              code = e.code;
-              issued = e.issued;
-              mints = mints;
-              under = above;
-              issues = is;
-              by_client = revoked_held k e.minted.digest e.issued.client e.by_client;
-            })
+            | inl is ↦ elim (revoked_held k e.minted.digest e.issued.client e.by_client) [
+              | inr why ↦ inr (over_from U P.horizon k.dot k.dot c why refl under)
+              | inl by ↦ inl (record {
+                minted = e.minted;
+                code = e.code;
+                issued = e.issued;
+                mints = mints;
+                under = above;
+                issues = is;
+                by_client = by;
+              })
+            ]
           ]
         ]
       ]

@@ -2,6 +2,7 @@
 -- or both are lost. Key results:
 --   state_same                the state of a token whose family is not over
 --   status_stands             the statuses
+--   revoked_early             the revocations of a token that is known and hasn't expired
 use Rattle.std.proofs.Common.{◌≡◌, ◌≢◌, ◌⊎◌, inl, inr, ℕ, ◌≤◌, ◌<◌, Bool, true, false, ◌&&◌, not, nat_le, cond, if◌then◌else◌, List, Option, None, Some, refl, sym, ap, subst, ◌∙◌, arith}
 use borrow.Author.Tests.{le-leb}
 use Rattle.std.proofs.lemmas.Bool.{cases_lt}
@@ -27,21 +28,24 @@ use Rattle.tk_store.specs.Slots.{Slot, Held, Skipped, held_slot, is_skipped, is_
 use Rattle.tk_store.specs.StoreFields.{StoreFields, held_facts}
 use Rattle.tk_store.proofs.PutLaws.{none_is_not_some, some_injective}
 use Rattle.tk_store.proofs.SlotLaws.{get_held}
+use Rattle.tk_ledger.specs.Bodies.{Bodies}
 use Rattle.tk_ledger.specs.Clients.{is_live_client, gives, is_live_consent}
+use Rattle.tk_ledger.specs.Retention.{IsOverAt, MintsNothing}
 use Rattle.tk_ledger.specs.StandingFields.{StandingFields}
 use Rattle.tk_ledger.specs.Status.{generation_of, state_in, standing_in, digest_of, with_digest, minted_as, status_by, status_in, status_here}
-use Rattle.tk_ledger.specs.Tokens.{link_of, links_in, issued_in, issued_at, minted_in, Root, root_in, is_used, is_ended, is_dead}
+use Rattle.tk_ledger.specs.Tokens.{link_of, links_in, issued_in, issued_at, minted_in, Root, root_in, is_used, is_revoked, is_ended, is_dead}
 use Rattle.tk_ledger.specs.declared.status.State.{State}
 use Rattle.tk_ledger.specs.declared.status.State.TheVariants as state
 use Rattle.tk_ledger.specs.declared.status.Status.{Status}
 use Rattle.tk_ledger.specs.declared.status.Status.TheVariants.{Broken, Known}
 use Rattle.tk_ledger.proofs.HereLaws.{here_held, here_skipped, here_unknown}
 use Rattle.tk_ledger.proofs.KeyLaws.{same_tests}
-use Rattle.tk_ledger.proofs.TokenLaws.{from_some, links-below, minted-below, root-sound, root-complete, is_dead-sound, is_dead-complete, is_used-sound, is_used-complete, is_ended-sound, is_ended-complete, IsDead-below, IsEnded-below}
+use Rattle.tk_ledger.proofs.TokenLaws.{from_some, links-below, minted-below, root-sound, root-complete, is_dead-sound, is_dead-complete, is_used-sound, is_used-complete, is_ended-sound, is_ended-complete, is_revoked-sound, is_revoked-complete, IsDead-below, IsEnded-below}
 use Rattle.tk_ledger.specs.Alike.{is_closed, IsLost, AnsweredAlike}
+use Rattle.tk_query.specs.Anew.{IsEarly}
 use Rattle.tk_retention.specs.StandsFor.{StandsFor, AreSound}
-use Rattle.tk_retention.proofs.LastingLaws.{live_client_same, consent_same, withdrawn_same}
-use Rattle.tk_retention.proofs.StandingLaws.{IsOver, none_some, kept_linked, all_made, at_skipped, at_held, may_skip, held_made, held_part, under_held, code_held, ended_held, used_held, dead_held, code_under}
+use Rattle.tk_retention.proofs.LastingLaws.{live_client_same, consent_same, withdrawn_same, revoked_up}
+use Rattle.tk_retention.proofs.StandingLaws.{IsOver, none_some, kept_linked, all_made, at_skipped, at_held, may_skip, held_made, held_part, under_held, code_held, revoked_held, ended_held, used_held, dead_held, code_under}
 
 later : (a b c : ℕ) → a ≤ b → b ≤ c → a ≤ c
 later a b c h k = omega (arith, h, k)
@@ -58,11 +62,14 @@ state_by dead client consent used ended now k minted root =
     else if is_access k.kind && ended then state.Ended
     else state.Live
 
-over_closed : (live rest : Bool) (x : State) → is_closed (cond (not live) state.Withdrawn (cond true state.Over x)) ≡ true
+over_closed : (live rest : Bool) (x : State)
+    → is_closed (cond (not live) state.Withdrawn (cond true state.Over x)) ≡ true
 over_closed true rest x = refl
 over_closed false rest x = refl
 
-closed : (dead client consent used ended : Bool) (now : ℕ) (k : TokenId) (m : MintedFields) (root : Root) → root.issued.family_end ≤ now → is_closed (state_by dead client consent used ended now k m root) ≡ true
+closed : (dead client consent used ended : Bool) (now : ℕ) (k : TokenId) (m : MintedFields) (root : Root)
+    → root.issued.family_end ≤ now
+    → is_closed (state_by dead client consent used ended now k m root) ≡ true
 closed true client consent used ended now k m root over = refl
 closed false client consent used ended now k m root over =
     let is = le-leb root.issued.family_end now over in
@@ -72,7 +79,9 @@ closed false client consent used ended now k m root over =
     ]
 
 -- a standing whose family is over is lost
-lost_known : (F : FactSet) (now : ℕ) (h : Handle) (b : Body) (m : MintedFields) (root : Root) → root.issued.family_end ≤ now → (h.id.kind ≢ kind.Code → m.expiry ≤ now) → IsLost now h (Known (standing_in F now h.id b m root))
+lost_known : (F : FactSet) (now : ℕ) (h : Handle) (b : Body) (m : MintedFields) (root : Root)
+    → root.issued.family_end ≤ now → (h.id.kind ≢ kind.Code → m.expiry ≤ now)
+    → IsLost now h (Known (standing_in F now h.id b m root))
 lost_known F now h b m root over past =
     (closed (is_dead F root.code) (is_live_client F root.issued.client) (is_live_consent F root.issued) (is_used F h.id) (is_ended F h.id) now h.id m root over, past)
 
@@ -83,12 +92,14 @@ code_or_not kind.Code = inl refl
 code_or_not kind.Access = inr (λ e. cc)
 code_or_not kind.Refresh = inr (λ e. cc)
 
-code_issues : (b : Body) (m : MintedFields) → minted_of b kind.Code ≡ Some m → (code : issued.CodeIssued) × (issued_in b ≡ Some code)
+code_issues : (b : Body) (m : MintedFields) → minted_of b kind.Code ≡ Some m
+    → (code : issued.CodeIssued) × (issued_in b ≡ Some code)
 code_issues (body.CodeIssued c) m h = (c, refl)
 code_issues b m h = absurd (none_is_not_some m h)
 
 -- a token that has the digest was minted
-digest_kept : (digest : List ℕ) (o : Option MintedFields) (m : MintedFields) → with_digest digest o ≡ Some m → o ≡ Some m
+digest_kept : (digest : List ℕ) (o : Option MintedFields) (m : MintedFields)
+    → with_digest digest o ≡ Some m → o ≡ Some m
 digest_kept digest None m h = h
 digest_kept digest (Some x) m h = kept (bytes_eq x.digest digest) h
   where
@@ -96,29 +107,42 @@ digest_kept digest (Some x) m h = kept (bytes_eq x.digest digest) h
     kept true e = e
     kept false e = absurd (none_is_not_some m e)
 
-pub mint_link : (b : Body) (k : Kind) (m : MintedFields) → minted_of b k ≡ Some m → (l : Link) × (link_of b ≡ Some l)
+pub mint_link : (b : Body) (k : Kind) (m : MintedFields) → minted_of b k ≡ Some m
+    → (l : Link) × (link_of b ≡ Some l)
 mint_link (body.CodeIssued c) k m h = (Code, refl)
 mint_link (body.CodeRedeemed r) k m h = (Redeems r.code, refl)
 mint_link (body.RefreshRotated r) k m h = (Rotates r.parent r.generation, refl)
 mint_link b k m h = absurd (none_is_not_some m h)
 
+-- a token that was minted is at no dot that mints nothing
+pub mints_some : (body_at : Bodies) (k : TokenId) (m : MintedFields) → minted_in body_at k ≡ Some m
+    → MintsNothing body_at k.dot → ⊥
+mints_some body_at k m is none =
+    let link = mint_link none.fact k.kind m (sym (ap (option_and_then (λ (x : Body). minted_of x k.kind)) none.here) ∙ is) in
+    none_some (link_of none.fact) link.0 none.barren link.1
+
 -- the fact that minted a code issued it
-mint_code : (F : FactSet) (k : TokenId) (m : MintedFields) → k.kind ≡ kind.Code → minted_in (map.get F) k ≡ Some m → (code : issued.CodeIssued) × (issued_at (map.get F) k.dot ≡ Some code)
+mint_code : (F : FactSet) (k : TokenId) (m : MintedFields) → k.kind ≡ kind.Code
+    → minted_in (map.get F) k ≡ Some m
+    → (code : issued.CodeIssued) × (issued_at (map.get F) k.dot ≡ Some code)
 mint_code F k m is h =
     let x = from_some (λ (b : Body). minted_of b k.kind) (map.get F k.dot) m h in
     let y = code_issues x.0 m (sym (ap (minted_of x.0) is) ∙ x.2) in
     (y.0, ap (option_and_then issued_in) x.1 ∙ y.1)
 
 -- a code has a root
-code_root : (F : FactSet) (k : TokenId) (m : MintedFields) → k.kind ≡ kind.Code → minted_in (map.get F) k ≡ Some m → root_in (map.get F) k.dot ≢ None
+code_root : (F : FactSet) (k : TokenId) (m : MintedFields) → k.kind ≡ kind.Code
+    → minted_in (map.get F) k ≡ Some m → root_in (map.get F) k.dot ≢ None
 code_root F k m is h none =
     let code = mint_code F k m is h in
     none_some (root_in (map.get F) k.dot) (record { code = k.dot; issued = code.0 }) none (root-complete F k.dot k.dot code.0 (code_under F k.dot code.0 code.1) code.1)
 
-issued_below : (F G : FactSet) → IsSubset F G → (c : Dot) (code : issued.CodeIssued) → issued_at (map.get F) c ≡ Some code → issued_at (map.get G) c ≡ Some code
+issued_below : (F G : FactSet) → IsSubset F G → (c : Dot) (code : issued.CodeIssued)
+    → issued_at (map.get F) c ≡ Some code → issued_at (map.get G) c ≡ Some code
 issued_below F G w c code is = (let x = from_some issued_in (map.get F c) code is in ap (option_and_then issued_in) (w c x.0 x.1) ∙ x.2)
 
-under_below : (F G : FactSet) → IsSubset F G → (d c : Dot) → IsUnder (links_in (map.get F)) d c → IsUnder (links_in (map.get G)) d c
+under_below : (F G : FactSet) → IsSubset F G → (d c : Dot) → IsUnder (links_in (map.get F)) d c
+    → IsUnder (links_in (map.get G)) d c
 under_below F G w d c u = IsUnder-within (links_in (map.get F)) (links_in (map.get G)) (links-below F G w) d c u
 
 -- ---- a family that is not over
@@ -166,7 +190,8 @@ module _ (P : StoreFields) (U F : FactSet) (S : StandsFor P U F) where
       pub state_same : (m : MintedFields) → state_in H now k m root ≡ state_in F now k m root
       state_same m = λ i. state_by (dead_same i) (live_client_same P U F S root.issued.client i) (live_consent_same i) (used_same i) (ended_same i) now k m root
 
-      pub standing_same : (b : Body) (m : MintedFields) → standing_in H now k b m root ≡ standing_in F now k b m root
+      pub standing_same : (b : Body) (m : MintedFields)
+          → standing_in H now k b m root ≡ standing_in F now k b m root
       standing_same b m = (let state = state_same m in λ i. record {
         client = root.issued.client;
         subject = root.issued.subject;
@@ -184,14 +209,21 @@ module _ (P : StoreFields) (U F : FactSet) (S : StandsFor P U F) where
 
   module _ (sound : AreSound U) (now : ℕ) (soon : P.horizon ≤ now) (h : Handle) where
     -- an access or refresh token of a family that is over is past
-    past_by : (m : MintedFields) (c : Dot) (code : issued.CodeIssued) → minted_in (map.get U) h.id ≡ Some m → IsUnder (links_in (map.get U)) h.id.dot c → issued_at (map.get U) c ≡ Some code → code.family_end ≤ now → h.id.kind ≢ kind.Code → m.expiry ≤ now
+    past_by : (m : MintedFields) (c : Dot) (code : issued.CodeIssued)
+        → minted_in (map.get U) h.id ≡ Some m → IsUnder (links_in (map.get U)) h.id.dot c
+        → issued_at (map.get U) c ≡ Some code → code.family_end ≤ now → h.id.kind ≢ kind.Code
+        → m.expiry ≤ now
     past_by m c code mints under issues over other = later m.expiry code.family_end now (sound.ends h.id m c code other mints under issues) over
 
-    minted_up : (m : MintedFields) → minted_as (map.get F) h ≡ Some m → minted_in (map.get U) h.id ≡ Some m
+    minted_up : (m : MintedFields) → minted_as (map.get F) h ≡ Some m
+        → minted_in (map.get U) h.id ≡ Some m
     minted_up m is = minted-below F U (all_made P U F S) h.id m (digest_kept (digest_of h) (minted_in (map.get F) h.id) m is)
 
     -- what is known of a token whose family is over, whatever its root is taken to be
-    lost_by : (G : FactSet) → IsSubset G U → (b : Body) (m : MintedFields) (c : Dot) (code : issued.CodeIssued) → minted_in (map.get U) h.id ≡ Some m → IsUnder (links_in (map.get U)) h.id.dot c → issued_at (map.get U) c ≡ Some code → code.family_end ≤ now
+    lost_by : (G : FactSet) → IsSubset G U
+        → (b : Body) (m : MintedFields) (c : Dot) (code : issued.CodeIssued)
+        → minted_in (map.get U) h.id ≡ Some m → IsUnder (links_in (map.get U)) h.id.dot c
+        → issued_at (map.get U) c ≡ Some code → code.family_end ≤ now
         → (r : Option Root) → root_in (map.get G) h.id.dot ≡ r → (h.id.kind ≡ kind.Code → r ≢ None) → IsLost now h (status_by G now h.id (Some b) (Some m) r)
     lost_by G w b m c code mints under issues over None is rooted =
         elim (code_or_not h.id.kind) [
@@ -205,12 +237,15 @@ module _ (P : StoreFields) (U F : FactSet) (S : StandsFor P U F) where
         let end : root.issued.family_end ≤ now = subst (λ (x : issued.CodeIssued). x.family_end ≤ now) (sym one) over in
         lost_known G now h b m root end (past_by m c code mints under issues over)
 
-    rooted : (G : FactSet) (m : MintedFields) → minted_in (map.get G) h.id ≡ Some m → (r : Option Root) → root_in (map.get G) h.id.dot ≡ r → h.id.kind ≡ kind.Code → r ≢ None
+    rooted : (G : FactSet) (m : MintedFields) → minted_in (map.get G) h.id ≡ Some m
+        → (r : Option Root) → root_in (map.get G) h.id.dot ≡ r → h.id.kind ≡ kind.Code → r ≢ None
     rooted G m mints r is code = λ none. code_root G h.id m code mints (is ∙ none)
 
     -- ---- a skipped dot
 
-    lost_skipped : is_skipped P.slots h.id.dot ≡ true → (o : Option Body) (m : Option MintedFields) → map.get F h.id.dot ≡ o → minted_as (map.get F) h ≡ m → IsLost now h (status_by F now h.id o m (root_in (map.get F) h.id.dot))
+    lost_skipped : is_skipped P.slots h.id.dot ≡ true → (o : Option Body) (m : Option MintedFields)
+        → map.get F h.id.dot ≡ o → minted_as (map.get F) h ≡ m
+        → IsLost now h (status_by F now h.id o m (root_in (map.get F) h.id.dot))
     lost_skipped skipped None m at is =
         let may = may_skip P U F S h.id.dot skipped in
         absurd (none_some (map.get F h.id.dot) may.fact at (at_skipped P U F S h.id.dot skipped ∙ may.here))
@@ -221,21 +256,33 @@ module _ (P : StoreFields) (U F : FactSet) (S : StandsFor P U F) where
         let same : may.fact ≡ b = some_injective may.fact b (sym may.here ∙ sym (at_skipped P U F S h.id.dot skipped) ∙ at) in
         let link = mint_link b h.id.kind m (sym (ap (option_and_then (λ (x : Body). minted_of x h.id.kind)) at) ∙ mints) in
         let own : may.token.dot ≡ h.id.dot = kept_linked h.id.dot may.fact link.0 may.token (ap link_of same ∙ link.1) may.kept in
-        lost_by F (all_made P U F S) b m may.root may.code (minted_up m is)
-        (subst (λ (q : Dot). IsUnder (links_in (map.get U)) q may.root) own may.under.1) may.issues (later may.code.family_end P.horizon now may.over soon)
-        (root_in (map.get F) h.id.dot) refl (rooted F m mints (root_in (map.get F) h.id.dot) refl)
+        by may.token.dot own may.why b m mints is link
+      where
+        by : (q : Dot) → q ≡ h.id.dot
+            → IsOverAt (map.get U) P.horizon q ⊎ MintsNothing (map.get U) q
+            → (b : Body) (m : MintedFields) → minted_in (map.get F) h.id ≡ Some m
+            → minted_as (map.get F) h ≡ Some m → (l : Link) × (link_of b ≡ Some l)
+            → IsLost now h (status_by F now h.id (Some b) (Some m) (root_in (map.get F) h.id.dot))
+        by q own (inl o) b m mints is link =
+            lost_by F (all_made P U F S) b m o.root o.code (minted_up m is)
+            (subst (λ (x : Dot). IsUnder (links_in (map.get U)) x o.root) own o.under) o.issues (later o.code.family_end P.horizon now o.over soon)
+            (root_in (map.get F) h.id.dot) refl (rooted F m mints (root_in (map.get F) h.id.dot) refl)
+        by q own (inr none) b m mints is link = absurd (mints_some (map.get U) h.id m (minted_up m is) (subst (λ (x : Dot). MintsNothing (map.get U) x) own none))
 
     -- ---- a fact that is held
 
     -- a token without a root among the facts has none among those that are held
-    broken_same : (b : Body) (m : MintedFields) (r : Option Root) → root_in (map.get F) h.id.dot ≡ None → root_in (map.get H) h.id.dot ≡ r → status_by H now h.id (Some b) (Some m) r ≡ Broken m.expiry
+    broken_same : (b : Body) (m : MintedFields) (r : Option Root)
+        → root_in (map.get F) h.id.dot ≡ None → root_in (map.get H) h.id.dot ≡ r
+        → status_by H now h.id (Some b) (Some m) r ≡ Broken m.expiry
     broken_same b m None none is = refl
     broken_same b m (Some root) none is =
         let p = root-sound H h.id.dot root is in
         absurd (none_some (root_in (map.get F) h.id.dot) (record { code = root.code; issued = root.issued }) none
         (root-complete F h.id.dot root.code root.issued (under_below H F (held_part P U F S) h.id.dot root.code p.0) (issued_below H F (held_part P U F S) root.code root.issued p.1)))
 
-    by_root : (b : Body) (m : MintedFields) → minted_in (map.get F) h.id ≡ Some m → minted_in (map.get H) h.id ≡ Some m → (r : Option Root) → root_in (map.get F) h.id.dot ≡ r
+    by_root : (b : Body) (m : MintedFields) → minted_in (map.get F) h.id ≡ Some m
+        → minted_in (map.get H) h.id ≡ Some m → (r : Option Root) → root_in (map.get F) h.id.dot ≡ r
         → AnsweredAlike now h (status_by H now h.id (Some b) (Some m) (root_in (map.get H) h.id.dot)) (status_by F now h.id (Some b) (Some m) r)
     by_root b m mints held None is = inl (broken_same b m (root_in (map.get H) h.id.dot) is refl)
     by_root b m mints held (Some root) is = elim (cases_lt now root.issued.family_end) [
@@ -259,14 +306,16 @@ module _ (P : StoreFields) (U F : FactSet) (S : StandsFor P U F) where
         issued = issued_below F U (all_made P U F S) root.code root.issued p.1
 
         -- the family is not over: the root is held, and the standing is the same
-        open_root : now < root.issued.family_end → status_by H now h.id (Some b) (Some m) (root_in (map.get H) h.id.dot) ≡ Known (standing_in F now h.id b m root)
+        open_root : now < root.issued.family_end
+            → status_by H now h.id (Some b) (Some m) (root_in (map.get H) h.id.dot) ≡ Known (standing_in F now h.id b m root)
         open_root early =
             let under : IsUnder (links_in (map.get H)) h.id.dot root.code = elim (under_held P U F S h.id.dot root.code p.0) [ inl u ↦ u | inr over ↦ absurd (never_over now soon root p.1 early over) ] in
             let issues : issued_at (map.get H) root.code ≡ Some root.issued = elim (code_held P U F S root.code root.issued p.1) [ inl i ↦ i | inr over ↦ absurd (never_over now soon root p.1 early over) ] in
             ap (status_by H now h.id (Some b) (Some m)) (root-complete H h.id.dot root.code root.issued under issues)
             ∙ ap (λ (s : StandingFields). Known s) (standing_same now soon root p.1 early h.id p.0 b m)
 
-    by_mint : (b : Body) → map.get F h.id.dot ≡ Some b → map.get H h.id.dot ≡ Some b → (m : Option MintedFields) → minted_as (map.get F) h ≡ m
+    by_mint : (b : Body) → map.get F h.id.dot ≡ Some b → map.get H h.id.dot ≡ Some b
+        → (m : Option MintedFields) → minted_as (map.get F) h ≡ m
         → AnsweredAlike now h (status_by H now h.id (Some b) m (root_in (map.get H) h.id.dot)) (status_by F now h.id (Some b) m (root_in (map.get F) h.id.dot))
     by_mint b at held None is = inl refl
     by_mint b at held (Some m) is =
@@ -275,7 +324,8 @@ module _ (P : StoreFields) (U F : FactSet) (S : StandsFor P U F) where
 
     -- ---- the slot at the handle's dot
 
-    by_slot : (o : Option Slot) → map.get P.slots h.id.dot ≡ o → AnsweredAlike now h (status_here P now h) (status_in F now h)
+    by_slot : (o : Option Slot) → map.get P.slots h.id.dot ≡ o
+        → AnsweredAlike now h (status_here P now h) (status_in F now h)
     by_slot None at =
         let free : map.get F h.id.dot ≡ None = at_held P U F S h.id.dot (ap is_skipped_slot at) ∙ get_held P.slots h.id.dot ∙ ap held_slot at in
         inl (here_unknown P now h at ∙ sym (ap (λ (o : Option Body). status_by F now h.id o (minted_as (map.get F) h) (root_in (map.get F) h.id.dot)) free))
@@ -296,5 +346,54 @@ module _ (P : StoreFields) (U F : FactSet) (S : StandsFor P U F) where
         (subst (AnsweredAlike now h (status_by H now h.id (Some b) (minted_as (map.get F) h) (root_in (map.get H) h.id.dot))) (sym right)
         (by_mint b here held (minted_as (map.get F) h) refl))
 
-pub status_stands : (P : StoreFields) (U F : FactSet) → StandsFor P U F → AreSound U → (now : ℕ) → P.horizon ≤ now → (h : Handle) → AnsweredAlike now h (status_here P now h) (status_in F now h)
+-- ---- revocations
+
+module _ (P : StoreFields) (U F : FactSet) (S : StandsFor P U F) (sound : AreSound U) (now : ℕ) (soon : P.horizon ≤ now) (h : Handle) where
+  -- what is known of a token that hasn't expired was minted
+  early_minted : IsEarly now (status_here P now h)
+      → (m : MintedFields) × (minted_in (map.get (held_facts P)) h.id ≡ Some m) × (now < m.expiry)
+  early_minted early = by (map.get P.slots h.id.dot) refl
+    where
+      by_root : (b : Body) (m : MintedFields) (r : Option Root)
+          → IsEarly now (status_by (held_facts P) now h.id (Some b) (Some m) r) → now < m.expiry
+      by_root b m None e = e
+      by_root b m (Some root) e = e
+
+      by_mint : (b : Body) (o : Option MintedFields) → minted_as (map.get (held_facts P)) h ≡ o
+          → IsEarly now (status_by (held_facts P) now h.id (Some b) o (root_in (map.get (held_facts P)) h.id.dot))
+          → (m : MintedFields) × (minted_in (map.get (held_facts P)) h.id ≡ Some m) × (now < m.expiry)
+      by_mint b None is e = absurd e
+      by_mint b (Some m) is e = (m, digest_kept (digest_of h) (minted_in (map.get (held_facts P)) h.id) m is, by_root b m (root_in (map.get (held_facts P)) h.id.dot) e)
+
+      by : (o : Option Slot) → map.get P.slots h.id.dot ≡ o
+          → (m : MintedFields) × (minted_in (map.get (held_facts P)) h.id ≡ Some m) × (now < m.expiry)
+      by None at = absurd (subst (IsEarly now) (here_unknown P now h at) early)
+      by (Some Skipped) at = absurd (subst (IsEarly now) (here_skipped P now h at) early)
+      by (Some (Held b)) at =
+          let held : map.get (held_facts P) h.id.dot ≡ Some b = get_held P.slots h.id.dot ∙ ap held_slot at in
+          by_mint b (minted_as (map.get (held_facts P)) h) refl
+          (subst (IsEarly now) (here_held P now h b at ∙ ap (λ (o : Option Body). status_by (held_facts P) now h.id o (minted_as (map.get (held_facts P)) h) (root_in (map.get (held_facts P)) h.id.dot)) held) early)
+
+  -- the revocations of such a token are held
+  pub revoked_early : (digest : List ℕ) (client : Dot) → h.id.kind ≢ kind.Code
+      → IsEarly now (status_here P now h)
+      → is_revoked (held_facts P) h.id digest client ≡ is_revoked F h.id digest client
+  revoked_early digest client other early = same_tests (is_revoked (held_facts P) h.id digest client) (is_revoked F h.id digest client)
+      (revoked_up P U F S h.id digest client)
+      (λ revoked. elim (revoked_held P U F S h.id digest client (is_revoked-sound F h.id digest client revoked)) [
+        | inl held ↦ is_revoked-complete (held_facts P) h.id digest client held
+        | inr why ↦ absurd (never (early_minted early) why)
+      ])
+    where
+      never : (m : MintedFields) × (minted_in (map.get (held_facts P)) h.id ≡ Some m) × (now < m.expiry)
+          → IsOverAt (map.get U) P.horizon h.id.dot ⊎ MintsNothing (map.get U) h.id.dot → ⊥
+      never x (inr none) = mints_some (map.get U) h.id x.0 (minted-below (held_facts P) U (held_made P U F S) h.id x.0 x.1) none
+      never x (inl o) =
+          let end : x.0.expiry ≤ o.code.family_end = sound.ends h.id x.0 o.root o.code other (minted-below (held_facts P) U (held_made P U F S) h.id x.0 x.1) o.under o.issues in
+          let over = o.over in
+          let left = x.2 in
+          omega (arith, end, over, soon, left)
+
+pub status_stands : (P : StoreFields) (U F : FactSet) → StandsFor P U F → AreSound U → (now : ℕ)
+    → P.horizon ≤ now → (h : Handle) → AnsweredAlike now h (status_here P now h) (status_in F now h)
 status_stands P U F S sound now soon h = by_slot P U F S sound now soon h (map.get P.slots h.id.dot) refl

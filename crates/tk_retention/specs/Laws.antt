@@ -1,7 +1,8 @@
 -- The laws of standing for (own): each is a clause of a function of `laws`. U is the set of all
 -- facts made, and the store P stands for the facts F.
 --   StatusStands    from the horizon on, a status by the store is answered as that by the facts
---   DecisionStands  from the horizon on, a request is decided by the store as by the facts
+--   DecisionStands  from the horizon on, a request is decided by the store as by the facts, but
+--                   for revocations of tokens that the facts don't have
 --   RegionStands    from the horizon on, a region prepares what the facts determine
 --   PruneStands     a store that was pruned stands for the same facts
 --   GoesSoundly     a fact that may go, by what the store knows, may be skipped
@@ -22,17 +23,18 @@ use Rattle.tk_store.specs.FactSet.{FactSet, IsSubset}
 use Rattle.tk_store.specs.Slots.{is_skipped}
 use Rattle.tk_store.specs.StoreFields.{StoreFields, held_facts, with_fact, with_skipped}
 use Rattle.tk_store.specs.StoreFields.{with_horizon}
-use Rattle.tk_store.specs.WholeStores.{whole_store}
 use Rattle.tk_ledger.specs.Retention.{MaySkip, Prunes}
 use Rattle.tk_ledger.specs.Slices.{Goes, PrunesSome}
 use Rattle.tk_ledger.specs.Status.{status_here, status_in}
 use Rattle.tk_ledger.specs.Alike.{AnsweredAlike}
 use Rattle.tk_ledger.specs.declared.slices.Slice.{Slice}
 use Rattle.tk_message.specs.RequestFields.{RequestFields}
+use Rattle.tk_message.specs.declared.decision.Decision.{Decision}
 use Rattle.tk_message.specs.declared.place.Place.{Place}
 use Rattle.tk_region.specs.Decision.{decision_of}
 use Rattle.tk_region.specs.RegionFields.{RegionFields, place_in}
 use Rattle.tk_region.specs.Step.{prepared_by, prepared_of}
+use Rattle.tk_retention.specs.Decides.{DecidesFor}
 use Rattle.tk_retention.specs.StandsFor.{StandsFor, AreSound, AddsOne, MeetsFamily}
 
 -- from the horizon on, every endpoint answers a handle of its status by the store as it answers one
@@ -43,19 +45,21 @@ StatusStands = (P : StoreFields) (U F : FactSet) → StandsFor P U F → AreSoun
     → AnsweredAlike now h (status_here P now h) (status_in F now h)
 
 -- from the horizon on, a request is decided by the store as by the facts: the reply and the fact
--- that is made are equal
+-- that is made are equal. A revocation of a token that the facts don't have may be decided as if it
+-- was the first
 abbrev pub DecisionStands : Type 0
 DecisionStands = (P : StoreFields) (U F : FactSet) → StandsFor P U F → AreSound U
     → (place : Place) (now : ℕ) → P.horizon ≤ now → (words : List ℕ) (request : RequestFields)
-    → decision_of P place now words request ≡ decision_of (whole_store F) place now words request
+    → DecidesFor F place now words request (decision_of P place now words request)
 
 -- from the horizon on, a region prepares for a request what the facts for which its store stands
--- determine: the reply, the fact that is made, and its record
+-- determine: the reply, the fact that is made, and its record. A revocation of a token that the
+-- facts don't have may be decided as if it was the first
 abbrev pub RegionStands : Type 0
 RegionStands = (r : RegionFields) (U F : FactSet) → StandsFor r.facts U F → AreSound U
     → (now : ℕ) → r.facts.horizon ≤ now → (words : List ℕ) (request : RequestFields)
-    → prepared_of r now words request ≡ prepared_by r.settings.cap (place_in r)
-    (decision_of (whole_store F) (place_in r) now words request)
+    → (d : Decision) × DecidesFor F (place_in r) now words request d
+    × (prepared_of r now words request ≡ prepared_by r.settings.cap (place_in r) d)
 
 -- a store that was pruned stands for the facts that it stood for
 abbrev pub PruneStands : Type 0

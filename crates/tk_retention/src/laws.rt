@@ -25,13 +25,16 @@ pub fn status_stands()
 {}
 
 /// States a law: from its horizon on, a store decides each request as the facts for which it stands
-/// do. The replies are equal, and so are the facts that are made.
+/// do. The replies are equal, and so are the facts that are made, with one exception: a client
+/// revokes a token of another region that isn't known here, and revoked it before by the facts. That
+/// may be decided as if it was the first revocation.
 pub fn decision_stands()
     ensures { DecisionStands }
 {}
 
 /// States a law: from its horizon on, a region prepares for each request what the facts for which
-/// its store stands determine: the reply, the fact that is made, and the record of that fact.
+/// its store stands determine: the reply, the fact that is made, and the record of that fact. The
+/// exception of `decision_stands` is one here too.
 pub fn region_stands()
     ensures { RegionStands }
 {}

@@ -1,12 +1,13 @@
 use Rattle.std.proofs.Common.{refl}
 use Rattle.tk_store.specs.StoreFields.{held_facts}
 use Rattle.tk_ledger.specs.declared.change.Change.TheVariants as change
-use Rattle.tk_ledger.proofs.ChangeLaws.{change_link, change_free, code_row, codes_same, code_dropped, same_revocations, same_outs, same_reuses}
+use Rattle.tk_ledger.proofs.ChangeLaws.{change_link, change_free, code_row, codes_same}
+use Rattle.tk_ledger.proofs.ChangeLaws.{code_dropped, same_revocations, same_outs, same_reuses}
 use Rattle.tk_ledger.proofs.IndexLaws.{index_issue, index_back}
 use Rattle.tk_ledger.proofs.index.issue_code.Goals as goal
 
 pub returns-in-Err-clause-err : goal.returns-in-Err-clause-err
-returns-in-Err-clause-err c = index_back _ c.args.index.now c.list_code.new.codes c.args.index.now.outs c.args.index.now.reuses c.args.index.now.forest c.requires.indexed
+returns-in-Err-clause-err c = index_back _ c.args.index.now c.args.index.now.revocations c.list_code.new.codes c.args.index.now.outs c.args.index.now.reuses c.args.index.now.forest c.requires.indexed c.requires.indexed.revocations_are
     (codes_same (held_facts c.args.facts.now) c.args.dot c.args.index.now.codes c.list_code.new.codes c.requires.indexed.codes_are c.in-Err.ensures.err) c.requires.indexed.outs_are c.requires.indexed.reuses_are c.requires.indexed.tied
 
 pub put_link-requires-clause-link : goal.put_link-requires-clause-link
@@ -27,7 +28,7 @@ returns-in-Ok-clause-ok c = index_issue (held_facts c.args.facts.now) c.args.dot
     c.in-Ok.ensures.ok
 
 pub returns-in-Err-put_link-clause-err : goal.returns-in-Err-put_link-clause-err
-returns-in-Err-put_link-clause-err c = index_back _ c.args.index.now c.drop_code.new.codes c.args.index.now.outs c.args.index.now.reuses c.put_link.new.forest c.requires.indexed
+returns-in-Err-put_link-clause-err c = index_back _ c.args.index.now c.args.index.now.revocations c.drop_code.new.codes c.args.index.now.outs c.args.index.now.reuses c.put_link.new.forest c.requires.indexed c.requires.indexed.revocations_are
     (code_dropped (held_facts c.args.facts.now) c.args.dot c.args.subject.now c.args.start c.args.index.now.codes c.list_code.new.codes c.drop_code.new.codes c.requires.indexed.codes_are
     (change_free (held_facts c.args.facts.now) c.args.dot (change.Issue c.args.subject.now c.args.start) c.requires.change)
     c.in_default.ensures.ok c.drop_code.ensures)

@@ -1,7 +1,8 @@
 use Rattle.std.proofs.Common.{refl}
 use Rattle.tk_store.specs.StoreFields.{held_facts}
 use Rattle.tk_ledger.specs.declared.change.Change.TheVariants as change
-use Rattle.tk_ledger.proofs.ChangeLaws.{links_before, reuse_row, reuses_same, mark_ties, same_revocations, same_outs}
+use Rattle.tk_ledger.proofs.ChangeLaws.{links_before, reuse_row, reuses_same, mark_ties}
+use Rattle.tk_ledger.proofs.ChangeLaws.{same_revocations, same_outs}
 use Rattle.tk_ledger.proofs.IndexLaws.{index_mark, index_back}
 use Rattle.tk_ledger.proofs.index.mark_token.Goals as goal
 
@@ -23,5 +24,5 @@ returns-in-Ok-clause-ok c = index_mark (held_facts c.args.facts.now) c.args.dot 
     (mark_ties (held_facts c.args.facts.now) c.args.dot c.args.token c.args.index.now.forest c.wake.new.forest c.requires.change c.requires.indexed.tied c.wake.ensures)
 
 pub returns-in-Err-clause-err : goal.returns-in-Err-clause-err
-returns-in-Err-clause-err c = index_back _ c.args.index.now c.args.index.now.codes c.args.index.now.outs c.list_reuse.new.reuses c.args.index.now.forest c.requires.indexed
+returns-in-Err-clause-err c = index_back _ c.args.index.now c.args.index.now.revocations c.args.index.now.codes c.args.index.now.outs c.list_reuse.new.reuses c.args.index.now.forest c.requires.indexed c.requires.indexed.revocations_are
     c.requires.indexed.codes_are c.requires.indexed.outs_are (reuses_same (held_facts c.args.facts.now) c.args.dot c.args.index.now.reuses c.list_reuse.new.reuses c.requires.indexed.reuses_are c.in-Err.ensures.err) c.requires.indexed.tied

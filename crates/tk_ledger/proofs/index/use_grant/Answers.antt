@@ -1,7 +1,8 @@
 use Rattle.std.proofs.Common.{refl}
 use Rattle.tk_store.specs.StoreFields.{held_facts}
 use Rattle.tk_ledger.specs.declared.change.Change.TheVariants as change
-use Rattle.tk_ledger.proofs.ChangeLaws.{on_ok, change_link, same_revocations, same_outs, same_reuses}
+use Rattle.tk_ledger.proofs.ChangeLaws.{on_ok, change_link, same_revocations, same_outs}
+use Rattle.tk_ledger.proofs.ChangeLaws.{same_reuses}
 use Rattle.tk_ledger.proofs.IndexLaws.{index_put}
 use Rattle.tk_ledger.proofs.index.use_grant.Goals as goal
 

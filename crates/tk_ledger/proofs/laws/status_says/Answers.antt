@@ -1,4 +1,5 @@
-use Rattle.tk_ledger.proofs.StatusCases.{unseen_exactly, wrong_exactly, broken_exactly, known_exactly}
+use Rattle.tk_ledger.proofs.StatusCases.{unseen_exactly, wrong_exactly, broken_exactly}
+use Rattle.tk_ledger.proofs.StatusCases.{known_exactly}
 use Rattle.tk_ledger.proofs.laws.status_says.Goals as goal
 
 pub returns-clause-unseen : goal.returns-clause-unseen

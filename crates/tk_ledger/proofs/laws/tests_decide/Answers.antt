@@ -1,5 +1,10 @@
-use Rattle.tk_ledger.proofs.ClientLaws.{is_retired-sound, is_retired-complete, is_withdrawn-sound, is_withdrawn-complete, live_sound, live_complete, consent_sound, consent_complete}
-use Rattle.tk_ledger.proofs.TokenLaws.{is_used-sound, is_used-complete, is_twice-sound, is_twice-complete, is_revoked-sound, is_revoked-complete, is_ended-sound, is_ended-complete, is_marked-sound, is_marked-complete, is_dead-sound, is_dead-complete}
+use Rattle.tk_ledger.proofs.ClientLaws.{is_retired-sound, is_retired-complete, is_withdrawn-sound}
+use Rattle.tk_ledger.proofs.ClientLaws.{is_withdrawn-complete, live_sound, live_complete}
+use Rattle.tk_ledger.proofs.ClientLaws.{consent_sound, consent_complete}
+use Rattle.tk_ledger.proofs.TokenLaws.{is_used-sound, is_used-complete, is_twice-sound}
+use Rattle.tk_ledger.proofs.TokenLaws.{is_twice-complete, is_revoked-sound, is_revoked-complete}
+use Rattle.tk_ledger.proofs.TokenLaws.{is_ended-sound, is_ended-complete, is_marked-sound}
+use Rattle.tk_ledger.proofs.TokenLaws.{is_marked-complete, is_dead-sound, is_dead-complete}
 use Rattle.tk_ledger.proofs.laws.tests_decide.Goals as goal
 
 pub returns-clause-used : goal.returns-clause-used

@@ -2,7 +2,8 @@ use Rattle.std.proofs.Common.{◌+◌, Some, sym, ap, subst, ◌∙◌}
 use Rattle.std.specs.Option.{option_copied}
 use Rattle.tk_handle.specs.declared.dot.Dot.{Dot}
 use Rattle.tk_fact.specs.declared.body.Body.{Body}
-use Rattle.tk_ledger.proofs.SliceLaws.{Looked, gone_with, first_looked, more_looked, end_looked, all_looked}
+use Rattle.tk_ledger.proofs.SliceLaws.{Looked, gone_with, first_looked, more_looked, end_looked}
+use Rattle.tk_ledger.proofs.SliceLaws.{all_looked}
 use Rattle.tk_ledger.proofs.slices.look_on.Goals.{then-skip_if_it_goes, else-skip_if_it_goes}
 use Rattle.tk_ledger.proofs.slices.look_on.Goals as goal
 
