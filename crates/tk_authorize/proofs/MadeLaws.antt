@@ -2,7 +2,8 @@
 --   authorizes_alone    authorisation requests
 --   administers_alone   administration requests
 --   lists_alone         requests for a page of clients, which make no fact
-use Rattle.std.proofs.Common.{◌≡◌, ℕ, true, false, List, codes, Option, None, IfSome, Result, Ok, Err, refl}
+use Rattle.std.proofs.Common.{◌≡◌, ℕ, true, false, List, codes, Option, None, IfSome, Result, Ok}
+use Rattle.std.proofs.Common.{Err, refl}
 use Rattle.tk_handle.specs.declared.dot.Dot.{Dot}
 use Rattle.tk_fact.specs.Keeping.{names_of}
 use Rattle.tk_store.specs.FactSet.{FactSet}
@@ -26,12 +27,14 @@ use Rattle.tk_authorize.specs.declared.judged.Judged.TheVariants as judged
 abbrev MakesAlone : Decision → Type 0
 MakesAlone d = IfSome d.made (λ b. names_of b ≡ None)
 
-decides_alone : (place : Place) (now : ℕ) (words : List ℕ) (sent : Option (List ℕ)) (j : Judged) → MakesAlone (decided_by place now words sent j)
+decides_alone : (place : Place) (now : ℕ) (words : List ℕ) (sent : Option (List ℕ)) (j : Judged)
+    → MakesAlone (decided_by place now words sent j)
 decides_alone place now words sent (judged.Refused why) = tt
 decides_alone place now words sent (judged.Denied target why) = tt
 decides_alone place now words sent (judged.Approved target approval) = refl
 
-pub authorizes_alone : (F : FactSet) (place : Place) (now : ℕ) (words : List ℕ) (request : RequestFields) → IfSome (authorization_of F place now words request).made (λ b. names_of b ≡ None)
+pub authorizes_alone : (F : FactSet) (place : Place) (now : ℕ) (words : List ℕ) (request : RequestFields)
+    → IfSome (authorization_of F place now words request).made (λ b. names_of b ≡ None)
 authorizes_alone F place now words request = decides_alone place now words (kept_state (value_of (codes "state") request.params)) (judged_of F place.choices.challenge request.params request.subject)
 
 carried_out_alone : (place : Place) (a : Administered) → MakesAlone (administered_by place a)
@@ -47,7 +50,8 @@ carried_out_alone place (administered.Withdraws consent false) = tt
 carried_out_alone place (administered.AlreadyOut subject) = tt
 carried_out_alone place (administered.SignsOut sign_out) = refl
 
-pub administers_alone : (F : FactSet) (place : Place) (now : ℕ) (request : RequestFields) → IfSome (administration_of F place now request).made (λ b. names_of b ≡ None)
+pub administers_alone : (F : FactSet) (place : Place) (now : ℕ) (request : RequestFields)
+    → IfSome (administration_of F place now request).made (λ b. names_of b ≡ None)
 administers_alone F place now request = carried_out_alone place (chosen F place.choices (administered_of F now request))
 
 lists_none : (F : FactSet) (r : Result (Option Dot) AdminRefusal) → (listed_by F r).made ≡ None

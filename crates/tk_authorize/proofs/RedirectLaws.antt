@@ -1,6 +1,7 @@
 -- The URI that the reply to an authorisation request leads to. Key result:
 --   decision_leads   the reply leads to a URI that matches one of the client's, or to no URI
-use Rattle.std.proofs.Common.{◌≡◌, ℕ, Bool, true, false, if◌then◌else◌, List, [], ◌∷◌, codes, Option, Some, None, Ok, Err, IfOk, refl, ap, sym, subst}
+use Rattle.std.proofs.Common.{◌≡◌, ℕ, Bool, true, false, if◌then◌else◌, List, [], ◌∷◌, codes}
+use Rattle.std.proofs.Common.{Option, Some, None, Ok, Err, IfOk, refl, ap, sym, subst}
 use Rattle.std.specs.Option.{option_and_then}
 use Rattle.std.specs.Prelude.{Result}
 use Rattle.tk_handle.specs.declared.dot.Dot.{Dot}
@@ -14,7 +15,7 @@ use Rattle.tk_params.specs.Params.{Pairs, value_of, has_twice}
 use Rattle.std.specs.declared.alloc.AllocError.{AllocError}
 use Rattle.tk_message.specs.declared.decision.Decision.{Decision}
 use Rattle.tk_message.specs.declared.place.Place.{Place}
-use Rattle.tk_message.specs.Reply.{redirect_reply, with_state}
+use Rattle.tk_message.specs.Reply.{redirect_reply}
 use Rattle.tk_message.specs.RequestFields.{RequestFields}
 use Rattle.tk_message.specs.declared.choices.ChallengeRules.{ChallengeRules}
 use Rattle.tk_authorize.specs.declared.approval.Approval.{Approval}
@@ -24,7 +25,8 @@ use Rattle.tk_authorize.specs.declared.judged.Judged.TheVariants.{Refused, Denie
 use Rattle.tk_authorize.specs.declared.judged.Target.{Target}
 use Rattle.tk_authorize.specs.declared.refusal.Refusal.TheVariants as refusal
 use Rattle.tk_authorize.specs.Authorization.{decided_by, authorization_of}
-use Rattle.tk_authorize.specs.Judged.{judged_at, target_of, judged_by_redirect, judged_by_view, judged_by_client, judged_by_id, judged_of, target_names}
+use Rattle.tk_authorize.specs.Judged.{judged_at, target_of, judged_by_redirect, judged_by_view}
+use Rattle.tk_authorize.specs.Judged.{judged_by_client, judged_by_id, judged_of, target_names}
 use Rattle.tk_authorize.specs.Registered.{IsRegistered, LeadsToClient}
 
 -- a judgement leads to a URI that matches a registered one, or to no URI
@@ -33,11 +35,16 @@ LeadsTo F params (Refused why) = Unit {0}
 LeadsTo F params (Denied target why) = IsRegistered F params target.uri
 LeadsTo F params (Approved target approval) = IsRegistered F params target.uri
 
-at_target : (F : FactSet) (params : Pairs) (target : Target) (approval : Result Approval Denial) → IsRegistered F params target.uri → LeadsTo F params (judged_at target approval)
+at_target : (F : FactSet) (params : Pairs) (target : Target) (approval : Result Approval Denial)
+    → IsRegistered F params target.uri → LeadsTo F params (judged_at target approval)
 at_target F params target (Ok approval) known = known
 at_target F params target (Err why) known = known
 
-by_redirect : (F : FactSet) (rules : ChallengeRules) (params : Pairs) (subject : Option (List ℕ)) (client : Dot) (view : ClientFields) → option_and_then client_in (value_of (codes "client_id") params) ≡ Some client → client_view F client ≡ Some view → view.live ≡ true → (p : Picked) → picked view.redirects (value_of (codes "redirect_uri") params) ≡ p → LeadsTo F params (judged_by_redirect F rules params subject client view p)
+by_redirect : (F : FactSet) (rules : ChallengeRules) (params : Pairs) (subject : Option (List ℕ)) (client : Dot) (view : ClientFields)
+    → option_and_then client_in (value_of (codes "client_id") params) ≡ Some client
+    → client_view F client ≡ Some view → view.live ≡ true → (p : Picked)
+    → picked view.redirects (value_of (codes "redirect_uri") params) ≡ p
+    → LeadsTo F params (judged_by_redirect F rules params subject client view p)
 by_redirect F rules params subject client view named added live Missing is = tt
 by_redirect F rules params subject client view named added live Unknown is = tt
 by_redirect F rules params subject client view named added live (Uri uri) is =
@@ -51,42 +58,59 @@ by_redirect F rules params subject client view named added live (Uri uri) is =
       registered = picked_matches view.redirects (value_of (codes "redirect_uri") params) uri is;
     })
 
-by_live : (F : FactSet) (rules : ChallengeRules) (params : Pairs) (subject : Option (List ℕ)) (client : Dot) (view : ClientFields) → option_and_then client_in (value_of (codes "client_id") params) ≡ Some client → client_view F client ≡ Some view → (b : Bool) → view.live ≡ b → LeadsTo F params (if b then judged_by_redirect F rules params subject client view (picked view.redirects (value_of (codes "redirect_uri") params)) else Refused refusal.RetiredClient)
+by_live : (F : FactSet) (rules : ChallengeRules) (params : Pairs) (subject : Option (List ℕ)) (client : Dot) (view : ClientFields)
+    → option_and_then client_in (value_of (codes "client_id") params) ≡ Some client
+    → client_view F client ≡ Some view → (b : Bool) → view.live ≡ b
+    → LeadsTo F params (if b then judged_by_redirect F rules params subject client view (picked view.redirects (value_of (codes "redirect_uri") params)) else Refused refusal.RetiredClient)
 by_live F rules params subject client view named added true live = by_redirect F rules params subject client view named added live _ refl
 by_live F rules params subject client view named added false live = tt
 
-by_view : (F : FactSet) (rules : ChallengeRules) (params : Pairs) (subject : Option (List ℕ)) (client : Dot) → option_and_then client_in (value_of (codes "client_id") params) ≡ Some client → (v : Option ClientFields) → client_view F client ≡ v → LeadsTo F params (judged_by_view F rules params subject client v)
+by_view : (F : FactSet) (rules : ChallengeRules) (params : Pairs) (subject : Option (List ℕ)) (client : Dot)
+    → option_and_then client_in (value_of (codes "client_id") params) ≡ Some client
+    → (v : Option ClientFields) → client_view F client ≡ v
+    → LeadsTo F params (judged_by_view F rules params subject client v)
 by_view F rules params subject client named None added = tt
 by_view F rules params subject client named (Some view) added = by_live F rules params subject client view named added view.live refl
 
-by_client : (F : FactSet) (rules : ChallengeRules) (params : Pairs) (subject : Option (List ℕ)) (d : Option Dot) → option_and_then client_in (value_of (codes "client_id") params) ≡ d → LeadsTo F params (judged_by_client F rules params subject d)
+by_client : (F : FactSet) (rules : ChallengeRules) (params : Pairs) (subject : Option (List ℕ)) (d : Option Dot)
+    → option_and_then client_in (value_of (codes "client_id") params) ≡ d
+    → LeadsTo F params (judged_by_client F rules params subject d)
 by_client F rules params subject None named = tt
 by_client F rules params subject (Some client) named = by_view F rules params subject client named (client_view F client) refl
 
-by_id : (F : FactSet) (rules : ChallengeRules) (params : Pairs) (subject : Option (List ℕ)) (id : Option (List ℕ)) → value_of (codes "client_id") params ≡ id → LeadsTo F params (judged_by_id F rules params subject id)
+by_id : (F : FactSet) (rules : ChallengeRules) (params : Pairs) (subject : Option (List ℕ)) (id : Option (List ℕ))
+    → value_of (codes "client_id") params ≡ id
+    → LeadsTo F params (judged_by_id F rules params subject id)
 by_id F rules params subject None is = tt
 by_id F rules params subject (Some id) is = by_client F rules params subject (client_in id) (ap (option_and_then client_in) is)
 
-by_duplicate : (F : FactSet) (rules : ChallengeRules) (params : Pairs) (subject : Option (List ℕ)) (b : Bool) → LeadsTo F params (if b then Refused refusal.DuplicateClientOrRedirect else judged_by_id F rules params subject (value_of (codes "client_id") params))
+by_duplicate : (F : FactSet) (rules : ChallengeRules) (params : Pairs) (subject : Option (List ℕ)) (b : Bool)
+    → LeadsTo F params (if b then Refused refusal.DuplicateClientOrRedirect else judged_by_id F rules params subject (value_of (codes "client_id") params))
 by_duplicate F rules params subject true = tt
 by_duplicate F rules params subject false = by_id F rules params subject _ refl
 
 -- a redirect leads to the URI that it is made of
-redirect_leads : (F : FactSet) (params : Pairs) (uri name value : List ℕ) (state : Option (List ℕ)) → IsRegistered F params uri → LeadsToClient F params (redirect_reply uri name value state)
+redirect_leads : (F : FactSet) (params : Pairs) (uri name value : List ℕ) (state : Option (List ℕ))
+    → IsRegistered F params uri → LeadsToClient F params (redirect_reply uri name value state)
 redirect_leads F params uri name value None known = record { uri = uri; known = known; first = (name, value); others = []; location_is = refl }
 redirect_leads F params uri name value (Some state) known = record { uri = uri; known = known; first = (name, value); others = (codes "state", state) ∷ []; location_is = refl }
 
 -- the reply leads to the URI that the judgement leads to
-decided_leads : (F : FactSet) (params : Pairs) (place : Place) (now : ℕ) (words : List ℕ) (state : Option (List ℕ)) (judged : Judged) → LeadsTo F params judged → LeadsToClient F params (decided_by place now words state judged).reply
+decided_leads : (F : FactSet) (params : Pairs) (place : Place) (now : ℕ) (words : List ℕ) (state : Option (List ℕ)) (judged : Judged)
+    → LeadsTo F params judged
+    → LeadsToClient F params (decided_by place now words state judged).reply
 decided_leads F params place now words state (Refused why) known = tt
 decided_leads F params place now words state (Denied target why) known = redirect_leads F params target.uri _ _ state known
 decided_leads F params place now words state (Approved target approval) known = redirect_leads F params target.uri _ _ state known
 
 -- the reply to an authorisation request leads to a URI that matches a registered one, or to no URI
-leads : (F : FactSet) (place : Place) (now : ℕ) (words : List ℕ) (request : RequestFields) → LeadsToClient F request.params (authorization_of F place now words request).reply
+leads : (F : FactSet) (place : Place) (now : ℕ) (words : List ℕ) (request : RequestFields)
+    → LeadsToClient F request.params (authorization_of F place now words request).reply
 leads F place now words request =
     decided_leads F request.params place now words _ (judged_of F place.choices.challenge request.params request.subject) (by_duplicate F place.choices.challenge request.params request.subject (has_twice target_names request.params))
 
-pub decision_leads : (F : FactSet) (place : Place) (now : ℕ) (words : List ℕ) (request : RequestFields) (r : Result Decision AllocError) → IfOk r (λ d. d ≡ authorization_of F place now words request) → IfOk r (λ d. LeadsToClient F request.params d.reply)
+pub decision_leads : (F : FactSet) (place : Place) (now : ℕ) (words : List ℕ) (request : RequestFields) (r : Result Decision AllocError)
+    → IfOk r (λ d. d ≡ authorization_of F place now words request)
+    → IfOk r (λ d. LeadsToClient F request.params d.reply)
 decision_leads F place now words request (Ok d) is = subst (λ (x : Decision). LeadsToClient F request.params x.reply) (sym is) (leads F place now words request)
 decision_leads F place now words request (Err e) is = tt

@@ -3,7 +3,8 @@
 --   authorizations_same    the decisions of authorisation requests
 --   administrations_same   the decisions of administration requests
 --   listings_same          the pages of clients
-use Rattle.std.proofs.Common.{◌≡◌, ℕ, Bool, cond, List, codes, Option, None, Some, Result, Ok, Err, refl, ap, ◌∙◌}
+use Rattle.std.proofs.Common.{◌≡◌, ℕ, cond, List, codes, Option, None, Some, Result, Ok, Err, refl}
+use Rattle.std.proofs.Common.{ap, ◌∙◌}
 use Rattle.std.specs.FinMap as map
 use Rattle.tk_handle.specs.ClientId.{client_in}
 use Rattle.tk_handle.specs.ConsentId.{consent_in}
@@ -16,7 +17,7 @@ use Rattle.tk_store.specs.FactSet.{FactSet}
 use Rattle.tk_store.specs.Walk.{above}
 use Rattle.tk_ledger.specs.Clients.{consent_for}
 use Rattle.tk_ledger.specs.SignOuts.{is_signed_out}
-use Rattle.tk_ledger.specs.ViewFields.{ClientFields, ConsentFields}
+use Rattle.tk_ledger.specs.ViewFields.{ClientFields}
 use Rattle.tk_ledger.specs.Views.{client_view, consent_view}
 use Rattle.tk_ledger.proofs.ClientWalkLaws.{clients_same}
 use Rattle.tk_params.specs.Params.{Pairs, value_of, has_twice}
@@ -32,19 +33,24 @@ use Rattle.tk_message.specs.declared.place.Place.{Place}
 use Rattle.tk_message.specs.declared.request.Endpoint.{Endpoint}
 use Rattle.tk_message.specs.declared.request.Endpoint.TheVariants as endpoint
 use Rattle.tk_message.specs.declared.choices.ChallengeRules.{ChallengeRules}
-use Rattle.tk_authorize.specs.Administered.{shown_at, shown_by, shown_of, retired_at, retired_by, retired_of, client_named, consented_at, consented_to, consented_by, consented_of, consent_names, withdrawn_at, withdrawn_to, withdrawn_by, withdrawn_of, withdrawal_names, signed_out_at, signed_out_as, signed_out_by, signed_out_of, sign_out_names, administered_at, administered_of}
+use Rattle.tk_authorize.specs.Administered.{shown_at, shown_by, retired_at, retired_by}
+use Rattle.tk_authorize.specs.Administered.{client_named, consented_at, consented_to, consented_by}
+use Rattle.tk_authorize.specs.Administered.{consent_names, withdrawn_at, withdrawn_to, withdrawn_by}
+use Rattle.tk_authorize.specs.Administered.{withdrawal_names, signed_out_by, sign_out_names}
+use Rattle.tk_authorize.specs.Administered.{administered_at, administered_of}
 use Rattle.tk_authorize.specs.Administration.{administered_by, administration_of}
 use Rattle.tk_authorize.specs.Chosen.{chosen, consented_again, held_or_given}
-use Rattle.tk_authorize.specs.Approval.{approval_by_consent, approval_by_subject, approval_of}
+use Rattle.tk_authorize.specs.Approval.{approval_by_consent, approval_of}
 use Rattle.tk_authorize.specs.Asked.{asked_of}
 use Rattle.tk_authorize.specs.Authorization.{decided_by, authorization_of, kept_state}
 use Rattle.tk_authorize.specs.Listing.{after_named, listed_by, listing_of}
-use Rattle.tk_authorize.specs.Judged.{judged_at, target_of, judged_by_redirect, judged_by_view, judged_by_client, judged_by_id, judged_of, target_names}
+use Rattle.tk_authorize.specs.Judged.{judged_at, target_of, judged_by_redirect, judged_by_view}
+use Rattle.tk_authorize.specs.Judged.{judged_by_client, judged_by_id, target_names}
 use Rattle.tk_authorize.specs.declared.admin_refusal.AdminRefusal.{AdminRefusal}
-use Rattle.tk_authorize.specs.declared.admin_refusal.AdminRefusal.TheVariants.{DuplicateParameter, MalformedSubject}
+use Rattle.tk_authorize.specs.declared.admin_refusal.AdminRefusal.TheVariants.{DuplicateParameter}
+use Rattle.tk_authorize.specs.declared.admin_refusal.AdminRefusal.TheVariants.{MalformedSubject}
 use Rattle.tk_authorize.specs.declared.administered.Administered.{Administered}
 use Rattle.tk_authorize.specs.declared.administered.Administered.TheVariants as administered
-use Rattle.tk_authorize.specs.declared.approval.Approval.{Approval}
 use Rattle.tk_authorize.specs.declared.asked.Asked.{Asked}
 use Rattle.tk_authorize.specs.declared.denial.Denial.{Denial}
 use Rattle.tk_authorize.specs.declared.denial.Denial.TheVariants as denial
@@ -55,27 +61,32 @@ use Rattle.tk_authorize.specs.declared.refusal.Refusal.TheVariants as refusal
 -- ---- authorisation requests
 
 module _ (F G : FactSet) (views : (d : Dot) → client_view F d ≡ client_view G d) (grants : (client : Dot) (subject scope : List ℕ) → consent_for F client subject scope ≡ consent_for G client subject scope) where
-  approval_same : (client : Dot) (subject : Option (List ℕ)) (r : Result Asked Denial) → approval_of F client subject r ≡ approval_of G client subject r
+  approval_same : (client : Dot) (subject : Option (List ℕ)) (r : Result Asked Denial)
+      → approval_of F client subject r ≡ approval_of G client subject r
   approval_same client subject (Err why) = refl
   approval_same client None (Ok asked) = refl
   approval_same client (Some subject) (Ok asked) =
       ap (λ (o : Option Dot). cond (is_subject subject) (approval_by_consent subject asked o) (Err denial.MalformedSubject)) (grants client subject asked.scope)
 
-  redirect_same : (rules : ChallengeRules) (params : Pairs) (subject : Option (List ℕ)) (client : Dot) (view : ClientFields) (x : Picked) → judged_by_redirect F rules params subject client view x ≡ judged_by_redirect G rules params subject client view x
+  redirect_same : (rules : ChallengeRules) (params : Pairs) (subject : Option (List ℕ)) (client : Dot) (view : ClientFields) (x : Picked)
+      → judged_by_redirect F rules params subject client view x ≡ judged_by_redirect G rules params subject client view x
   redirect_same rules params subject client view Missing = refl
   redirect_same rules params subject client view Unknown = refl
   redirect_same rules params subject client view (Uri uri) = ap (judged_at (target_of client uri params)) (approval_same client subject (asked_of rules view.client_kind view.scope params))
 
-  view_same : (rules : ChallengeRules) (params : Pairs) (subject : Option (List ℕ)) (client : Dot) (o : Option ClientFields) → judged_by_view F rules params subject client o ≡ judged_by_view G rules params subject client o
+  view_same : (rules : ChallengeRules) (params : Pairs) (subject : Option (List ℕ)) (client : Dot) (o : Option ClientFields)
+      → judged_by_view F rules params subject client o ≡ judged_by_view G rules params subject client o
   view_same rules params subject client None = refl
   view_same rules params subject client (Some view) =
       ap (λ (x : Judged). cond view.live x (Refused refusal.RetiredClient)) (redirect_same rules params subject client view (picked view.redirects (value_of (codes "redirect_uri") params)))
 
-  client_same : (rules : ChallengeRules) (params : Pairs) (subject : Option (List ℕ)) (o : Option Dot) → judged_by_client F rules params subject o ≡ judged_by_client G rules params subject o
+  client_same : (rules : ChallengeRules) (params : Pairs) (subject : Option (List ℕ)) (o : Option Dot)
+      → judged_by_client F rules params subject o ≡ judged_by_client G rules params subject o
   client_same rules params subject None = refl
   client_same rules params subject (Some client) = ap (judged_by_view F rules params subject client) (views client) ∙ view_same rules params subject client (client_view G client)
 
-  id_same : (rules : ChallengeRules) (params : Pairs) (subject : Option (List ℕ)) (o : Option (List ℕ)) → judged_by_id F rules params subject o ≡ judged_by_id G rules params subject o
+  id_same : (rules : ChallengeRules) (params : Pairs) (subject : Option (List ℕ)) (o : Option (List ℕ))
+      → judged_by_id F rules params subject o ≡ judged_by_id G rules params subject o
   id_same rules params subject None = refl
   id_same rules params subject (Some id) = client_same rules params subject (client_in id)
 
@@ -98,11 +109,13 @@ module _ (F G : FactSet) (now : ℕ) (views : (d : Dot) → client_view F d ≡ 
   retired_same (Err why) = refl
   retired_same (Ok d) = ap (retired_at d) (views d)
 
-  consented_to_same : (subject scope : List ℕ) (o : Option Dot) → consented_to F subject scope o ≡ consented_to G subject scope o
+  consented_to_same : (subject scope : List ℕ) (o : Option Dot)
+      → consented_to F subject scope o ≡ consented_to G subject scope o
   consented_to_same subject scope None = refl
   consented_to_same subject scope (Some client) = ap (consented_at client subject scope) (views client)
 
-  consented_same : (id subject scope : Option (List ℕ)) → consented_by F id subject scope ≡ consented_by G id subject scope
+  consented_same : (id subject scope : Option (List ℕ))
+      → consented_by F id subject scope ≡ consented_by G id subject scope
   consented_same None subject scope = refl
   consented_same (Some id) None scope = refl
   consented_same (Some id) (Some subject) None = refl
@@ -121,7 +134,8 @@ module _ (F G : FactSet) (now : ℕ) (views : (d : Dot) → client_view F d ≡ 
   signed_out_same (Some subject) =
       ap (λ t. cond (is_subject subject) (cond t (administered.AlreadyOut subject) (administered.SignsOut (record { subject = subject; moment = now }))) (administered.Refused MalformedSubject)) (outs subject now)
 
-  administered_same : (e : Endpoint) (params : Pairs) → administered_at e F now params ≡ administered_at e G now params
+  administered_same : (e : Endpoint) (params : Pairs)
+      → administered_at e F now params ≡ administered_at e G now params
   administered_same endpoint.Authorize params = refl
   administered_same endpoint.Token params = refl
   administered_same endpoint.Introspect params = refl
@@ -138,7 +152,8 @@ module _ (F G : FactSet) (now : ℕ) (views : (d : Dot) → client_view F d ≡ 
 
 -- judgements by the choices
 module _ (F G : FactSet) (grants : (client : Dot) (subject scope : List ℕ) → consent_for F client subject scope ≡ consent_for G client subject scope) where
-  again_same : (choice : ConsentReuse) (consent : given.ConsentGiven) → consented_again F choice consent ≡ consented_again G choice consent
+  again_same : (choice : ConsentReuse) (consent : given.ConsentGiven)
+      → consented_again F choice consent ≡ consented_again G choice consent
   again_same New consent = refl
   again_same Held consent = ap (λ (o : Option Dot). held_or_given o consent) (grants consent.client consent.subject consent.scope)
 
@@ -165,7 +180,8 @@ administrations_same F G place now request views consents outs grants =
 
 -- ---- pages of clients
 
-pub listings_same : (F G : FactSet) (params : Pairs) → ((d : Dot) → client_view F d ≡ client_view G d) → listing_of F params ≡ listing_of G params
+pub listings_same : (F G : FactSet) (params : Pairs)
+    → ((d : Dot) → client_view F d ≡ client_view G d) → listing_of F params ≡ listing_of G params
 listings_same F G params views = by_cursor (after_named params)
   where
     by_cursor : (r : Result (Option Dot) AdminRefusal) → listed_by F r ≡ listed_by G r

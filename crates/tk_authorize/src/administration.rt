@@ -16,7 +16,7 @@ use tk_fact::{
 };
 use tk_handle::{Dot, Moment};
 use tk_ledger::Ledger;
-use tk_message::{Decision, Place, Request, StatusCode, Told};
+use tk_message::{Decision, JsonReply, Place, Request, StatusCode};
 
 /// Decides an administration request at a moment (own). Returns the reply, and the fact that the
 /// request makes, if any.
@@ -77,7 +77,7 @@ fn decide_registered(
     ensures value { IfOk result (λ d. d ≡ spec.decided_registered place.now client) }
     ensures passes { IfOk result (λ d. Passes d.made) }
 {
-    let reply = Told::Client(StatusCode::Created, place.next_dot()).reply(alloc)?;
+    let reply = JsonReply::Client(StatusCode::Created, place.next_dot()).reply(alloc)?;
     Ok(Decision {
         reply,
         made: Some(Body::ClientAdded(client)),
@@ -88,7 +88,7 @@ fn decide_registered(
 fn decide_shown(alloc: Global, shown: &ShownClient) -> Result<Decision, AllocError>
     ensures { IfOk result (λ d. d ≡ spec.decided_shown shown.now) }
 {
-    let told = Told::Shown(shown.client, &shown.client_kind, shown.live, &shown.scope);
+    let told = JsonReply::Shown(shown.client, &shown.client_kind, shown.live, &shown.scope);
     Ok(Decision::answer(told.reply(alloc)?))
 }
 
@@ -97,7 +97,7 @@ fn decide_retired(alloc: Global, client: Dot, live: bool) -> Result<Decision, Al
     ensures value { IfOk result (λ d. d ≡ spec.decided_retired client live) }
     ensures passes { IfOk result (λ d. Passes d.made) }
 {
-    let reply = Told::Client(StatusCode::Ok, client).reply(alloc)?;
+    let reply = JsonReply::Client(StatusCode::Ok, client).reply(alloc)?;
     let made = if live {
         Some(Body::ClientRetired(ClientRetired { client }))
     } else {
@@ -116,7 +116,7 @@ fn decide_consented(
     ensures value { IfOk result (λ d. d ≡ spec.decided_consented place.now consent) }
     ensures passes { IfOk result (λ d. Passes d.made) }
 {
-    let reply = Told::Consent(StatusCode::Created, place.next_dot()).reply(alloc)?;
+    let reply = JsonReply::Consent(StatusCode::Created, place.next_dot()).reply(alloc)?;
     Ok(Decision {
         reply,
         made: Some(Body::ConsentGiven(consent)),
@@ -127,7 +127,7 @@ fn decide_consented(
 fn decide_held(alloc: Global, consent: Dot) -> Result<Decision, AllocError>
     ensures { IfOk result (λ d. d ≡ spec.decided_held consent) }
 {
-    let reply = Told::Consent(StatusCode::Ok, consent).reply(alloc)?;
+    let reply = JsonReply::Consent(StatusCode::Ok, consent).reply(alloc)?;
     Ok(Decision::answer(reply))
 }
 
@@ -136,7 +136,7 @@ fn decide_withdrawn(alloc: Global, consent: Dot, live: bool) -> Result<Decision,
     ensures value { IfOk result (λ d. d ≡ spec.decided_withdrawn consent live) }
     ensures passes { IfOk result (λ d. Passes d.made) }
 {
-    let reply = Told::Consent(StatusCode::Ok, consent).reply(alloc)?;
+    let reply = JsonReply::Consent(StatusCode::Ok, consent).reply(alloc)?;
     let made = if live {
         Some(Body::ConsentWithdrawn(ConsentWithdrawn { consent }))
     } else {
@@ -150,7 +150,7 @@ fn decide_already_out(alloc: Global, subject: &Subject) -> Result<Decision, Allo
     ensures { IfOk result (λ d. d
         ≡ answered (json_reply StatusCode.Ok (subject_body subject.now))) }
 {
-    let reply = Told::Subject(subject).reply(alloc)?;
+    let reply = JsonReply::Subject(subject).reply(alloc)?;
     Ok(Decision::answer(reply))
 }
 
@@ -160,7 +160,7 @@ fn decide_out(alloc: Global, sign_out: SubjectOut) -> Result<Decision, AllocErro
     ensures value { IfOk result (λ d. d ≡ spec.decided_out sign_out) }
     ensures passes { IfOk result (λ d. Passes d.made) }
 {
-    let reply = Told::Subject(&sign_out.subject).reply(alloc)?;
+    let reply = JsonReply::Subject(&sign_out.subject).reply(alloc)?;
     Ok(Decision {
         reply,
         made: Some(Body::SubjectOut(sign_out)),

@@ -7,9 +7,7 @@
 //!
 //! `decide_admin` (own) decides a request to an endpoint under `/admin/`: clients are added, shown
 //! and retired, consents are given and withdrawn, subjects are signed out everywhere. An
-//! `AdminRefusal` is the first case of the endpoint that held.
-//!
-//! `decide_clients` (own) lists clients, in pages.
+//! `AdminRefusal` is the first case of the endpoint that held; `decide_clients` lists clients.
 //!
 //! Who has signed in, and what the subject consents to, is reported by the front end. Who may send
 //! requests to `/admin/` is left to the deployment.

@@ -11,7 +11,7 @@ use crate::admin_refusal::AdminRefusal;
 use std::alloc::{AllocError, Global};
 use tk_handle::{Dot, read_client};
 use tk_ledger::Ledger;
-use tk_message::{Decision, Params, Request, Told};
+use tk_message::{Decision, JsonReply, Params, Request};
 
 /// Decides a request for a page of clients, GET `/admin/clients` (own). Makes no fact.
 ///
@@ -36,7 +36,7 @@ pub fn decide_clients(
 {
     match after_named(&request.params) {
         Ok(after) => {
-            let reply = Told::Clients(ledger, after).reply(alloc)?;
+            let reply = JsonReply::Clients(ledger, after).reply(alloc)?;
             Ok(Decision::answer(reply))
         }
         Err(why) => Decision::refuse(alloc, why.code()),

@@ -13,7 +13,8 @@
 --   faults_as        equal faults of a connection are equal faults of telling
 --   served           replying to an arrival is what a connection does
 --   faulted          a fault while replying is a connection's fault
-use Rattle.std.proofs.Common.{◌≡◌, ◌≢◌, ℕ, Bool, true, false, List, Option, None, Some, Result, Ok, Err, IfOk, OnOk, OnErr, refl, subst, ap, ◌∙◌, inl, inr}
+use Rattle.std.proofs.Common.{◌≡◌, ◌≢◌, ℕ, Bool, true, false, List, Option, None, Some, Result, Ok}
+use Rattle.std.proofs.Common.{Err, IfOk, OnOk, OnErr, refl, subst, ap, ◌∙◌, inl, inr}
 use Rattle.std.specs.declared.alloc.AllocError.{AllocError}
 use Rattle.tk_format.specs.Format.{whole}
 use Rattle.tk_message.specs.Reply.{error_reply}
@@ -38,7 +39,8 @@ use Rattle.tk_edge.specs.declared.edge.Served.{Served}
 use Rattle.tk_edge.specs.declared.edge.Served.TheVariants.{Done}
 use Rattle.tk_edge.specs.declared.exchange.Exchange.TheVariants.{Vector, Pull, Push}
 use Rattle.tk_edge.specs.declared.hear.Arrival.{Arrival}
-use Rattle.tk_edge.specs.declared.hear.Arrival.TheVariants.{Silence, Refused, Request, Exchange, Notice}
+use Rattle.tk_edge.specs.declared.hear.Arrival.TheVariants.{Silence, Refused, Request, Exchange}
+use Rattle.tk_edge.specs.declared.hear.Arrival.TheVariants.{Notice}
 use Rattle.tk_edge.specs.declared.reach.Reach.{Reach}
 use Rattle.tk_edge.specs.declared.reach.PathSet.TheVariants.{Admin, All}
 use Rattle.tk_edge.specs.declared.refusal.Refusal.{Refusal}
@@ -57,7 +59,8 @@ refused why code reply allowed (Err e) code_is reply_is allowed_is is = tt
 pub gains_nothing : (r : RegionFields) → Gains r None r
 gains_nothing r = record { number = refl; settings = refl; facts = refl }
 
-pub answers_nothing : (r : RegionFields) (told : AnswerFields) (result : Result AnswerFields AllocError) → IfOk result (λ a. a ≡ told) → AnswersBy r told None result r
+pub answers_nothing : (r : RegionFields) (told : AnswerFields) (result : Result AnswerFields AllocError)
+    → IfOk result (λ a. a ≡ told) → AnswersBy r told None result r
 answers_nothing r told (Ok a) h = (h, gains_nothing r, tt)
 answers_nothing r told (Err e) h = refl
 
@@ -68,7 +71,8 @@ answers_request terms r now words request p result new is answers =
     subst (λ (x : PreparedFields). AnswersBy r (rendered (with_iss terms.issuer x.reply) None x.logged) x.fact result new) is answers
 
 -- if no path of `/sync/` is served, an arrival is answered with its answer and its fact
-pub answers_alone : (terms : TermsFields) (r : RegionFields) (now : ℕ) (words : List ℕ) (came : Arrival) (result : Result AnswerFields AllocError) (new : RegionFields) → MayArrive (plain Admin) came
+pub answers_alone : (terms : TermsFields) (r : RegionFields) (now : ℕ) (words : List ℕ) (came : Arrival) (result : Result AnswerFields AllocError) (new : RegionFields)
+    → MayArrive (plain Admin) came
     → Answers terms r now words came result new → AnswersBy r (answer_at terms r now words came) (fact_by r now words came) result new
 answers_alone terms r now words (Exchange asked) result new off told = absurd (clash off)
   where
@@ -77,7 +81,8 @@ answers_alone terms r now words (Exchange asked) result new off told = absurd (c
 answers_alone terms r now words came result new off told = told
 
 -- running out of memory leaves the region unchanged, or with the first facts of a bundle
-pub short_of : (reach : Reach) (terms : TermsFields) (known : Option (List ℕ)) (now : ℕ) (words : List ℕ) (came : Arrival) (old new : RegionFields) (e : AllocError) → Arrives reach known came
+pub short_of : (reach : Reach) (terms : TermsFields) (known : Option (List ℕ)) (now : ℕ) (words : List ℕ) (came : Arrival) (old new : RegionFields) (e : AllocError)
+    → Arrives reach known came
     → Answers terms old now words came (Err e) new → IsShort reach terms now known old new
 short_of reach terms known now words (Exchange Vector) old new e arrives told = inl told
 short_of reach terms known now words (Exchange (Pull sent)) old new e arrives told = inl told
@@ -102,7 +107,8 @@ short_answer reach terms bytes now words came old new (Err e) is may told = shor
     some_is b same = cc
 
 -- replying to a pull with a page changes nothing
-pub pulls : (terms : TermsFields) (now : ℕ) (r : RegionFields) (sent : List ℕ) (result : Result AnswerFields AllocError) → IfOk result (λ a. a ≡ rendered (page_reply r.facts (whole wanted sent)) None None)
+pub pulls : (terms : TermsFields) (now : ℕ) (r : RegionFields) (sent : List ℕ) (result : Result AnswerFields AllocError)
+    → IfOk result (λ a. a ≡ rendered (page_reply r.facts (whole wanted sent)) None None)
     → Exchanges terms now r (Pull sent) result r
 pulls terms now r sent (Ok a) h = (h, refl)
 pulls terms now r sent (Err e) h = refl
@@ -122,15 +128,16 @@ no_read (Some bytes) terms now words came region log still writer sealed told = 
 
 module _ (asked : Asked) (came : Arrival) (old new : RegionFields) (log : Change) (still : Type 0) (writer : Change) (sealed : Bool) (arrives : Arrives asked.reach asked.known came) (spoke : came ≢ Silence) where
   -- an arrival was replied to, with the pushed bundle that is logged, if any
-  abbrev Told : Option (List ℕ) → Result StatusCode Fault → Type 0
-  Told sent result = RepliesTo sent asked.terms asked.now asked.words came (record { before = old; after = new }) log still writer sealed result
+  abbrev JsonReply : Option (List ℕ) → Result StatusCode Fault → Type 0
+  JsonReply sent result = RepliesTo sent asked.terms asked.now asked.words came (record { before = old; after = new }) log still writer sealed result
 
-  pub served : (status : StatusCode) → Told (bundle_to_log asked.log_taken came) (Ok status)
+  pub served : (status : StatusCode) → JsonReply (bundle_to_log asked.log_taken came) (Ok status)
       → IsServed asked (record { before = old; after = new }) log still writer sealed (Ok (Done status))
   served status told = (came, arrives, spoke, told)
 
   -- running out of memory for an arrival's reply
-  ran_out : (b : Bool) → Told (bundle_to_log b came) (Err Memory) → RunsOut b asked (record { before = old; after = new }) log still writer sealed
+  ran_out : (b : Bool) → JsonReply (bundle_to_log b came) (Err Memory)
+      → RunsOut b asked (record { before = old; after = new }) log still writer sealed
   ran_out b told = by came b arrives told
     where
       by : (c : Arrival) (b : Bool) → Arrives asked.reach asked.known c
@@ -145,7 +152,7 @@ module _ (asked : Asked) (came : Arrival) (old new : RegionFields) (log : Change
       by (Request request) true arrives told = inl (told.1, told.2)
       by (Notice notice) true arrives told = inl (told.1, told.2)
 
-  pub faulted : (fault : Fault) → Told (bundle_to_log asked.log_taken came) (Err fault)
+  pub faulted : (fault : Fault) → JsonReply (bundle_to_log asked.log_taken came) (Err fault)
       → IsServed asked (record { before = old; after = new }) log still writer sealed (Err fault)
   faulted Read told = absurd (no_read (bundle_to_log asked.log_taken came) asked.terms asked.now asked.words came (record { before = old; after = new }) log still writer sealed told)
   faulted Write told = (came, arrives, spoke, told)
@@ -153,7 +160,8 @@ module _ (asked : Asked) (came : Arrival) (old new : RegionFields) (log : Change
   faulted Memory told = ran_out asked.log_taken told
 
 -- running out of memory before anything arrived
-pub nothing_heard : (b : Bool) (asked : Asked) (region : Step) (log : Change) (still : Type 0) (writer : Change) (sealed : Bool) → IsUntouched region log still writer sealed
+pub nothing_heard : (b : Bool) (asked : Asked) (region : Step) (log : Change) (still : Type 0) (writer : Change) (sealed : Bool)
+    → IsUntouched region log still writer sealed
     → RunsOut b asked region log still writer sealed
 nothing_heard false asked region log still writer sealed same = (inl same.0, same.1)
 nothing_heard true asked region log still writer sealed same = inl same
@@ -167,5 +175,6 @@ unread sent terms now words came region log still writer sealed Log told = λ is
 unread sent terms now words came region log still writer sealed Memory told = λ is. cc
 
 -- equal faults of a connection are equal faults of telling
-pub faults_as : (fault other : Fault) → fails fault ≡ fails other → told_fault fault ≡ told_fault other
+pub faults_as : (fault other : Fault) → fails fault ≡ fails other
+    → told_fault fault ≡ told_fault other
 faults_as fault other is = cc

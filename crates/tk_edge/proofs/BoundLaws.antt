@@ -1,6 +1,6 @@
 -- How many bytes a body may have. Key result:
 --   size_within   a body that may be requested is within the limit of all bodies
-use Rattle.std.proofs.Common.{◌≡◌, ℕ, ◌≤◌, refl, sym, subst, arith}
+use Rattle.std.proofs.Common.{ℕ, ◌≤◌, sym, subst, arith}
 use Rattle.tk_edge.specs.Bounds.{body_limit}
 use Rattle.tk_edge.specs.Judged.{MayPost, limit_of}
 use Rattle.tk_edge.specs.declared.path.Posted.{Posted}
@@ -14,7 +14,8 @@ form_within All size le = omega (arith, le)
 form_within Clients size le = le
 form_within Admin size le = le
 
-pub size_within : (reach : Reach) (posted : Posted) (size : ℕ) → MayPost reach posted → size ≤ limit_of posted → size ≤ body_limit reach.paths
+pub size_within : (reach : Reach) (posted : Posted) (size : ℕ) → MayPost reach posted
+    → size ≤ limit_of posted → size ≤ body_limit reach.paths
 size_within reach (Form endpoint) size h le = form_within reach.paths size le
 size_within reach Pull size h le = subst (λ (s : PathSet). size ≤ body_limit s) (sym h) le
 size_within reach Push size h le = subst (λ (s : PathSet). size ≤ body_limit s) (sym h) le

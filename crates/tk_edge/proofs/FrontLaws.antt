@@ -8,22 +8,27 @@
 --   size_at         the size of a request, by the parts of its head
 --   stays_at        whether the connection may stay behind it, by the parts of its head
 --   some_taken      a request behind which a connection stays took some bytes
-use Rattle.std.proofs.Common.{◌≡◌, ℕ, ◌+◌, ◌-◌, ◌<◌, ◌≤◌, Bool, true, false, List, [], ◌∷◌, ◌++◌, length, take, drop, map, Some, Result, Ok, Err, IfOk, nat_le, nat_lt, inl, inr, refl, sym, ap, ◌∙◌, subst, arith, append-nil, length-take}
+use Rattle.std.proofs.Common.{◌≡◌, ℕ, ◌+◌, ◌-◌, ◌<◌, ◌≤◌, Bool, true, false, List, [], ◌∷◌, ◌++◌}
+use Rattle.std.proofs.Common.{length, take, drop, map, Some, Result, Ok, Err, IfOk, nat_le, nat_lt}
+use Rattle.std.proofs.Common.{inl, inr, refl, sym, ap, ◌∙◌, subst, arith, append-nil, length-take}
 use Rattle.std.proofs.lemmas.Bool.Decides.{nat_tests}
 use Rattle.std.specs.declared.alloc.AllocError.{AllocError}
 use Rattle.std.proofs.lemmas.List.{length-drop, length-map, take_rest}
 use Rattle.httparse.specs.Grammar.{RequestHead, print_request, ReadsRequest, HasNoRequest}
 use Rattle.httparse.specs.Grammar.{IsRequestHead}
-use Rattle.httparse.specs.Spans.{IsRequestAt, IsRequestWithin, RequestOverflows, header_bytes, name_and_value}
+use Rattle.httparse.specs.Spans.{IsRequestAt, IsRequestWithin, RequestOverflows, header_bytes}
+use Rattle.httparse.specs.Spans.{name_and_value}
 use Rattle.httparse.specs.declared.spans.HeaderSpan.{HeaderSpan}
 use Rattle.httparse.specs.declared.spans.RequestSpans.{RequestSpans}
 use Rattle.httparse.proofs.GrammarLemmas.{ReadsRequest-append, request_unique}
 use Rattle.tk_params.specs.Params.{Pairs}
 use Rattle.tk_edge.specs.Bounds.{request_limit}
-use Rattle.tk_edge.specs.Fronts.{Follows, HasCome, IsCut, IsFewer, IsFront, IsFrontBy, IsOneRequest, IsTakenWithin, MayComeBy}
+use Rattle.tk_edge.specs.Fronts.{Follows, HasCome, IsCut, IsFewer, IsFront, IsFrontBy, IsOneRequest}
+use Rattle.tk_edge.specs.Fronts.{IsTakenWithin, MayComeBy}
 use Rattle.tk_edge.specs.Fronts.{Takes, TakesIn, front_of, request_size, size_of}
 use Rattle.tk_edge.specs.Heads.{HasHead, head_limit, field_limit}
-use Rattle.tk_edge.specs.Heard.{Arrives, IsArrival, MayArrive, arrival_by, arrival_of, headless, posted_to}
+use Rattle.tk_edge.specs.Heard.{Arrives, IsArrival, MayArrive, arrival_by, arrival_of, headless}
+use Rattle.tk_edge.specs.Heard.{posted_to}
 use Rattle.tk_edge.specs.Judged.{judged_of}
 use Rattle.tk_edge.specs.Staying.{stays_by, stays_open}
 use Rattle.tk_edge.specs.declared.front.Front.{Front}

@@ -1,24 +1,24 @@
 -- Redirects with their issuer. Key results:
 --   adds_iss     a redirect with its issuer has one more parameter
 --   leads_same   a redirect with its issuer leads where it did
-use Rattle.std.proofs.Common.{◌≡◌, ℕ, ◌<◌, Bool, true, cond, List, [], ◌∷◌, ◌++◌, length, Option, Some, None, codes, IfSome, option_map, refl, sym, ap, ◌∙◌, append_assoc, arith}
+use Rattle.std.proofs.Common.{◌≡◌, ℕ, ◌<◌, cond, List, [], ◌∷◌, ◌++◌, length, Option, Some, None}
+use Rattle.std.proofs.Common.{codes, IfSome, option_map, sym, ap, ◌∙◌, append_assoc, arith}
 use Rattle.std.proofs.lemmas.List.{length-append}
 use Rattle.std.proofs.lemmas.List.Sums.{fold-append}
 use Rattle.std.proofs.lemmas.Bool.{lt-ltb}
 use Rattle.form_urlencoded.specs.Form.{append_pair, extend_pairs, separator, serialize_pair}
 use Rattle.tk_match.specs.ReplyUri.{joint, reply_of}
 use Rattle.tk_params.specs.Params.{Pairs}
-use Rattle.tk_store.specs.FactSet.{FactSet}
-use Rattle.tk_message.specs.ReplyFields.{ReplyFields}
-use Rattle.tk_authorize.specs.Registered.{LeadsToClient, IsAtRegistered}
-use Rattle.tk_edge.specs.Issuer.{iss_behind, with_iss}
+use Rattle.tk_authorize.specs.Registered.{IsAtRegistered}
+use Rattle.tk_edge.specs.Issuer.{iss_behind}
 use Rattle.tk_edge.specs.Laws.{AddsIssuer, LeadsAlike}
 
 -- a form with a pair isn't empty
 pair_grows : (form name value : List ℕ) → 0 < length (append_pair form name value)
 pair_grows form name value = simp length-append (omega arith)
 
-pairs_grow : (form : List ℕ) (pairs : Pairs) → 0 < length form → 0 < length (extend_pairs form pairs)
+pairs_grow : (form : List ℕ) (pairs : Pairs) → 0 < length form
+    → 0 < length (extend_pairs form pairs)
 pairs_grow form [] some = some
 pairs_grow form (pair ∷ pairs) some = pairs_grow (append_pair form pair.0 pair.1) pairs (pair_grows form pair.0 pair.1)
 
@@ -44,7 +44,8 @@ pub leads_same : LeadsAlike
 leads_same F params None reply leads = leads
 leads_same F params (Some issuer) reply leads = by reply.location leads
   where
-    by : (o : Option (List ℕ)) → IfSome o (IsAtRegistered F params) → IfSome (option_map (iss_behind issuer) o) (IsAtRegistered F params)
+    by : (o : Option (List ℕ)) → IfSome o (IsAtRegistered F params)
+        → IfSome (option_map (iss_behind issuer) o) (IsAtRegistered F params)
     by None h = tt
     by (Some location) h = record {
       uri = h.uri;

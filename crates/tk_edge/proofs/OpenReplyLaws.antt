@@ -4,8 +4,10 @@
 --   none_to     one more place has no closing line
 --   opened      a reply behind others is without its first closing line
 --   stays_as    a reply behind others has no closing line
-use Rattle.std.proofs.Common.{◌≡◌, ℕ, ◌+◌, ◌-◌, ◌<◌, ◌++◌, Bool, true, false, List, length, take, drop}
-use Rattle.std.proofs.Common.{drop-cons, get_or, nat_lt, ◌==◌, ◌≢◌, inl, inr, refl, sym, ap, subst, ◌∙◌, append_assoc, arith}
+use Rattle.std.proofs.Common.{◌≡◌, ℕ, ◌+◌, ◌-◌, ◌<◌, ◌++◌, Bool, true, false, List, length, take}
+use Rattle.std.proofs.Common.{drop}
+use Rattle.std.proofs.Common.{drop-cons, get_or, nat_lt, ◌==◌, ◌≢◌, inl, inr, refl, sym, ap, subst}
+use Rattle.std.proofs.Common.{◌∙◌, append_assoc, arith}
 use Rattle.std.specs.List.{starts_with}
 use Rattle.std.proofs.lemmas.Bool.Decides.{nat_tests}
 use Rattle.std.proofs.Math.Seq.{take-add}

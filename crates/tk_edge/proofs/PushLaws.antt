@@ -4,7 +4,8 @@
 --   refused_lost      RefusedIsLost
 --   taken_as          TakesAsRegion
 --   all_accepted      AcceptsAll
-use Rattle.std.proofs.Common.{◌≡◌, ◌≢◌, ◌⊎◌, inl, inr, ℕ, Bool, false, List, [], ◌∷◌, Option, None, Some, Result, Ok, Err, refl, subst, ap}
+use Rattle.std.proofs.Common.{◌≡◌, ◌≢◌, ◌⊎◌, inl, inr, ℕ, Bool, false, List, [], ◌∷◌, Option, None}
+use Rattle.std.proofs.Common.{Some, Result, Ok, Err, refl, subst, ap}
 use Rattle.std.specs.Io.KnownBytes.{Appends}
 use Rattle.tk_put.specs.Put.{AppendsFront}
 use Rattle.tk_message.specs.declared.status_code.StatusCode.{StatusCode}
@@ -33,14 +34,16 @@ logged_and_told logged taken log still writer sealed (Err Read) gained unused to
 logged_and_told logged taken log still writer sealed (Err Log) gained unused told unsealed = absurd told
 
 -- the log failed, and has a beginning of the record
-pub begun : (logged : Option (List ℕ)) (log : Change) → logged ≢ None → AppendsFront log.before log.after (logged_of logged) → IsBegun logged log
+pub begun : (logged : Option (List ℕ)) (log : Change) → logged ≢ None
+    → AppendsFront log.before log.after (logged_of logged) → IsBegun logged log
 begun None log some front = absurd (some refl)
 begun (Some bytes) log some front = front
 
 pub refused_lost : RefusedIsLost
 refused_lost terms now old new bytes taken why is h = by taken (subst (λ r. PushesBy r old bytes taken new) is h)
   where
-    by : (t : Result ℕ PushError) → PushesBy (Some why) old bytes t new → ((t ≡ Err why) ⊎ (t ≡ Err (Take take.Memory))) × (new ≡ old)
+    by : (t : Result ℕ PushError) → PushesBy (Some why) old bytes t new
+        → ((t ≡ Err why) ⊎ (t ≡ Err (Take take.Memory))) × (new ≡ old)
     by (Err HorizonAhead) h = (inl (ap Err h.0), h.1)
     by (Err OutOfRange) h = (inl (ap Err h.0), h.1)
     by (Err (Take take.Memory)) h = (inr refl, h)
@@ -60,7 +63,8 @@ all_accepted now (Some b) = ap (first_refusal false) (none_outside b.items)
 pub taken_as : TakesAsRegion
 taken_as terms now old new bytes taken is h = by taken (subst (λ r. PushesBy r old bytes taken new) is h)
   where
-    by : (t : Result ℕ PushError) → PushesBy None old bytes t new → (result : Result ℕ TakeError) × (t ≡ lifted result) × TakesBundle old bytes result new
+    by : (t : Result ℕ PushError) → PushesBy None old bytes t new
+        → (result : Result ℕ TakeError) × (t ≡ lifted result) × TakesBundle old bytes result new
     by (Ok n) h = (Ok n, refl, h)
     by (Err (Take error)) h = (Err error, refl, h)
     by (Err HorizonAhead) h = absurd h

@@ -6,7 +6,9 @@
 --   judged_may        an exchange is requested only if all paths are served, a notice only if that
 --                     is, and a body is within its limit
 --   all_heard         no exchange arrives unless all paths are served, and no notice unless that is
-use Rattle.std.proofs.Common.{◌≡◌, ℕ, ◌≤◌, Bool, true, false, cond, List, [], ◌∷◌, ◌++◌, length, take, Option, Some, None, map, sym, ap, ◌∙◌, subst, arith, nat_le, inl, inr, refl}
+use Rattle.std.proofs.Common.{◌≡◌, ℕ, ◌≤◌, Bool, true, false, cond, List, [], ◌∷◌, ◌++◌, length}
+use Rattle.std.proofs.Common.{take, Option, Some, None, map, sym, ap, ◌∙◌, subst, arith, nat_le}
+use Rattle.std.proofs.Common.{inl, inr, refl}
 use Rattle.std.specs.Option.{option_or}
 use Rattle.std.specs.Str.{bytes_eq}
 use Rattle.std.specs.Str.Parse.{digits_value}
@@ -19,10 +21,14 @@ use Rattle.httparse.specs.Spans.{name_and_value}
 use Rattle.httparse.proofs.GrammarLemmas.{request_unique}
 use Rattle.tk_edge.specs.HeadFields.{AreFields, has_repeats, coding_in, length_in, type_in}
 use Rattle.tk_edge.specs.declared.field.Fields.{Fields}
-use Rattle.tk_edge.specs.Heard.{posted_to, arrival_by, arrival_of, headless, IsArrival, MayArrive, Arrives}
-use Rattle.tk_edge.specs.Judged.{judged_of, at_path, at_service, asked, with_body, sized, fits_type, limit_of, MayPost, MayTell, MayAsk}
+use Rattle.tk_edge.specs.Heard.{posted_to, arrival_by, arrival_of, headless, IsArrival, MayArrive}
+use Rattle.tk_edge.specs.Heard.{Arrives}
+use Rattle.tk_edge.specs.Judged.{judged_of, at_path, at_service, asked, with_body, sized, fits_type}
+use Rattle.tk_edge.specs.Judged.{limit_of, MayPost, MayTell, MayAsk}
 use Rattle.tk_edge.specs.Laws.{HasOneMeaning, HearsAll}
-use Rattle.tk_edge.specs.Paths.{path_of, path_named, client_named, admin_named, sync_named, has_metrics, notice_named, beside_clients, inner_named, method_named, service_at}
+use Rattle.tk_edge.specs.Paths.{path_of, path_named, client_named, admin_named, sync_named}
+use Rattle.tk_edge.specs.Paths.{has_metrics, notice_named, beside_clients, inner_named}
+use Rattle.tk_edge.specs.Paths.{method_named, service_at}
 use Rattle.tk_format.specs.Numerals.{is_numeral, numeral_up_to}
 use Rattle.tk_format.specs.declared.numeral.Numeral.{Numeral}
 use Rattle.tk_format.specs.declared.numeral.Numeral.TheVariants as numeral
@@ -71,12 +77,14 @@ has_one_meaning reach bytes a b (inr (h, rest, reads, has, p)) (inr (k, more, re
 
 -- ---- silence
 
-speaks_to : (posted : Posted) (body : List ℕ) (pairs : Pairs) → Silence ≡ posted_to posted body pairs → ⊥
+speaks_to : (posted : Posted) (body : List ℕ) (pairs : Pairs)
+    → Silence ≡ posted_to posted body pairs → ⊥
 speaks_to (Form endpoint) body pairs e = absurd (cc)
 speaks_to Pull body pairs e = absurd (cc)
 speaks_to Push body pairs e = absurd (cc)
 
-speaks : (target : List ℕ) (pairs : Pairs) (rest : List ℕ) (judged : Judged) → Silence ≡ arrival_by target pairs rest judged → ⊥
+speaks : (target : List ℕ) (pairs : Pairs) (rest : List ℕ) (judged : Judged)
+    → Silence ≡ arrival_by target pairs rest judged → ⊥
 speaks target pairs rest (Refused why) e = absurd (cc)
 speaks target pairs rest (Query endpoint) e = absurd (cc)
 speaks target pairs rest Vector e = absurd (cc)
@@ -93,7 +101,8 @@ silent_is_empty reach (b ∷ bytes) (inl (none, e)) = absurd (cc)
 silent_is_empty reach (b ∷ bytes) (inr (h, rest, reads, has, e)) =
     absurd (speaks h.target (map name_and_value h.fields) rest (judged_of reach h.method h.target (map name_and_value h.fields)) e)
 
-pub hears_nothing : (reach : Reach) (known : Option (List ℕ)) (came : Arrival) → came ≡ Silence → Arrives reach known came → (bytes : List ℕ) → known ≡ Some bytes → bytes ≡ []
+pub hears_nothing : (reach : Reach) (known : Option (List ℕ)) (came : Arrival) → came ≡ Silence
+    → Arrives reach known came → (bytes : List ℕ) → known ≡ Some bytes → bytes ≡ []
 hears_nothing reach known came silent arrives bytes is = silent_is_empty reach bytes (subst (IsArrival reach bytes) silent (arrives.1 bytes is))
 
 -- ---- unless all paths are served
@@ -110,11 +119,13 @@ abbrev MayServeIf : Reach → Option Path → Type 0
 MayServeIf reach None = Unit {0}
 MayServeIf reach (Some p) = MayServe reach p
 
-pick : (reach : Reach) (b : Bool) (o p : Option Path) → MayServeIf reach o → MayServeIf reach p → MayServeIf reach (cond b o p)
+pick : (reach : Reach) (b : Bool) (o p : Option Path) → MayServeIf reach o → MayServeIf reach p
+    → MayServeIf reach (cond b o p)
 pick reach true o p h k = h
 pick reach false o p h k = k
 
-either : (reach : Reach) (o p : Option Path) → MayServeIf reach o → MayServeIf reach p → MayServeIf reach (option_or o p)
+either : (reach : Reach) (o p : Option Path) → MayServeIf reach o → MayServeIf reach p
+    → MayServeIf reach (option_or o p)
 either reach None p h k = k
 either reach (Some x) p h k = h
 
@@ -140,13 +151,16 @@ sync_may reach text on =
     (pick reach (bytes_eq text (codes "/sync/pull")) (Some path.Pull) _ on
     (pick reach (bytes_eq text (codes "/sync/push")) (Some path.Push) None on tt))
 
-inner_may : (reach : Reach) (set : PathSet) (text : List ℕ) → reach.paths ≡ set → MayServeIf reach (inner_named set text)
+inner_may : (reach : Reach) (set : PathSet) (text : List ℕ) → reach.paths ≡ set
+    → MayServeIf reach (inner_named set text)
 inner_may reach Clients text is = tt
 inner_may reach Admin text is = admin_may reach text
 inner_may reach All text is = either reach (admin_named text) (sync_named text) (admin_may reach text) (sync_may reach text is)
 
 -- a path that needs a flag is served only if the flag is set
-flagged : (reach : Reach) (flag named : Bool) (p : Path) (o : Option Path) → (flag ≡ true → MayServe reach p) → MayServeIf reach o → MayServeIf reach (cond (flag && named) (Some p) o)
+flagged : (reach : Reach) (flag named : Bool) (p : Path) (o : Option Path)
+    → (flag ≡ true → MayServe reach p) → MayServeIf reach o
+    → MayServeIf reach (cond (flag && named) (Some p) o)
 flagged reach true true p o h k = h refl
 flagged reach true false p o h k = k
 flagged reach false named p o h k = k
@@ -174,7 +188,8 @@ abbrev MayDoIf : Reach → Option Service → Type 0
 MayDoIf reach None = Unit {0}
 MayDoIf reach (Some s) = MayDo reach s
 
-may_do : (reach : Reach) (p : Path) (m : Option Method) → MayServe reach p → MayDoIf reach (service_at p m)
+may_do : (reach : Reach) (p : Path) (m : Option Method) → MayServe reach p
+    → MayDoIf reach (service_at p m)
 may_do reach p None h = tt
 may_do reach path.Vector (Some Get) h = h
 may_do reach (path.Notice notice) (Some Get) h = h
@@ -183,7 +198,8 @@ may_do reach path.Pull (Some Post) h = h
 may_do reach path.Push (Some Post) h = h
 may_do reach p (Some Post) h = tt
 
-choose : (reach : Reach) (b : Bool) (j k : Judged) → MayAsk reach j → MayAsk reach k → MayAsk reach (cond b j k)
+choose : (reach : Reach) (b : Bool) (j k : Judged) → MayAsk reach j → MayAsk reach k
+    → MayAsk reach (cond b j k)
 choose reach true j k h l = h
 choose reach false j k h l = l
 
@@ -199,51 +215,61 @@ bounded limit text = of (is_numeral text) (nat_le n limit) refl
     n : ℕ
     n = digits_value 10 text
 
-    of : (a b : Bool) → nat_le n limit ≡ b → IsBounded limit (cond a (cond b (numeral.Within n) numeral.Above) numeral.Malformed)
+    of : (a b : Bool) → nat_le n limit ≡ b
+        → IsBounded limit (cond a (cond b (numeral.Within n) numeral.Above) numeral.Malformed)
     of false b e = tt
     of true false e = tt
     of true true e = leb-true n limit e
 
-may_size : (reach : Reach) (posted : Posted) (told : Numeral) (kinds : List (List ℕ)) → IsBounded (limit_of posted) told
+may_size : (reach : Reach) (posted : Posted) (told : Numeral) (kinds : List (List ℕ))
+    → IsBounded (limit_of posted) told
     → MayPost reach posted → MayAsk reach (sized posted told kinds)
 may_size reach posted numeral.Malformed kinds fits h = tt
 may_size reach posted numeral.Above kinds fits h = tt
 may_size reach posted (numeral.Within n) kinds fits h = choose reach (fits_type posted kinds) (Body posted n) _ (h, fits) tt
 
-may_post : (reach : Reach) (posted : Posted) (codings lengths kinds : List (List ℕ)) → MayPost reach posted → MayAsk reach (with_body posted codings lengths kinds)
+may_post : (reach : Reach) (posted : Posted) (codings lengths kinds : List (List ℕ))
+    → MayPost reach posted → MayAsk reach (with_body posted codings lengths kinds)
 may_post reach posted (coding ∷ codings) lengths kinds h = tt
 may_post reach posted [] [] kinds h = tt
 may_post reach posted [] (text ∷ more) kinds h =
     may_size reach posted (numeral_up_to (limit_of posted) text) kinds (bounded (limit_of posted) text) h
 
-may_be_asked : (reach : Reach) (s : Service) (pairs : Pairs) → MayDo reach s → MayAsk reach (asked s pairs)
+may_be_asked : (reach : Reach) (s : Service) (pairs : Pairs) → MayDo reach s
+    → MayAsk reach (asked s pairs)
 may_be_asked reach (service.Query e) pairs h = tt
 may_be_asked reach service.Vector pairs h = h
 may_be_asked reach (service.Notice notice) pairs h = h
 may_be_asked reach (service.Body posted) pairs h = may_post reach posted (coding_in pairs) (length_in pairs) (type_in pairs) h
 
-may_at : (reach : Reach) (p : Path) (s : Option Service) (pairs : Pairs) → MayDoIf reach s → MayAsk reach (at_service p s pairs)
+may_at : (reach : Reach) (p : Path) (s : Option Service) (pairs : Pairs) → MayDoIf reach s
+    → MayAsk reach (at_service p s pairs)
 may_at reach p None pairs h = tt
 may_at reach p (Some s) pairs h = choose reach (has_repeats pairs) _ (asked s pairs) tt (may_be_asked reach s pairs h)
 
-may_at_path : (reach : Reach) (o : Option Path) (m : Option Method) (pairs : Pairs) → MayServeIf reach o → MayAsk reach (at_path o m pairs)
+may_at_path : (reach : Reach) (o : Option Path) (m : Option Method) (pairs : Pairs)
+    → MayServeIf reach o → MayAsk reach (at_path o m pairs)
 may_at_path reach None m pairs h = tt
 may_at_path reach (Some p) m pairs h = may_at reach p (service_at p m) pairs (may_do reach p m h)
 
-may_ask : (reach : Reach) (method target : List ℕ) (pairs : Pairs) → MayAsk reach (judged_of reach method target pairs)
+may_ask : (reach : Reach) (method target : List ℕ) (pairs : Pairs)
+    → MayAsk reach (judged_of reach method target pairs)
 may_ask reach method target pairs = may_at_path reach _ (method_named method) pairs (may_serve reach (path_of target))
 
 -- a judgement requests an exchange only if all paths are served, whatever fields were read
-pub judged_may : (reach : Reach) (method target : List ℕ) (fields : Fields) (pairs : Pairs) (judged : Judged) → AreFields fields pairs
+pub judged_may : (reach : Reach) (method target : List ℕ) (fields : Fields) (pairs : Pairs) (judged : Judged)
+    → AreFields fields pairs
     → ((all : Pairs) → AreFields fields all → judged ≡ judged_of reach method target all) → MayAsk reach judged
 judged_may reach method target fields pairs judged are told = subst (MayAsk reach) (sym (told pairs are)) (may_ask reach method target pairs)
 
-by_posted : (reach : Reach) (posted : Posted) (body : List ℕ) (pairs : Pairs) → MayPost reach posted → MayArrive reach (posted_to posted body pairs)
+by_posted : (reach : Reach) (posted : Posted) (body : List ℕ) (pairs : Pairs) → MayPost reach posted
+    → MayArrive reach (posted_to posted body pairs)
 by_posted reach (Form e) body pairs h = tt
 by_posted reach Pull body pairs h = h
 by_posted reach Push body pairs h = h
 
-by_judged : (reach : Reach) (target : List ℕ) (pairs : Pairs) (rest : List ℕ) (judged : Judged) → MayAsk reach judged → MayArrive reach (arrival_by target pairs rest judged)
+by_judged : (reach : Reach) (target : List ℕ) (pairs : Pairs) (rest : List ℕ) (judged : Judged)
+    → MayAsk reach judged → MayArrive reach (arrival_by target pairs rest judged)
 by_judged reach target pairs rest (Refused why) h = tt
 by_judged reach target pairs rest (Query e) h = tt
 by_judged reach target pairs rest Vector h = h

@@ -5,7 +5,8 @@ use Rattle.std.proofs.Common.{◌≡◌, ℕ, Bool, true, false, ◌&&◌, ◌==
 use Rattle.std.proofs.Common.{sym, ap, ◌∙◌, arith}
 use Rattle.std.proofs.lemmas.Bool.Decides.{nat_tests}
 use Rattle.tk_format.specs.Exact.{IsExact}
-use Rattle.tk_format.specs.Laws.{u16_exact, u64_exact, both_exact, partly_exact, shaped_exact}
+use Rattle.tk_format.specs.NumberLaws.{u16_exact, u64_exact}
+use Rattle.tk_format.specs.Laws.{both_exact, partly_exact, shaped_exact}
 use Rattle.tk_handle.specs.declared.dot.Dot.{Dot}
 use Rattle.tk_handle.specs.Ranges.{is_region, is_serial}
 use Rattle.tk_vector.specs.VectorBytesLaws.{vector_exact}

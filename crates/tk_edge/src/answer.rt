@@ -49,7 +49,7 @@ use crate::terms::Terms;
 use std::alloc::{AllocError, Global};
 use tk_fact::Fact;
 use tk_handle::Moment;
-use tk_message::{Reply, Request, Told};
+use tk_message::{JsonReply, Reply, Request};
 use tk_region::{Prepared, Region};
 
 // Replies to an arrival by the terms. `now` is the current moment, and `words` are the random words
@@ -93,7 +93,7 @@ fn silent(alloc: Global) -> Answer
 pub(crate) fn refuse(alloc: Global, why: Refusal) -> Result<Answer, AllocError>
     ensures { IfOk result (λ answer. answer ≡ spec.refused_by why) }
 {
-    let reply = Told::Error(why.code()).reply(alloc)?;
+    let reply = JsonReply::Error(why.code()).reply(alloc)?;
     answer_with(alloc, &reply, why.allowed())
 }
 

@@ -24,9 +24,12 @@ impl<T> Counted<T> {
     }
 }
 
-/// Counts a write that takes no byte of a non-empty piece as a failure.
+/// Counts a write that takes no byte of a non-empty piece as a failure. std's writers have no word
+/// for what a flush has written out: all that they hold counts as that.
 impl<W: Write> Sink for Counted<W> {
     ghost holds = { λ s. W.contents s.inner };
+
+    ghost flushed = { λ s. W.contents s.inner };
 
     ghost failed = { λ s. s.failures };
 

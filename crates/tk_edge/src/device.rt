@@ -1,6 +1,6 @@
 //! Devices that take bytes and count their failures: `Sink`.
 
-ghost use Rattle.std.specs.Prelude.{◌≡◌, ℕ, ◌<◌, ◌≤◌, List, length, Option, IfOk};
+ghost use Rattle.std.specs.Prelude.{◌≡◌, ℕ, ◌<◌, ◌≤◌, List, length, Option, IfOk, OnOk};
 ghost use Rattle.std.specs.Io.KnownBytes.{Keeps, WriteAppends};
 ghost use Rattle.tk_edge.specs.Failures.{CountsFailure};
 
@@ -12,6 +12,9 @@ pub struct Failed;
 pub trait Sink {
     // The bytes that the sink has taken so far, if they are known.
     ghost holds: { Self → Option (List ℕ) };
+
+    // The bytes that a flush has written out, if they are known.
+    ghost flushed: { Self → Option (List ℕ) };
 
     // How many calls have failed. The count saturates at the greatest `u64`.
     ghost failed: { Self → ℕ };
@@ -27,6 +30,7 @@ pub trait Sink {
     /// Writes out what is buffered. A record counts as logged only after this call.
     fn flush(&mut self) -> Result<(), Failed>
         ensures bytes { Keeps (holds self.old) (holds self.new) }
+        ensures flushed { OnOk result (flushed self.new ≡ holds self.new) }
         ensures failures { CountsFailure result (failed self.old) (failed self.new) };
 
     /// Returns how many calls have failed. The count saturates at `u64::MAX`.

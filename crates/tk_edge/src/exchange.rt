@@ -44,7 +44,7 @@ use crate::terms::Terms;
 use std::alloc::{AllocError, Global};
 use tk_format::ReadError;
 use tk_handle::Moment;
-use tk_message::{ErrorCode, Reply, Told, bytes_reply};
+use tk_message::{ErrorCode, JsonReply, Reply, bytes_reply};
 use tk_region::{Region, TakeError};
 
 impl Sent {
@@ -118,7 +118,7 @@ fn refuse_by(alloc: Global, name: Option<ErrorCode>) -> Result<Reply, AllocError
     ensures { IfOk result (spec.IsErrorReply name) }
 {
     match name {
-        Some(name) => Told::Error(name).reply(alloc),
+        Some(name) => JsonReply::Error(name).reply(alloc),
         None => Err(AllocError),
     }
 }
@@ -170,7 +170,7 @@ pub(crate) fn taken_answer(
     ensures { IfOk result (spec.IsTakenReply taken) }
 {
     match taken {
-        Ok(count) => Told::Taken(count).reply(alloc),
+        Ok(count) => JsonReply::Taken(count).reply(alloc),
         Err(error) => refuse_by(alloc, refusal_code(error)),
     }
 }

@@ -29,6 +29,8 @@ impl Sink for Discard {
 
     ghost holds = { λ _. None };
 
+    ghost flushed = { λ _. None };
+
     ghost failed = { λ _. 0 };
 
     fn put(&mut self, piece: &[u8]) -> Result<usize, Failed> {

@@ -1,7 +1,9 @@
 -- The tokens that the token endpoint mints end with their family, and it uses what was minted. Key
 -- result:
 --   grants_within   the decisions
-use Rattle.std.proofs.Common.{◌≡◌, ◌≢◌, ℕ, ◌≤◌, ◌==◌, ◌+◌, nat_le, Bool, true, false, not, cond, List, codes, Option, None, Some, IfSome, refl, sym, ap, subst, ◌∙◌, arith}
+use Rattle.std.proofs.Common.{◌≡◌, ◌≢◌, ℕ, ◌≤◌, ◌==◌, ◌+◌, nat_le, Bool, true, false, not, cond}
+use Rattle.std.proofs.Common.{List, codes, Option, None, Some, IfSome, refl, sym, ap, subst, ◌∙◌}
+use Rattle.std.proofs.Common.{arith}
 use Rattle.std.proofs.lemmas.Bool.{true≢false}
 use Rattle.std.proofs.lemmas.Bool.Decides.{nat_tests}
 use Rattle.std.specs.FinMap as map
@@ -43,7 +45,8 @@ use Rattle.tk_message.specs.declared.caller.Caller.{Caller}
 use Rattle.tk_message.specs.declared.caller.Caller.TheVariants as caller
 use Rattle.tk_message.specs.declared.decision.Decision.{Decision}
 use Rattle.tk_message.specs.declared.place.Place.{Place}
-use Rattle.tk_grant.specs.Gate.{gate_by_state, gate_by_client, gate_by_status, gate_by_handle, gate_by_text, gate_of}
+use Rattle.tk_grant.specs.Gate.{gate_by_state, gate_by_client, gate_by_status, gate_by_handle}
+use Rattle.tk_grant.specs.Gate.{gate_by_text, gate_of}
 use Rattle.tk_grant.specs.Granted.{earlier, ends_at, granted_by, grant_of}
 use Rattle.tk_grant.specs.Judged.{judged_by_type, judged_by_caller, judged_of, known_names}
 use Rattle.tk_grant.specs.Redeemed.{meets_challenge, names_uri, redeemed_of}
@@ -83,18 +86,21 @@ kind_is kind.Refresh kind.Access h = absurd (true≢false (sym h))
 some_known : {A : Type 0} (o : Option A) (a : A) → o ≡ Some a → o ≢ None
 some_known o a h none = none_is_not_some a (sym none ∙ h)
 
-known_is : (P : StoreFields) (now : ℕ) (h : Handle) (s : StandingFields) → status_here P now h ≡ Known s → status_in (held_facts P) now h ≡ Known s
+known_is : (P : StoreFields) (now : ℕ) (h : Handle) (s : StandingFields)
+    → status_here P now h ≡ Known s → status_in (held_facts P) now h ≡ Known s
 known_is P now h s = by (is_skipped P.slots h.id.dot)
   where
     no_wrong : Wrong ≡ Known s → ⊥
     no_wrong e = cc
 
-    by : (t : Bool) → cond t Wrong (status_in (held_facts P) now h) ≡ Known s → status_in (held_facts P) now h ≡ Known s
+    by : (t : Bool) → cond t Wrong (status_in (held_facts P) now h) ≡ Known s
+        → status_in (held_facts P) now h ≡ Known s
     by true e = absurd (no_wrong e)
     by false e = e
 
 -- what minted a refresh token is the parent of a rotation of the next generation
-rotatable : (b : Body) (m : MintedFields) (d : Dot) → minted_of b kind.Refresh ≡ Some m → (above : Link) × (link_of b ≡ Some above) × (fits (Rotates d (generation_of b + 1)) above ≡ true)
+rotatable : (b : Body) (m : MintedFields) (d : Dot) → minted_of b kind.Refresh ≡ Some m
+    → (above : Link) × (link_of b ≡ Some above) × (fits (Rotates d (generation_of b + 1)) above ≡ true)
 rotatable (body.CodeRedeemed f) m d h = (Redeems f.code, refl, refl)
 rotatable (body.RefreshRotated f) m d h = (Rotates f.parent f.generation, refl, same_number (f.generation + 1))
   where
@@ -102,7 +108,9 @@ rotatable (body.RefreshRotated f) m d h = (Rotates f.parent f.generation, refl, 
     same_number n = grind (arith, nat_tests)
 rotatable b m d h = absurd (none_is_not_some m h)
 
-open_for : (P : StoreFields) (now : ℕ) (h : Handle) (k : Kind) (s : StandingFields) → h.id.kind ≡ k → status_here P now h ≡ Known s → IsOpenFor (held_facts P) (record { dot = h.id.dot; kind = k }) s
+open_for : (P : StoreFields) (now : ℕ) (h : Handle) (k : Kind) (s : StandingFields) → h.id.kind ≡ k
+    → status_here P now h ≡ Known s
+    → IsOpenFor (held_facts P) (record { dot = h.id.dot; kind = k }) s
 open_for P now h k s same e =
     let x : Knows (held_facts P) now h s = known_parts (held_facts P) now h s (known_is P now h s e) in
     record {
@@ -138,7 +146,9 @@ module _ (P : StoreFields) (now : ℕ) where
   abbrev H : FactSet
   H = held_facts P
 
-  by_status : (client : Dot) (k : Kind) (h : Handle) (s : Status) → h.id.kind ≡ k → status_here P now h ≡ s → OpensFor H (gate_by_status (record { dot = h.id.dot; kind = k }) client s)
+  by_status : (client : Dot) (k : Kind) (h : Handle) (s : Status) → h.id.kind ≡ k
+      → status_here P now h ≡ s
+      → OpensFor H (gate_by_status (record { dot = h.id.dot; kind = k }) client s)
   by_status client k h Unseen same e = tt
   by_status client k h Wrong same e = tt
   by_status client k h (Broken expiry) same e = tt
@@ -151,7 +161,8 @@ module _ (P : StoreFields) (now : ℕ) where
         | false ↦ λ e. tt
       ] refl
 
-  by_text : (client : Dot) (k : Kind) (o : Option Handle) → OpensFor H (gate_by_text P now client k o)
+  by_text : (client : Dot) (k : Kind) (o : Option Handle)
+      → OpensFor H (gate_by_text P now client k o)
   by_text client k None = tt
   by_text client k (Some h) = by_handle client k h
 
@@ -181,7 +192,8 @@ module _ (F : FactSet) where
       either (not (names_uri s.issued.sent s.issued.uri (value_of (codes "redirect_uri") params))) (judged.Refused refusal.WrongRedirect) _ tt
       (either (not (meets_challenge s.issued.challenge (value_of (codes "code_verifier") params))) (judged.Refused refusal.WrongVerifier) _ tt o.issued)
 
-  rotates_by : (id : TokenId) (s : StandingFields) (scope : Option (List ℕ)) → id.kind ≡ kind.Refresh → IsOpenFor F id s → IsGrantFor F (rotated_by id.dot s scope)
+  rotates_by : (id : TokenId) (s : StandingFields) (scope : Option (List ℕ))
+      → id.kind ≡ kind.Refresh → IsOpenFor F id s → IsGrantFor F (rotated_by id.dot s scope)
   rotates_by id s None k o = tt
   rotates_by id s (Some scope) k o = (
     o.rotates k,
@@ -195,7 +207,8 @@ module _ (F : FactSet) where
   IsOfKind k (Reuse id) = Unit {0}
   IsOfKind k (Open id s) = id.kind ≡ k
 
-  rotates : (params : Pairs) (g : Gate) → IsOfKind kind.Refresh g → OpensFor F g → IsGrantFor F (rotated_of params g)
+  rotates : (params : Pairs) (g : Gate) → IsOfKind kind.Refresh g → OpensFor F g
+      → IsGrantFor F (rotated_of params g)
   rotates params (Shut why) k o = tt
   rotates params (Reuse id) k o = o
   rotates params (Open id s) k o =
@@ -203,7 +216,8 @@ module _ (F : FactSet) where
       (rotates_by id s (scope_asked s.scope (value_of (codes "scope") params)) k o)
 
 module _ (P : StoreFields) (now : ℕ) where
-  kind_by_state : (id : TokenId) (s : StandingFields) (x : State) → IsOfKind (held_facts P) id.kind (gate_by_state id s x)
+  kind_by_state : (id : TokenId) (s : StandingFields) (x : State)
+      → IsOfKind (held_facts P) id.kind (gate_by_state id s x)
   kind_by_state id s state.Dead = tt
   kind_by_state id s state.Withdrawn = tt
   kind_by_state id s state.Over = tt
@@ -212,7 +226,8 @@ module _ (P : StoreFields) (now : ℕ) where
   kind_by_state id s state.Ended = tt
   kind_by_state id s state.Live = refl
 
-  kind_by_status : (id : TokenId) (client : Dot) (s : Status) → IsOfKind (held_facts P) id.kind (gate_by_status id client s)
+  kind_by_status : (id : TokenId) (client : Dot) (s : Status)
+      → IsOfKind (held_facts P) id.kind (gate_by_status id client s)
   kind_by_status id client Unseen = tt
   kind_by_status id client Wrong = tt
   kind_by_status id client (Broken expiry) = tt
@@ -221,18 +236,21 @@ module _ (P : StoreFields) (now : ℕ) where
     | false ↦ tt
   ]
 
-  kind_by_text : (client : Dot) (k : Kind) (o : Option Handle) → IsOfKind (held_facts P) k (gate_by_text P now client k o)
+  kind_by_text : (client : Dot) (k : Kind) (o : Option Handle)
+      → IsOfKind (held_facts P) k (gate_by_text P now client k o)
   kind_by_text client k None = tt
   kind_by_text client k (Some h) = elim (kind_number h.id.kind == kind_number k) as (λ t. IsOfKind (held_facts P) k (cond t (gate_by_status (record { dot = h.id.dot; kind = k }) client (status_here P now h)) (Shut refusal.UnknownGrant))) [
     | true ↦ kind_by_status (record { dot = h.id.dot; kind = k }) client (status_here P now h)
     | false ↦ tt
   ]
 
-  kind_by_gate : (client : Dot) (k : Kind) (o : Option (List ℕ)) → IsOfKind (held_facts P) k (gate_of P now client k o)
+  kind_by_gate : (client : Dot) (k : Kind) (o : Option (List ℕ))
+      → IsOfKind (held_facts P) k (gate_of P now client k o)
   kind_by_gate client k None = tt
   kind_by_gate client k (Some text) = kind_by_text client k (handle_in text)
 
-  by_type : (params : Pairs) (client : Dot) (o : Option (List ℕ)) → IsGrantFor (held_facts P) (judged_by_type P now params client o)
+  by_type : (params : Pairs) (client : Dot) (o : Option (List ℕ))
+      → IsGrantFor (held_facts P) (judged_by_type P now params client o)
   by_type params client None = tt
   by_type params client (Some name) =
       either (held_facts P) (bytes_eq name (codes "authorization_code")) _ _
@@ -242,7 +260,8 @@ module _ (P : StoreFields) (now : ℕ) where
       (kind_by_gate client kind.Refresh (value_of (codes "refresh_token") params)) (by_gate P now client kind.Refresh (value_of (codes "refresh_token") params)))
       tt)
 
-  by_caller : (params : Pairs) (c : Caller) → IsGrantFor (held_facts P) (judged_by_caller P now params c)
+  by_caller : (params : Pairs) (c : Caller)
+      → IsGrantFor (held_facts P) (judged_by_caller P now params c)
   by_caller params caller.DuplicateParameter = tt
   by_caller params caller.MixedCredentials = tt
   by_caller params caller.InvalidClient = tt
@@ -260,12 +279,14 @@ cut now life moment = earlier_le (moment_plus now life) moment
     earlier_le : (a b : ℕ) → earlier a b ≤ b
     earlier_le a b = grind (arith, nat_tests)
 
-granted_within : (F : FactSet) (place : Place) (now : ℕ) (words : List ℕ) (j : Judged) → IsGrantFor F j → MakesWithin F (granted_by place now words j)
+granted_within : (F : FactSet) (place : Place) (now : ℕ) (words : List ℕ) (j : Judged)
+    → IsGrantFor F j → MakesWithin F (granted_by place now words j)
 granted_within F place now words (judged.Refused why) g = tt
 granted_within F place now words (judged.Reused id) g = g
 granted_within F place now words (judged.Redeems grant) g = (grant.family_end, g, cut now place.lives.access grant.family_end, cut now place.lives.refresh grant.family_end)
 granted_within F place now words (judged.Rotates generation grant) g =
     (g.0, g.1, g.2, grant.family_end, g.3, cut now place.lives.access grant.family_end, cut now place.lives.refresh grant.family_end)
 
-pub grants_within : (P : StoreFields) (place : Place) (now : ℕ) (words : List ℕ) (request : RequestFields) → IfSome (grant_of P place now words request).made (IsWithin (held_facts P))
+pub grants_within : (P : StoreFields) (place : Place) (now : ℕ) (words : List ℕ) (request : RequestFields)
+    → IfSome (grant_of P place now words request).made (IsWithin (held_facts P))
 grants_within P place now words request = granted_within (held_facts P) place now words (judged_of P now request) (by_caller P now request.params (caller_of (held_facts P) known_names request))

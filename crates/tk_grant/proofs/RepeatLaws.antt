@@ -1,7 +1,8 @@
 -- A refresh that is repeated gets the reply of its grant. Key result:
 --   same_among      comparing each borrowed name is comparing their texts
 --   repeats_reply   the reply, of which `expires_in` alone differs
-use Rattle.std.proofs.Common.{◌≡◌, ℕ, ◌-◌, ◌&&◌, List, [], ◌∷◌, map, Option, Some, None, inl, inr, refl, sym, ap, subst, ◌∙◌}
+use Rattle.std.proofs.Common.{◌≡◌, ℕ, ◌-◌, ◌&&◌, List, [], ◌∷◌, map, Option, Some, None, inl, inr}
+use Rattle.std.proofs.Common.{refl, sym, ap, subst, ◌∙◌}
 use Rattle.std.proofs.lemmas.Bool.{cases_Bool, cond-true, cond-false}
 use Rattle.std.specs.Borrow.{Bor}
 use Rattle.std.specs.FinMap as fin
@@ -31,7 +32,8 @@ use Rattle.tk_grant.specs.Laws.{RepeatsReply}
 use Rattle.tk_grant.specs.Repeat.{has_same, have_same, live_as, live_in, repeat_by}
 
 -- comparing each borrowed name is comparing their texts
-pub same_among : (names : List (Bor (List ℕ))) (a b : Pairs) → list_all (λ name. has_same name.now a b) names ≡ have_same (map (λ x. x.now) names) a b
+pub same_among : (names : List (Bor (List ℕ))) (a b : Pairs)
+    → list_all (λ name. has_same name.now a b) names ≡ have_same (map (λ x. x.now) names) a b
 same_among [] a b = refl
 same_among (name ∷ names) a b = ap (λ t. has_same name.now a b && t) (same_among names a b)
 
@@ -40,7 +42,8 @@ abbrev reply_with : ℕ → Handle → Handle → StandingFields → ReplyFields
 reply_with now access refresh s = json_reply Ok (token_body access (s.expiry - now) refresh s.scope)
 
 -- a reply is that with the standing of a live access token
-repeat_parts : (now : ℕ) (a b : Handle) (o p : Option StandingFields) (reply : ReplyFields) → repeat_by now a b o p ≡ Some reply
+repeat_parts : (now : ℕ) (a b : Handle) (o p : Option StandingFields) (reply : ReplyFields)
+    → repeat_by now a b o p ≡ Some reply
     → (s : StandingFields) × (o ≡ Some s) × (reply_with now a b s ≡ reply)
 repeat_parts now a b (Some s) (Some t) reply h = (s, refl, some_injective (reply_with now a b s) reply h)
 repeat_parts now a b (Some s) None reply h = absurd (none_is_not_some reply h)
@@ -60,7 +63,8 @@ live_known (Broken t) s h = absurd (none_is_not_some s h)
 live_known (Known x) s h = ap (λ (y : StandingFields). Known y) (live_parts x s h)
 
 -- the standing of the access token has what its fact minted
-known_minted : (F : FactSet) (now : ℕ) (h : Handle) (s : StandingFields) (body : Body) (m : MintedFields) → Knows F now h s → fin.get F h.id.dot ≡ Some body → minted_of body h.id.kind ≡ Some m
+known_minted : (F : FactSet) (now : ℕ) (h : Handle) (s : StandingFields) (body : Body) (m : MintedFields)
+    → Knows F now h s → fin.get F h.id.dot ≡ Some body → minted_of body h.id.kind ≡ Some m
     → (s.expiry ≡ m.expiry) × (s.scope ≡ m.scope)
 known_minted F now h s body m k held mints =
     let same : k.minted ≡ m = some_injective k.minted m (sym k.mints ∙ ap (option_and_then (λ b. minted_of b h.id.kind)) held ∙ mints) in (

@@ -15,7 +15,7 @@ use Rattle.tk_message.specs.declared.place.Place.{Place}
 use Rattle.tk_fact.specs.declared.body.Body.{Body}
 use Rattle.tk_message.specs.Place.{next_in}
 use Rattle.tk_message.specs.ReplyFields.{ReplyFields}
-use Rattle.tk_grant.specs.Granted.{grant_of, granted_by}
+use Rattle.tk_grant.specs.Granted.{grant_of}
 use Rattle.tk_grant.specs.Judged.{judged_of, known_names}
 use Rattle.tk_grant.specs.Repeat.{later_reply, repeat_of}
 use Rattle.tk_grant.specs.Within.{IsWithin}

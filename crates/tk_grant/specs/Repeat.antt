@@ -4,7 +4,7 @@
 --   live_in      the standing of a status, if it is that of a live token
 --   repeat_of    the reply with the two tokens of a fact, if both are live
 --   later_reply  the reply to a grant, said again later
-use Rattle.std.specs.Prelude.{ℕ, ◌-◌, Bool, true, false, ◌&&◌, not, List, [], ◌∷◌, codes, Option}
+use Rattle.std.specs.Prelude.{ℕ, ◌-◌, Bool, true, false, ◌&&◌, not, List, codes, Option}
 use Rattle.std.specs.Prelude.{Some, None, if◌then◌else◌}
 use Rattle.std.specs.List.{list_all}
 use Rattle.std.specs.Str.{bytes_eq}

@@ -10,7 +10,7 @@ use std::alloc::{AllocError, Global};
 use tk_fact::{Body, CodeRedeemed, MintedToken, RefreshRotated, ReuseSeen};
 use tk_handle::{Dot, Handle, Kind, Moment, TokenId};
 use tk_ledger::Ledger;
-use tk_message::{Decision, ErrorCode, Place, Reply, Request, Told};
+use tk_message::{Decision, ErrorCode, JsonReply, Place, Reply, Request};
 
 /// Decides a token request at a moment (RFC 6749, 4.1.3, 4.1.4, 5, 6 and 10.4; RFC 7636, 4.5 and
 /// 4.6). Returns the reply, and the fact that the request makes, if any.
@@ -51,7 +51,7 @@ fn decide_by(
     match judged {
         Judged::Refused(why) => Decision::refuse(alloc, why.code()),
         Judged::Reused(token) => {
-            let reply = Told::Error(ErrorCode::InvalidGrant).reply(alloc)?;
+            let reply = JsonReply::Error(ErrorCode::InvalidGrant).reply(alloc)?;
             Ok(Decision {
                 reply,
                 made: Some(Body::ReuseSeen(ReuseSeen { token })),
@@ -157,7 +157,7 @@ fn mint(
     let access_expiry = ends_at(now, place.lives.access, grant.family_end);
     let refresh_expiry = ends_at(now, place.lives.refresh, grant.family_end);
     let lifetime = access_expiry.seconds() - now.seconds();
-    let reply = Told::Tokens(&access, lifetime, &refresh, &grant.access).reply(alloc)?;
+    let reply = JsonReply::Tokens(&access, lifetime, &refresh, &grant.access).reply(alloc)?;
     Ok(Minted {
         reply,
         access: MintedToken {

@@ -12,7 +12,7 @@ use std::alloc::{AllocError, Global};
 use tk_family::Steps;
 use tk_handle::{Dot, Handle, Moment};
 use tk_ledger::{Ledger, Standing, Status};
-use tk_message::{Endpoint, Params, Reply, Request, Told};
+use tk_message::{Endpoint, JsonReply, Params, Reply, Request};
 
 /// Returns whether a request is for new tokens by a refresh token (RFC 6749, 6).
 pub fn is_refresh_request(request: &Request) -> bool
@@ -125,7 +125,9 @@ pub fn repeat_of(
     match (live(ledger, now, &access), live(ledger, now, &refresh)) {
         (Some(standing), Some(_)) => {
             let lifetime = standing.expiry.seconds().saturating_sub(now.seconds());
-            let reply = Told::Tokens(&access, lifetime, &refresh, standing.scope).reply(alloc)?;
+            let reply = JsonReply::Tokens(&access, lifetime, &refresh, standing.scope).reply(
+                alloc,
+            )?;
             Ok(Some(reply))
         }
         _ => Ok(None),

@@ -3,12 +3,13 @@
 --   tokens_more, cursor_more   a page of one client and others
 --   one_left, none_left        how many clients are left of a page
 --   whole_none, whole_some     the whole page, without and with a client behind which others follow
-use Rattle.std.proofs.Common.{◌≡◌, ◌≤◌, ◌<◌, ◌+◌, ◌-◌, ℕ, zero, suc, List, [], ◌∷◌, ◌++◌, codes, Option, Some, None, refl, sym, ap, ◌∙◌, append_assoc, arith}
+use Rattle.std.proofs.Common.{◌≡◌, ◌≤◌, ◌<◌, ◌+◌, ◌-◌, ℕ, zero, suc, List, [], ◌∷◌, ◌++◌, codes}
+use Rattle.std.proofs.Common.{Option, Some, None, refl, sym, ap, ◌∙◌, append_assoc, arith}
 use Rattle.json.specs.Token as token
 use Rattle.json.specs.Token.{Token}
 use Rattle.json.specs.Tree.{items_tokens, json_tokens}
 use Rattle.serde_json.specs.Data as json
-use Rattle.serde_json.specs.Data.{Items, no_items, item}
+use Rattle.serde_json.specs.Data.{Items, no_items}
 use Rattle.serde_json.specs.Written.{items_outline, outline}
 use Rattle.tk_handle.specs.declared.dot.Dot.{Dot}
 use Rattle.tk_handle.specs.ClientId.{client_text}
@@ -24,7 +25,8 @@ cursor_none zero at = refl
 cursor_none (suc n) at = refl
 
 -- what is left to write behind a client is the rest of the page
-pub tokens_more : (t u all : List Token) (n m : ℕ) (c : Dot × ClientFields) (cs more : List (Dot × ClientFields)) → n ≡ suc m → more ≡ c ∷ cs
+pub tokens_more : (t u all : List Token) (n m : ℕ) (c : Dot × ClientFields) (cs more : List (Dot × ClientFields))
+    → n ≡ suc m → more ≡ c ∷ cs
     → u ≡ t ++ json_tokens (outline (listed_body c)) → t ++ items_tokens (items_outline (listed n more)) ≡ all → u ++ items_tokens (items_outline (listed m cs)) ≡ all
 tokens_more t u all n m c cs more left is written whole =
     ap (λ x. x ++ items_tokens (items_outline (listed m cs))) written
@@ -33,7 +35,8 @@ tokens_more t u all n m c cs more left is written whole =
     ∙ ap (λ (x : List (Dot × ClientFields)). t ++ items_tokens (items_outline (listed n x))) (sym is)
     ∙ whole
 
-pub cursor_more : (n m : ℕ) (at last : Option Dot) (c : Dot × ClientFields) (cs more : List (Dot × ClientFields)) → n ≡ suc m → more ≡ c ∷ cs
+pub cursor_more : (n m : ℕ) (at last : Option Dot) (c : Dot × ClientFields) (cs more : List (Dot × ClientFields))
+    → n ≡ suc m → more ≡ c ∷ cs
     → cursor_of n at more ≡ last → cursor_of m (Some c.0) cs ≡ last
 cursor_more n m at last c cs more left is whole =
     ap (λ (k : ℕ). cursor_of k at (c ∷ cs)) (sym left) ∙ ap (cursor_of n at) (sym is) ∙ whole
@@ -53,7 +56,9 @@ pub whole_none : (t : List Token) (page : Items) → t ≡ opened ++ items_token
     → t ++ token.end_object ∷ [] ≡ json_tokens (outline (json.object (json.member (codes "clients") (json.array page) json.no_members)))
 whole_none t page h = ap (λ x. x ++ token.end_object ∷ []) h
 
-pub whole_some : (t u : List Token) (page : Items) (d : Dot) → t ≡ opened ++ items_tokens (items_outline page) → u ≡ t ++ token.key (codes "next") ∷ token.string (client_text d) ∷ []
+pub whole_some : (t u : List Token) (page : Items) (d : Dot)
+    → t ≡ opened ++ items_tokens (items_outline page)
+    → u ≡ t ++ token.key (codes "next") ∷ token.string (client_text d) ∷ []
     → u ++ token.end_object ∷ []
     ≡ json_tokens (outline (json.object (json.member (codes "clients") (json.array page) (json.member (codes "next") (json.string (client_text d)) json.no_members))))
 whole_some t u page d h k =

@@ -10,7 +10,7 @@
 --   Choices          profile_choices, what the profile does if it leaves a choice
 --   ReplyFields      ReplyFields, what contracts see of a reply
 --   Reply            json_reply, and the replies without JSON
---   Told             told, the reply that says something in JSON
+--   JsonReply             reply_of, the reply that says something in JSON
 --   Decision         answered, refused, postponed, decisions without a fact; Passes
 --   Place            next_in, the dot of the next fact
 pub mod Authentication
@@ -26,7 +26,7 @@ pub mod ReplyFields
 pub mod RequestFields
 pub mod ScopeAsked
 pub mod StatusCode
-pub mod Told
+pub mod JsonReply
 pub use Rattle.tk_fact.specs.Check
 pub use Rattle.tk_handle.specs.ClientId
 pub use Rattle.tk_handle.specs.ConsentId

@@ -4,8 +4,8 @@ ghost use Rattle.std.specs.Prelude.{◌≡◌, IfOk};
 ghost use Rattle.tk_message.specs.Decision as spec;
 
 use crate::error_code::ErrorCode;
+use crate::json_reply::JsonReply;
 use crate::reply::{Asks, Reply};
-use crate::told::Told;
 use std::alloc::{AllocError, Global};
 use tk_fact::Body;
 
@@ -31,7 +31,7 @@ impl Decision {
     pub fn refuse(alloc: Global, code: ErrorCode) -> Result<Decision, AllocError>
         ensures { IfOk result (λ decision. decision ≡ spec.refused code) }
     {
-        let reply = Told::Error(code).reply(alloc)?;
+        let reply = JsonReply::Error(code).reply(alloc)?;
         Ok(Decision::answer(reply))
     }
 
@@ -40,7 +40,7 @@ impl Decision {
     pub fn postpone(alloc: Global) -> Result<Decision, AllocError>
         ensures { IfOk result (λ decision. decision ≡ spec.postponed) }
     {
-        let reply = Told::Error(ErrorCode::TemporarilyUnavailable).reply(alloc)?;
+        let reply = JsonReply::Error(ErrorCode::TemporarilyUnavailable).reply(alloc)?;
         Ok(Decision::answer(Reply {
             asks: Asks::Retry,
             ..reply

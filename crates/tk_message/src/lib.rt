@@ -4,7 +4,7 @@
 //!   `find_caller` returns the client that sends it, by `authenticate`, and `scope_asked` the scope
 //!   that is requested.
 //! - A `Reply` has a `StatusCode`, perhaps a place to redirect to, and a `Payload`. An `ErrorCode`
-//!   has a name and a status. `Told` is what a JSON reply says: `Told::reply` writes every one.
+//!   has a name and a status. `JsonReply` is what a JSON reply says: `JsonReply::reply` writes every one.
 //! - A `Decision` is a reply, and the fact that the request makes, if any. A `Place` is the dot of
 //!   that fact, how long tokens live, and the `Choices` of the region.
 //!
@@ -12,7 +12,7 @@
 //! reads requests and writes replies as HTTP. No other crate makes JSON.
 //!
 //! In reading order: `Endpoint`, `Request`, `Auth`, `Caller`, `scope_asked`, `StatusCode`,
-//! `ErrorCode`, `Reply`, `Told`, `Lives`, `Choices`, `Place`, `Decision`. The definitions are in
+//! `ErrorCode`, `Reply`, `JsonReply`, `Lives`, `Choices`, `Place`, `Decision`. The definitions are in
 //! `specs/`, by these names. Those of the credentials are in `Authentication`, of requests in
 //! `RequestFields`, and of the bodies in `Bodies`.
 #![tactic(auto)]
@@ -24,13 +24,13 @@ mod choices;
 mod client_page;
 mod decision;
 mod error_code;
+mod json_reply;
 mod object;
 mod place;
 mod reply;
 mod request;
 mod scope;
 mod status_code;
-mod told;
 
 pub use authentication::{Auth, authenticate};
 pub use caller::{Caller, find_caller};
@@ -38,6 +38,7 @@ pub use choices::{ChallengeRules, Choices, ConsentReuse, RefreshSeen, UnseenRevo
 pub use client_page::MAX_LISTED;
 pub use decision::Decision;
 pub use error_code::ErrorCode;
+pub use json_reply::JsonReply;
 pub use place::{Lives, Place};
 pub use reply::{Asks, Payload, Reply, bytes_reply, empty_reply, handle_string, redirect_reply};
 pub use request::{Endpoint, Request};
@@ -45,4 +46,3 @@ pub use scope::scope_asked;
 pub use status_code::StatusCode;
 pub use tk_match::RedirectKinds;
 pub use tk_params::{Credentials, CredentialsError, One, Params};
-pub use told::Told;

@@ -1,4 +1,4 @@
-//! Replies: their parts, and the replies without JSON. `Told` has those with JSON.
+//! Replies: their parts, and the replies without JSON. `JsonReply` has those with JSON.
 
 use crate::status_code::StatusCode;
 use std::marker::Model;

@@ -6,7 +6,9 @@
 --   capped_taken   a region that takes in a bundle
 --   capped_pruned  a region that is pruned
 --   capped_sliced  a region of which a slice is pruned
-use Rattle.std.proofs.Common.{◌≡◌, ℕ, zero, suc, ◌+◌, ◌<◌, ◌≤◌, ◌==◌, ◌&&◌, ◌||◌, Bool, true, false, if◌then◌else◌, nat_le, max, List, [], ◌∷◌, take, Option, Some, None, Result, Ok, Err, refl, sym, ap, subst, ◌∙◌, inl, inr, arith}
+use Rattle.std.proofs.Common.{◌≡◌, ℕ, zero, suc, ◌+◌, ◌<◌, ◌≤◌, ◌==◌, ◌&&◌, ◌||◌, Bool, true, false}
+use Rattle.std.proofs.Common.{if◌then◌else◌, nat_le, max, List, [], ◌∷◌, take, Option, Some, None}
+use Rattle.std.proofs.Common.{Result, Ok, Err, refl, sym, ap, subst, ◌∙◌, inl, inr, arith}
 use mathlib.Core.Bool.{false≢true}
 use Rattle.std.specs.FinMap as map
 use Rattle.std.proofs.lemmas.Bool.Decides.{nat_tests}
@@ -17,7 +19,8 @@ use Rattle.tk_fact.specs.declared.body.Body.{Body}
 use Rattle.tk_store.specs.FactSet.{AllIn}
 use Rattle.tk_store.specs.NextDot.{last_serial, next_serial}
 use Rattle.tk_store.specs.Slots.{Slot, Slots, Skipped, held_slot, joined_slot, with_slots}
-use Rattle.tk_store.specs.StoreFields.{StoreFields, empty_store, with_fact, with_horizon, with_skipped}
+use Rattle.tk_store.specs.StoreFields.{StoreFields, empty_store, with_fact, with_horizon}
+use Rattle.tk_store.specs.StoreFields.{with_skipped}
 use Rattle.tk_store.proofs.EntryLaws.{AllIn-entries}
 use Rattle.tk_store.proofs.NextDotLaws.{next_is_free}
 use Rattle.tk_store.proofs.PutLaws.{of_dot, none_is_not_some}
@@ -28,27 +31,33 @@ use Rattle.tk_ledger.specs.declared.slices.Slice.{Slice}
 use Rattle.tk_bundle.specs.BundleFields.{BundleFields, Items}
 use Rattle.tk_message.specs.Place.{next_in}
 use Rattle.tk_region.specs.declared.take.TakeError.{TakeError}
-use Rattle.tk_region.specs.declared.take.TakeError.TheVariants.{Malformed, OwnNumber, Conflict, Memory}
+use Rattle.tk_region.specs.declared.take.TakeError.TheVariants.{Malformed, OwnNumber, Conflict}
+use Rattle.tk_region.specs.declared.take.TakeError.TheVariants.{Memory}
 use Rattle.tk_region.specs.RegionFields.{RegionFields, IsCapped, place_in}
 use Rattle.tk_region.specs.SettingsFields.{SettingsFields, greatest_cap}
 use Rattle.tk_region.specs.Step.{IsNextFact}
 use Rattle.tk_region.specs.Taking.{has_unmade, is_unmade, raised, items_taken, TakesIn}
 use Rattle.tk_region.proofs.TakeLaws.{raised_slots}
 
-one_under : (region r serial rest cap : ℕ) → (region ≡ r → serial ≤ cap) → rest ≤ cap → max (if region == r then serial else 0) rest ≤ cap
+one_under : (region r serial rest cap : ℕ) → (region ≡ r → serial ≤ cap) → rest ≤ cap
+    → max (if region == r then serial else 0) rest ≤ cap
 one_under region r serial rest cap p q = grind (arith, nat_tests)
 
-all_under : (r : RegionFields) → IsCapped r → (es : Items) → AllIn r.facts.slots es → last_serial r.number es ≤ r.settings.cap
+all_under : (r : RegionFields) → IsCapped r → (es : Items) → AllIn r.facts.slots es
+    → last_serial r.number es ≤ r.settings.cap
 all_under r k [] a = omega arith
 all_under r k (e ∷ es) a = one_under e.0.region r.number e.0.serial (last_serial r.number es) r.settings.cap (k.own e.0 e.1 a.0) (all_under r k es a.1)
 
-last_under : (r : RegionFields) → IsCapped r → next_serial r.facts.slots r.number ≤ r.settings.cap + 1
+last_under : (r : RegionFields) → IsCapped r
+    → next_serial r.facts.slots r.number ≤ r.settings.cap + 1
 last_under r k = let most = all_under r k (map.entries r.facts.slots) (AllIn-entries r.facts.slots) in omega arith
 
-pub next_under : (r : RegionFields) → IsCapped r → next_serial r.facts.slots r.number ≤ greatest_serial
+pub next_under : (r : RegionFields) → IsCapped r
+    → next_serial r.facts.slots r.number ≤ greatest_serial
 next_under r k = let most = last_under r k in omega (arith, k.low)
 
-pub capped_empty : (r : RegionFields) → r.facts ≡ empty_store → r.settings.cap ≤ greatest_cap → IsCapped r
+pub capped_empty : (r : RegionFields) → r.facts ≡ empty_store → r.settings.cap ≤ greatest_cap
+    → IsCapped r
 capped_empty r none low = record {
   own = λ d s h. absurd (none_is_not_some s (sym (map.get-empty dot_cmp d) ∙ ap (λ (P : StoreFields). map.get P.slots d) (sym none) ∙ h));
   low = low;
@@ -58,7 +67,8 @@ capped_empty r none low = record {
 abbrev AreUnder : ℕ → ℕ → Slots → Type 0
 AreUnder n cap S = (d : Dot) (s : Slot) → map.get S d ≡ Some s → d.region ≡ n → d.serial ≤ cap
 
-under_put : (n cap : ℕ) (S : Slots) (d : Dot) (s : Slot) → (d.region ≡ n → d.serial ≤ cap) → AreUnder n cap S → AreUnder n cap (map.insert S d s)
+under_put : (n cap : ℕ) (S : Slots) (d : Dot) (s : Slot) → (d.region ≡ n → d.serial ≤ cap)
+    → AreUnder n cap S → AreUnder n cap (map.insert S d s)
 under_put n cap S d s low under q t h here =
     of_dot S d s q t (q.serial ≤ cap)
     (λ same _. subst (λ (e : Dot). e.serial ≤ cap) (sym same) (low (ap (λ (e : Dot). e.region) (sym same) ∙ here)))
@@ -73,14 +83,16 @@ others true b h = absurd (false≢true (sym h))
 others false b h = h
 
 module _ (next : Dot) (cap : ℕ) (low : next.serial ≤ cap + 1) where
-  under_with : (items : Items) (S : Slots) → has_unmade next items ≡ false → AreUnder next.region cap S → AreUnder next.region cap (with_slots S items)
+  under_with : (items : Items) (S : Slots) → has_unmade next items ≡ false
+      → AreUnder next.region cap S → AreUnder next.region cap (with_slots S items)
   under_with [] S h under = under
   under_with (i ∷ items) S h under =
       under_with items (map.insert S i.0 (joined_slot (map.get S i.0) i.1)) (others (is_unmade next i.0) (has_unmade next items) h)
       (under_put next.region cap S i.0 (joined_slot (map.get S i.0) i.1) (λ here. let lt = below i.0.region next.region next.serial i.0.serial (has_unmade next items) h here in omega (arith, lt, low)) under)
 
 -- the first items of a bundle that is not refused
-made_take : (next : Dot) (k : ℕ) (items : Items) → has_unmade next items ≡ false → has_unmade next (take k items) ≡ false
+made_take : (next : Dot) (k : ℕ) (items : Items) → has_unmade next items ≡ false
+    → has_unmade next (take k items) ≡ false
 made_take next zero items h = refl
 made_take next (suc k) [] h = refl
 made_take next (suc k) (i ∷ items) h = both _ _ (made_take next k items) h
@@ -90,7 +102,8 @@ made_take next (suc k) (i ∷ items) h = both _ _ (made_take next k items) h
     both false b g h = g h
 
 -- nothing is known of the dot of the next fact
-pub next_unknown : (r : RegionFields) (f : Dot × Body) → IsNextFact r f → map.get r.facts.slots f.0 ≡ None
+pub next_unknown : (r : RegionFields) (f : Dot × Body) → IsNextFact r f
+    → map.get r.facts.slots f.0 ≡ None
 next_unknown r f i = ap (map.get r.facts.slots) i.next ∙ next_is_free r.facts.slots r.number
 
 module _ (n : ℕ) (s : SettingsFields) (P Q : StoreFields) (k : IsCapped (record { number = n; settings = s; facts = P })) where
@@ -106,12 +119,14 @@ module _ (n : ℕ) (s : SettingsFields) (P Q : StoreFields) (k : IsCapped (recor
   same : Q ≡ P → IsCapped changed
   same e = subst (λ (R : StoreFields). IsCapped (record { number = n; settings = s; facts = R })) (sym e) k
 
-  taken : (h : Option ℕ) (items : Items) → has_unmade next items ≡ false → Q ≡ items_taken (raised P h) items → IsCapped changed
+  taken : (h : Option ℕ) (items : Items) → has_unmade next items ≡ false
+      → Q ≡ items_taken (raised P h) items → IsCapped changed
   taken h items made is =
       let slots : Q.slots ≡ with_slots P.slots items = ap (λ (R : StoreFields). R.slots) is ∙ ap (λ (S : Slots). with_slots S items) (raised_slots P h) in
       record { own = subst (AreUnder n s.cap) (sym slots) (under_with next s.cap (last_under r k) items P.slots made k.own); low = k.low }
 
-  pub capped_taken : (o : Option BundleFields) (result : Result ℕ TakeError) → TakesIn P next o result Q → IsCapped changed
+  pub capped_taken : (o : Option BundleFields) (result : Result ℕ TakeError)
+      → TakesIn P next o result Q → IsCapped changed
   capped_taken None (Err Malformed) t = same t
   capped_taken None (Err Memory) t = same t
   capped_taken None (Err OwnNumber) t = absurd t
@@ -138,7 +153,8 @@ module _ (n : ℕ) (s : SettingsFields) (P Q : StoreFields) (k : IsCapped (recor
     low = k.low;
   }
     where
-      was : {d : Dot} → (o : Option Slot) → map.get P.slots d ≡ o → (b : Body) → held_slot o ≡ Some b → d.region ≡ n → d.serial ≤ s.cap
+      was : {d : Dot} → (o : Option Slot) → map.get P.slots d ≡ o → (b : Body)
+          → held_slot o ≡ Some b → d.region ≡ n → d.serial ≤ s.cap
       was None at b h here = absurd (none_is_not_some b h)
       was {d} (Some t) at b h here = k.own d t at here
 
@@ -147,10 +163,12 @@ module _ (n : ℕ) (s : SettingsFields) where
   IsCappedWith P = IsCapped (record { number = n; settings = s; facts = P })
 
   -- a dot with a fact that may go is known
-  go_under : (P : StoreFields) (d : Dot) → IsCappedWith P → Goes P d → d.region ≡ n → d.serial ≤ s.cap
+  go_under : (P : StoreFields) (d : Dot) → IsCappedWith P → Goes P d → d.region ≡ n
+      → d.serial ≤ s.cap
   go_under P d k go here = by go
     where
-      was : (o : Option Slot) → map.get P.slots d ≡ o → (b : Body) → held_slot o ≡ Some b → d.serial ≤ s.cap
+      was : (o : Option Slot) → map.get P.slots d ≡ o → (b : Body) → held_slot o ≡ Some b
+          → d.serial ≤ s.cap
       was None at b h = absurd (none_is_not_some b h)
       was (Some t) at b h = k.own d t at here
 
@@ -158,10 +176,12 @@ module _ (n : ℕ) (s : SettingsFields) where
       by (inl may) = was (map.get P.slots d) refl may.fact (sym (get_held P.slots d) ∙ may.here)
       by (inr names) = was (map.get P.slots d) refl names.fact (sym (get_held P.slots d) ∙ names.here)
 
-  capped_steps : (P Q : StoreFields) (ds : List Dot) → IsCappedWith P → Steps P ds Q → IsCappedWith Q
+  capped_steps : (P Q : StoreFields) (ds : List Dot) → IsCappedWith P → Steps P ds Q
+      → IsCappedWith Q
   capped_steps P Q [] k is = subst IsCappedWith (sym is) k
   capped_steps P Q (d ∷ ds) k steps =
       capped_steps (with_skipped P d) Q ds (record { own = under_put n s.cap P.slots d Skipped (go_under P d k steps.0) k.own; low = k.low }) steps.1
 
-  pub capped_sliced : (P Q : StoreFields) (moment : ℕ) (after : Option Dot) (count : ℕ) (slice : Slice) → IsCappedWith P → PrunesSome P moment after count slice Q → IsCappedWith Q
+  pub capped_sliced : (P Q : StoreFields) (moment : ℕ) (after : Option Dot) (count : ℕ) (slice : Slice)
+      → IsCappedWith P → PrunesSome P moment after count slice Q → IsCappedWith Q
   capped_sliced P Q moment after count slice k looks = capped_steps (with_horizon P moment) Q looks.went.dots (record { own = k.own; low = k.low }) looks.went.steps

@@ -2,12 +2,11 @@
 --   fits_few      they are at most 128
 --   fits_differ   their dots differ from each other
 --   fits_pass     their facts pass the check
-use Rattle.std.proofs.Common.{◌≡◌, ◌≤◌, ℕ, Bool, true, false, ◌&&◌, nat_le, [], ◌∷◌, length, Option, Some, None, is_none, refl, subst, arith}
+use Rattle.std.proofs.Common.{◌≡◌, ◌≤◌, ℕ, true, false, nat_le, [], ◌∷◌, length, Option, Some, None}
+use Rattle.std.proofs.Common.{is_none, refl, subst, arith}
 use mathlib.Core.Bool.{false≢true}
 use Rattle.std.proofs.lemmas.Bool.Decides.{nat_tests}
-use Rattle.std.specs.Ordering.{is_lt}
-use Rattle.std.specs.declared.cmp.Ordering.{Ordering}
-use Rattle.std.specs.declared.cmp.Ordering.TheVariants.{Less, Equal, Greater}
+use Rattle.std.specs.declared.cmp.Ordering.TheVariants.{Less}
 use Rattle.std.specs.List.{AllByRecursion}
 use Rattle.tk_handle.specs.declared.dot.Dot.{Dot}
 use Rattle.tk_handle.specs.Dot.{dot_cmp, dot_cmp_total}
@@ -18,20 +17,14 @@ use Rattle.tk_bundle.specs.Bundle.{ascends, bundle}
 use Rattle.tk_bundle.specs.BundleFields.{BundleFields, Items}
 use Rattle.tk_bundle.specs.Items.{item}
 use Rattle.tk_region.proofs.TakeLaws.{Avoids, Differs, AllPass}
-
-both_true : (a b : Bool) → (a && b) ≡ true → (a ≡ true) × (b ≡ true)
-both_true true b h = (refl, h)
-both_true false b h = absurd (false≢true h)
-
-less : (o : Ordering) → is_lt o ≡ true → o ≡ Less
-less Less h = refl
-less Equal h = absurd (false≢true h)
-less Greater h = absurd (false≢true h)
+use Rattle.std.proofs.lemmas.Bool.{and_parts as both_true}
+use Rattle.tk_handle.proofs.TestLaws.{less}
 
 not_below_itself : (d : Dot) → dot_cmp d d ≡ Less → ⊥
 not_below_itself d h = let e = dot_cmp_total.antisymm d d in cc
 
-above : (d last : Dot) (items : Items) → dot_cmp d last ≡ Less → ascends (Some last) items ≡ true → Avoids d items
+above : (d last : Dot) (items : Items) → dot_cmp d last ≡ Less → ascends (Some last) items ≡ true
+    → Avoids d items
 above d last [] l h = tt
 above d last (i ∷ items) l h =
     let k = both_true _ _ h in

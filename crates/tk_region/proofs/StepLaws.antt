@@ -10,13 +10,15 @@ use Rattle.tk_region.specs.RegionFields.{RegionFields, Gains}
 use Rattle.tk_region.specs.Step.{PreparedFields, IsNextFact}
 
 module _ (r R : RegionFields) (p P : PreparedFields) (same_region : r ≡ R) (same : p ≡ P) where
-  pub next_given : (f : Dot × Body) → p.fact ≡ Some f → IfSome P.fact (IsNextFact R) → IsNextFact r f
+  pub next_given : (f : Dot × Body) → p.fact ≡ Some f → IfSome P.fact (IsNextFact R)
+      → IsNextFact r f
   next_given f is given =
       let there = subst (λ (R : RegionFields). IfSome P.fact (IsNextFact R)) (sym same_region) given in
       let here = subst (λ (P : PreparedFields). IfSome P.fact (IsNextFact r)) (sym same) there in
       subst (λ (o : Option (Dot × Body)). IfSome o (IsNextFact r)) is here
 
-  pub gains_next : (f : Dot × Body) (Q : StoreFields) → p.fact ≡ Some f → Q ≡ with_fact r.facts f.0 f.1
+  pub gains_next : (f : Dot × Body) (Q : StoreFields) → p.fact ≡ Some f
+      → Q ≡ with_fact r.facts f.0 f.1
       → Gains R P.fact (record { number = r.number; settings = r.settings; facts = Q })
   gains_next f Q is with_it =
       let new : RegionFields = record { number = r.number; settings = r.settings; facts = Q } in

@@ -5,7 +5,9 @@
 --   at_end                    after the last item, all are taken in
 --   counted_new, counted_held   the number of known dots after one more item
 --   raised_takes              the horizon was raised before the items were taken in
-use Rattle.std.proofs.Common.{◌≡◌, ◌≢◌, ℕ, zero, suc, ◌+◌, ◌<◌, ◌≤◌, [], ◌∷◌, ◌++◌, length, take, get_or, cond, Option, Some, None, IsSome, Result, Ok, Err, refl, sym, ap, subst, ◌∙◌, arith}
+use Rattle.std.proofs.Common.{◌≡◌, ◌≢◌, ℕ, zero, suc, ◌+◌, ◌<◌, ◌≤◌, [], ◌∷◌, ◌++◌, length, take}
+use Rattle.std.proofs.Common.{get_or, cond, Option, Some, None, IsSome, Result, Ok, Err, refl, sym}
+use Rattle.std.proofs.Common.{ap, subst, ◌∙◌, arith}
 use Rattle.std.proofs.lemmas.Bool.{true≢false}
 use Rattle.std.specs.FinMap as map
 use Rattle.std.proofs.lemmas.Grind.{take_at_read}
@@ -23,21 +25,27 @@ use Rattle.tk_store.specs.declared.store.Added.TheVariants as added
 use Rattle.tk_store.specs.declared.store.AddError.{AddError}
 use Rattle.tk_store.specs.declared.store.AddError.TheVariants as error
 use Rattle.tk_store.proofs.PutLaws.{by_dot, len_new, none_is_not_some, some_injective}
-use Rattle.tk_store.proofs.SlotOrderLaws.{added_joins, added_horizon, skipped_joins, skipped_horizon}
+use Rattle.tk_store.proofs.SlotOrderLaws.{added_joins, added_horizon, skipped_joins}
+use Rattle.tk_store.proofs.SlotOrderLaws.{skipped_horizon}
 use Rattle.tk_bundle.specs.BundleFields.{BundleFields, Items, fact_of}
 use Rattle.tk_region.specs.declared.take.TakeError.{TakeError}
-use Rattle.tk_region.specs.declared.take.TakeError.TheVariants.{Malformed, OwnNumber, Conflict, Memory}
+use Rattle.tk_region.specs.declared.take.TakeError.TheVariants.{Malformed, OwnNumber, Conflict}
+use Rattle.tk_region.specs.declared.take.TakeError.TheVariants.{Memory}
 use Rattle.tk_region.specs.Taking.{AgreesWith, raised, items_taken, Puts, Takes}
 
 -- ---- one item
 
-one_item : (P Q : StoreFields) (e : Dot × Slot) → Q.slots ≡ map.insert P.slots e.0 (joined_slot (map.get P.slots e.0) e.1) → Q.horizon ≡ P.horizon → Q ≡ items_taken P (e ∷ [])
+one_item : (P Q : StoreFields) (e : Dot × Slot)
+    → Q.slots ≡ map.insert P.slots e.0 (joined_slot (map.get P.slots e.0) e.1)
+    → Q.horizon ≡ P.horizon → Q ≡ items_taken P (e ∷ [])
 one_item P Q e slots horizon = λ i. record { slots = slots i; horizon = horizon i }
 
-added_one : (P Q : StoreFields) (f : Dot × Body) (a : Added) → AddsTo P f (Ok a) Q → Q ≡ items_taken P ((f.0, Held f.1) ∷ [])
+added_one : (P Q : StoreFields) (f : Dot × Body) (a : Added) → AddsTo P f (Ok a) Q
+    → Q ≡ items_taken P ((f.0, Held f.1) ∷ [])
 added_one P Q f a adds = one_item P Q (f.0, Held f.1) (added_joins P Q f f a refl adds) (added_horizon P Q f (Ok a) adds)
 
-pub puts_fact : (P Q : StoreFields) (f : Dot × Body) (r : Result Added AddError) → AddsTo P f r Q → Puts P (f.0, Held f.1) r Q
+pub puts_fact : (P Q : StoreFields) (f : Dot × Body) (r : Result Added AddError) → AddsTo P f r Q
+    → Puts P (f.0, Held f.1) r Q
 puts_fact P Q f (Ok added.New) adds = (adds.0, added_one P Q f added.New adds)
 puts_fact P Q f (Ok added.Held) adds = (known (map.get P.slots f.0) adds.0, added_one P Q f added.Held adds)
   where
@@ -52,10 +60,12 @@ puts_fact P Q f (Err error.Conflict) adds = differs (map.get P.slots f.0) adds.0
     differs (Some Skipped) h agrees = true≢false (sym agrees ∙ h)
 puts_fact P Q f (Err error.Memory) adds = adds.1
 
-skipped_one : (P Q : StoreFields) (d : Dot) (a : Added) → Skips P d (Ok a) Q → Q ≡ items_taken P ((d, Skipped) ∷ [])
+skipped_one : (P Q : StoreFields) (d : Dot) (a : Added) → Skips P d (Ok a) Q
+    → Q ≡ items_taken P ((d, Skipped) ∷ [])
 skipped_one P Q d a skips = one_item P Q (d, Skipped) (skipped_joins P Q d a skips) (skipped_horizon P Q d (Ok a) skips)
 
-pub puts_mark : (P Q : StoreFields) (d : Dot) (r : Result Added AddError) → Skips P d r Q → Puts P (d, Skipped) r Q
+pub puts_mark : (P Q : StoreFields) (d : Dot) (r : Result Added AddError) → Skips P d r Q
+    → Puts P (d, Skipped) r Q
 puts_mark P Q d (Ok added.New) skips = (skips.0, skipped_one P Q d added.New skips)
 puts_mark P Q d (Ok added.Held) skips = (known (map.get P.slots d) skips.0, skipped_one P Q d added.Held skips)
   where
@@ -79,10 +89,12 @@ pub item_of_mark : (i : Dot × Slot) → fact_of i ≡ None → i ≡ (i.0, Skip
 item_of_mark (d, Held b) h = absurd (none_is_not_some (d, b) (sym h))
 item_of_mark (d, Skipped) h = refl
 
-pub counted_new : (P Q : StoreFields) (e : Dot × Slot) → map.get P.slots e.0 ≡ None → Q ≡ items_taken P (e ∷ []) → map.len P.slots + 1 ≡ map.len Q.slots
+pub counted_new : (P Q : StoreFields) (e : Dot × Slot) → map.get P.slots e.0 ≡ None
+    → Q ≡ items_taken P (e ∷ []) → map.len P.slots + 1 ≡ map.len Q.slots
 counted_new P Q e none is = sym (ap (λ (R : StoreFields). map.len R.slots) is ∙ len_new P.slots e.0 (joined_slot (map.get P.slots e.0) e.1) none)
 
-pub counted_held : (P Q : StoreFields) (e : Dot × Slot) → IsSome (map.get P.slots e.0) → Q ≡ items_taken P (e ∷ []) → map.len P.slots ≡ map.len Q.slots
+pub counted_held : (P Q : StoreFields) (e : Dot × Slot) → IsSome (map.get P.slots e.0)
+    → Q ≡ items_taken P (e ∷ []) → map.len P.slots ≡ map.len Q.slots
 counted_held P Q e known is =
     sym (ap (λ (R : StoreFields). map.len R.slots) is ∙ map.len-insert dot_cmp_total P.slots e.0 (joined_slot (map.get P.slots e.0) e.1)
     ∙ ap (λ t. cond t (map.len P.slots) (map.len P.slots + 1)) known)
@@ -104,20 +116,23 @@ abbrev pub AllPass : Items → Type 0
 AllPass [] = Unit {0}
 AllPass (i ∷ items) = Passes i.1 × AllPass items
 
-pub passes_at : (items : Items) (i : ℕ) (e : Dot × Slot) → AllPass items → i < length items → Passes (get_or items i e).1
+pub passes_at : (items : Items) (i : ℕ) (e : Dot × Slot) → AllPass items → i < length items
+    → Passes (get_or items i e).1
 passes_at [] i e all lt = absurd (omega arith)
 passes_at (x ∷ items) zero e all lt = all.0
 passes_at (x ∷ items) (suc i) e all lt = passes_at items i e all.1 (omega arith)
 
 -- a slot at one dot keeps the agreement at others
-agrees_after : (S : Slots) (d : Dot) (s : Slot) (items : Items) → Avoids d items → AgreesWith S items → AgreesWith (map.insert S d s) items
+agrees_after : (S : Slots) (d : Dot) (s : Slot) (items : Items) → Avoids d items
+    → AgreesWith S items → AgreesWith (map.insert S d s) items
 agrees_after S d s [] v a = tt
 agrees_after S d s (i ∷ items) v a = (
   by_dot (λ o. SlotAgrees o (Some i.1)) S d s i.0 (λ same. absurd (v.0 same)) a.0,
   agrees_after S d s items v.1 a.1,
 )
 
-agrees_at : (S : Slots) (items : Items) (i : ℕ) (e : Dot × Slot) → Differs items → AgreesWith S items → i < length items
+agrees_at : (S : Slots) (items : Items) (i : ℕ) (e : Dot × Slot) → Differs items
+    → AgreesWith S items → i < length items
     → SlotAgrees (map.get (with_slots S (take i items)) (get_or items i e).0) (Some (get_or items i e).1)
 agrees_at S [] i e v a lt = absurd (omega arith)
 agrees_at S (x ∷ items) zero e v a lt = a.0
@@ -125,7 +140,8 @@ agrees_at S (x ∷ items) (suc i) e v a lt =
     agrees_at (map.insert S x.0 (joined_slot (map.get S x.0) x.1)) items i e v.1
     (agrees_after S x.0 (joined_slot (map.get S x.0) x.1) items v.0 a.1) (omega arith)
 
-with_slots-append : (S : Slots) (es fs : Items) → with_slots S (es ++ fs) ≡ with_slots (with_slots S es) fs
+with_slots-append : (S : Slots) (es fs : Items)
+    → with_slots S (es ++ fs) ≡ with_slots (with_slots S es) fs
 with_slots-append S [] fs = refl
 with_slots-append S (e ∷ es) fs = with_slots-append (map.insert S e.0 (joined_slot (map.get S e.0) e.1)) es fs
 
@@ -135,12 +151,14 @@ module _ (P Q : StoreFields) (items : Items) (i : ℕ) (e : Dot × Slot) (is : e
       ap (λ x. with_slots (with_slots P.slots (take i items)) (x ∷ [])) is
       ∙ sym (ap (with_slots P.slots) (take_at_read items i e within).1 ∙ with_slots-append P.slots (take i items) (get_or items i e ∷ []))
 
-  pub taken_more : (R : StoreFields) → R ≡ items_taken Q (e ∷ []) → R ≡ items_taken P (take (i + 1) items)
+  pub taken_more : (R : StoreFields) → R ≡ items_taken Q (e ∷ [])
+      → R ≡ items_taken P (take (i + 1) items)
   taken_more R more =
       more ∙ ap (λ (X : StoreFields). items_taken X (e ∷ [])) so_far
       ∙ ap (λ (S : Slots). record { slots = S; horizon = P.horizon }) one_more
 
-  pub agrees_now : Differs items → AgreesWith P.slots items → SlotAgrees (map.get Q.slots e.0) (Some e.1)
+  pub agrees_now : Differs items → AgreesWith P.slots items
+      → SlotAgrees (map.get Q.slots e.0) (Some e.1)
   agrees_now differs agree =
       subst (λ (x : Dot × Slot). SlotAgrees (map.get Q.slots x.0) (Some x.1)) (sym is)
       (subst (λ (X : StoreFields). SlotAgrees (map.get X.slots (get_or items i e).0) (Some (get_or items i e).1)) (sym so_far)
@@ -150,7 +168,8 @@ module _ (P Q : StoreFields) (items : Items) (i : ℕ) (e : Dot × Slot) (is : e
   passes_now all = subst (λ (x : Dot × Slot). Passes x.1) (sym is) (passes_at items i e all within)
 
 -- after the last item, all items of the list are taken in
-pub at_end : (P Q : StoreFields) (items : Items) (i : ℕ) → length items ≤ i → Q ≡ items_taken P (take i items) → Q ≡ items_taken P items
+pub at_end : (P Q : StoreFields) (items : Items) (i : ℕ) → length items ≤ i
+    → Q ≡ items_taken P (take i items) → Q ≡ items_taken P items
 at_end P Q items i past so_far = so_far ∙ ap (items_taken P) (whole i items past)
   where
     whole : (i : ℕ) (items : Items) → length items ≤ i → take i items ≡ items
@@ -166,10 +185,13 @@ raised_slots P None = refl
 raised_slots P (Some moment) = refl
 
 -- raising the horizon keeps the agreement
-pub raised_agrees : (P Q : StoreFields) (h : Option ℕ) (items : Items) → Q ≡ raised P h → AgreesWith P.slots items → AgreesWith Q.slots items
+pub raised_agrees : (P Q : StoreFields) (h : Option ℕ) (items : Items) → Q ≡ raised P h
+    → AgreesWith P.slots items → AgreesWith Q.slots items
 raised_agrees P Q h items is agree = subst (λ (S : Slots). AgreesWith S items) (sym (ap (λ (R : StoreFields). R.slots) is ∙ raised_slots P h)) agree
 
-pub raised_takes : (P Q R : StoreFields) (b : BundleFields) (r : Result ℕ TakeError) → Q ≡ raised P b.horizon → Takes Q (record { horizon = None; items = b.items }) r R → Takes P b r R
+pub raised_takes : (P Q R : StoreFields) (b : BundleFields) (r : Result ℕ TakeError)
+    → Q ≡ raised P b.horizon → Takes Q (record { horizon = None; items = b.items }) r R
+    → Takes P b r R
 raised_takes P Q R b (Ok n) is t = (
   t.0 ∙ ap (λ (X : StoreFields). items_taken X b.items) is,
   ap (λ (S : Slots). map.len S + n) (sym (ap (λ (X : StoreFields). X.slots) is ∙ raised_slots P b.horizon)) ∙ t.1,

@@ -4,7 +4,9 @@
 --   consists_made     a region makes its next fact
 --   consists_bundle   one more bundle is made
 --   new_consists      a state without regions and bundles has no facts
-use Rattle.std.proofs.Common.{◌≡◌, ℕ, zero, suc, ◌≤◌, true, false, cond, List, [], ◌∷◌, ◌++◌, length, slice_get, Option, Some, None, refl, sym, ap, subst, ◌∙◌, arith}
+use Rattle.std.proofs.Common.{◌≡◌, ℕ, zero, suc, ◌≤◌, true, false, cond, List, [], ◌∷◌, ◌++◌}
+use Rattle.std.proofs.Common.{length, slice_get, Option, Some, None, refl, sym, ap, subst, ◌∙◌}
+use Rattle.std.proofs.Common.{arith}
 use Rattle.std.specs.Ordering.{nat_cmp, eq_by_cmp, is_eq}
 use Rattle.std.specs.Cmp.{nat_cmp_total}
 use Rattle.std.proofs.lemmas.Cmp.{tied_itself}
@@ -19,10 +21,12 @@ use Rattle.tk_vector.specs.VersionVector.{Vector}
 use Rattle.tk_store.specs.FactSet.{FactSet, AllIn, IsSubset}
 use Rattle.tk_store.specs.Beyond.{beyond}
 use Rattle.tk_store.proofs.EntryLaws.{AllIn-beyond}
-use Rattle.tk_store.proofs.PutLaws.{by_dot, of_dot, get_here, some_injective, none_is_not_some, IsFactSet-empty, IsFactSet-insert}
+use Rattle.tk_store.proofs.PutLaws.{by_dot, of_dot, get_here, some_injective, none_is_not_some}
+use Rattle.tk_store.proofs.PutLaws.{IsFactSet-empty, IsFactSet-insert}
 use Rattle.tk_store.proofs.SubsetLaws.{subset_trans, AllIn-take, AllIn-subset}
 use Rattle.tk_region.specs.SettingsFields.{SettingsFields, greatest_cap}
-use Rattle.tk_world.specs.State.{Kept, Sent, State, new_kept, new_state, with_region, with_bundle, Consists}
+use Rattle.tk_world.specs.State.{Kept, Sent, State, new_kept, new_state, with_region, with_bundle}
+use Rattle.tk_world.specs.State.{Consists}
 use Rattle.tk_world.specs.Pages.{page_of}
 
 -- ---- pages
@@ -30,12 +34,14 @@ use Rattle.tk_world.specs.Pages.{page_of}
 pub AllIn-page : (F : FactSet) (v : Vector) (after : Option Dot) → AllIn F (page_of F v after).facts
 AllIn-page F v after = AllIn-take F 128 (beyond F v after) (AllIn-beyond F v after)
 
-pub short_page : (F : FactSet) (v : Vector) (after : Option Dot) → length (page_of F v after).facts ≤ 128
+pub short_page : (F : FactSet) (v : Vector) (after : Option Dot)
+    → length (page_of F v after).facts ≤ 128
 short_page F v after = omega (arith, length-take 128 (beyond F v after))
 
 -- ---- regions
 
-pub region_of_get : {A : Type 0} (m : map.FinMap nat_cmp A) (n : ℕ) (k : A) (r : ℕ) (P : Option A → Type 0) → (r ≡ n → P (Some k)) → ((r ≡ n → ⊥) → P (map.get m r)) → P (map.get (map.insert m n k) r)
+pub region_of_get : {A : Type 0} (m : map.FinMap nat_cmp A) (n : ℕ) (k : A) (r : ℕ) (P : Option A → Type 0)
+    → (r ≡ n → P (Some k)) → ((r ≡ n → ⊥) → P (map.get m r)) → P (map.get (map.insert m n k) r)
 region_of_get m n k r P here there =
     subst P (sym (map.get-insert nat_cmp_total m n k r))
     (elim (eq_by_cmp nat_cmp r n) as (λ t. eq_by_cmp nat_cmp r n ≡ t → P (cond t (Some k) (map.get m r))) [ true ↦ λ e. here (same_number r n e) | false ↦ λ e. there (other_number r n e) ] refl)
@@ -47,14 +53,18 @@ region_of_get m n k r P here there =
     other_number a b h same = grind (arith, nat_tests)
 
 -- the region that a look-up after an insertion finds, by its two cases
-of_region : (s : State) (n : ℕ) (k : Kept) (r : ℕ) (j : Kept) (P : Type 0) → (r ≡ n → k ≡ j → P) → (map.get s.regions r ≡ Some j → P) → map.get (map.insert s.regions n k) r ≡ Some j → P
+of_region : (s : State) (n : ℕ) (k : Kept) (r : ℕ) (j : Kept) (P : Type 0) → (r ≡ n → k ≡ j → P)
+    → (map.get s.regions r ≡ Some j → P) → map.get (map.insert s.regions n k) r ≡ Some j → P
 of_region s n k r j P here there h = region_of_get s.regions n k r (λ o. o ≡ Some j → P) (λ e q. here e (some_injective k j q)) (λ _. there) h
 
-region_here : (s : State) (n : ℕ) (k : Kept) (r : ℕ) → r ≡ n → map.get (map.insert s.regions n k) r ≡ Some k
+region_here : (s : State) (n : ℕ) (k : Kept) (r : ℕ) → r ≡ n
+    → map.get (map.insert s.regions n k) r ≡ Some k
 region_here s n k r same = map.get-insert nat_cmp_total s.regions n k r ∙ ap (λ o. cond (is_eq o) (Some k) (map.get s.regions r)) (ap (nat_cmp r) (sym same) ∙ tied_itself nat_cmp_total r)
 
 -- a region's facts grow within U
-pub consists_kept : (s : State) (U : FactSet) (n : ℕ) (k j : Kept) → Consists s U → map.get s.regions n ≡ Some k → IsSubset j.facts U → IsSubset k.facts j.facts → Consists (with_region s n j) U
+pub consists_kept : (s : State) (U : FactSet) (n : ℕ) (k j : Kept) → Consists s U
+    → map.get s.regions n ≡ Some k → IsSubset j.facts U → IsSubset k.facts j.facts
+    → Consists (with_region s n j) U
 consists_kept s U n k j c at within grows = record {
   sound = c.sound;
   held = λ r i h. of_region s n j r i (IsSubset i.facts U) (λ _ same. subst (λ (x : Kept). IsSubset x.facts U) same within) (c.held r i) h;
@@ -69,7 +79,8 @@ consists_kept s U n k j c at within grows = record {
 }
 
 -- a region without facts opens
-pub consists_opened : (s : State) (U : FactSet) (n : ℕ) → Consists s U → map.get s.regions n ≡ None → Consists (with_region s n new_kept) U
+pub consists_opened : (s : State) (U : FactSet) (n : ℕ) → Consists s U → map.get s.regions n ≡ None
+    → Consists (with_region s n new_kept) U
 consists_opened s U n c none = record {
   sound = c.sound;
   held = λ r i h. of_region s n new_kept r i (IsSubset i.facts U) (λ _ same d b at. absurd (none_is_not_some b (sym (map.get-empty dot_cmp d) ∙ ap (λ (x : Kept). map.get x.facts d) same ∙ at))) (c.held r i) h;
@@ -84,7 +95,8 @@ consists_opened s U n c none = record {
 }
 
 -- no fact was made at a dot that is free in its own region
-pub free_everywhere : (s : State) (U : FactSet) (n : ℕ) (k : Kept) (d : Dot) → Consists s U → map.get s.regions n ≡ Some k → d.region ≡ n → map.get k.facts d ≡ None → map.get U d ≡ None
+pub free_everywhere : (s : State) (U : FactSet) (n : ℕ) (k : Kept) (d : Dot) → Consists s U
+    → map.get s.regions n ≡ Some k → d.region ≡ n → map.get k.facts d ≡ None → map.get U d ≡ None
 free_everywhere s U n k d c at own free = elim (map.get U d) as (λ o. map.get U d ≡ o → o ≡ None) [
   | None ↦ λ _. refl
   | Some b ↦ λ h.
@@ -93,11 +105,14 @@ free_everywhere s U n k d c at own free = elim (map.get U d) as (λ o. map.get U
 ] refl
 
 -- a set is part of that set with a fact at a free dot
-pub subset_more : (U : FactSet) (d : Dot) (b : Body) → map.get U d ≡ None → IsSubset U (map.insert U d b)
+pub subset_more : (U : FactSet) (d : Dot) (b : Body) → map.get U d ≡ None
+    → IsSubset U (map.insert U d b)
 subset_more U d b new q c h = by_dot (λ o. o ≡ Some c) U d b q (λ same. absurd (none_is_not_some c (sym new ∙ ap (map.get U) (sym same) ∙ h))) h
 
 -- a fact is made at a free dot of its own region
-pub consists_made : (s : State) (U : FactSet) (n : ℕ) (k : Kept) (d : Dot) (b : Body) → Consists s U → map.get s.regions n ≡ Some k → d.region ≡ n → map.get k.facts d ≡ None → d.serial ≤ s.settings.cap → refusal_of b ≡ None
+pub consists_made : (s : State) (U : FactSet) (n : ℕ) (k : Kept) (d : Dot) (b : Body) → Consists s U
+    → map.get s.regions n ≡ Some k → d.region ≡ n → map.get k.facts d ≡ None
+    → d.serial ≤ s.settings.cap → refusal_of b ≡ None
     → Consists (with_region s n (record { facts = map.insert k.facts d b; horizon = k.horizon })) (map.insert U d b)
 consists_made s U n k d b c at own free under passes =
     let F : FactSet = k.facts in
@@ -128,14 +143,16 @@ consists_made s U n k d b c at own free under passes =
       low = c.low;
     }
 
-at_end : (bs : List Sent) (b : Sent) (i : ℕ) (e : Sent) (P : Type 0) → (slice_get bs i ≡ Some e → P) → (b ≡ e → P) → slice_get (bs ++ b ∷ []) i ≡ Some e → P
+at_end : (bs : List Sent) (b : Sent) (i : ℕ) (e : Sent) (P : Type 0) → (slice_get bs i ≡ Some e → P)
+    → (b ≡ e → P) → slice_get (bs ++ b ∷ []) i ≡ Some e → P
 at_end [] b zero e P there here h = here (some_injective b e h)
 at_end [] b (suc i) e P there here h = absurd (none_is_not_some e h)
 at_end (x ∷ bs) b zero e P there here h = there h
 at_end (x ∷ bs) b (suc i) e P there here h = at_end bs b i e P there here h
 
 -- one more bundle of facts in U
-pub consists_bundle : (s : State) (U : FactSet) (b : Sent) → Consists s U → AllIn U b.facts → length b.facts ≤ 128 → Consists (with_bundle s b) U
+pub consists_bundle : (s : State) (U : FactSet) (b : Sent) → Consists s U → AllIn U b.facts
+    → length b.facts ≤ 128 → Consists (with_bundle s b) U
 consists_bundle s U b c a short = record {
   sound = c.sound;
   held = c.held;
@@ -146,7 +163,8 @@ consists_bundle s U b c a short = record {
 }
 
 -- a state without regions and bundles
-pub new_consists : (settings : SettingsFields) → settings.cap ≤ greatest_cap → Consists (new_state settings) map.empty
+pub new_consists : (settings : SettingsFields) → settings.cap ≤ greatest_cap
+    → Consists (new_state settings) map.empty
 new_consists settings low = record {
   sound = IsFactSet-empty;
   held = λ r k h. absurd (none_is_not_some k (sym (map.get-empty nat_cmp r) ∙ h));

@@ -3,7 +3,9 @@
 --   text_at        the text at an index
 --   no_form        fewer than three fields are those of `open` or of no event
 --   line_bad       a line with an empty field has no event
-use Rattle.std.proofs.Common.{◌≡◌, ◌≢◌, ℕ, ◌<◌, ◌≤◌, ◌^◌, ◌-◌, List, [], ◌∷◌, length, get_or, slice_index_or, take, drop, codes, decimal, Option, Some, None, Bor, refl, sym, ap, ◌∙◌, subst, arith}
+use Rattle.std.proofs.Common.{◌≡◌, ◌≢◌, ℕ, ◌<◌, ◌≤◌, ◌^◌, ◌-◌, List, [], ◌∷◌, length, get_or}
+use Rattle.std.proofs.Common.{slice_index_or, take, drop, codes, decimal, Option, Some, None, Bor}
+use Rattle.std.proofs.Common.{refl, sym, ap, ◌∙◌, subst, arith}
 use Rattle.std.specs.List.{All, AllWithin, HoldsAt, slice_split}
 use Rattle.std.proofs.lemmas.List.{take_rest, get_or-map, length-map}
 use Rattle.std.proofs.lemmas.List.Elements.{All-map, All-from_all_within}
@@ -14,10 +16,12 @@ use Rattle.tk_handle.specs.Ranges.{IsRegion, IsMoment}
 use Rattle.tk_vector.specs.VersionVector.{Vector}
 use Rattle.tk_vector.specs.VectorText.{IsVectorText, IsNoVectorText}
 use Rattle.tk_world.specs.declared.event.Event.{Event}
-use Rattle.tk_world.specs.declared.event.Event.TheVariants.{Open, Request, Pull, Deliver, Prune, PruneSome}
+use Rattle.tk_world.specs.declared.event.Event.TheVariants.{Open, Request, Pull, Deliver, Prune}
+use Rattle.tk_world.specs.declared.event.Event.TheVariants.{PruneSome}
 use Rattle.tk_world.specs.Fields.{is_space, region_in, moment_in, IsCursorText}
 use Rattle.tk_world.specs.RequestLine.{asked_of}
-use Rattle.tk_world.specs.Line.{texts, IsPrintable, IsEventForm, IsNoEventForm, IsEventLine, IsNoEventLine}
+use Rattle.tk_world.specs.Line.{texts, IsPrintable, IsEventForm, IsNoEventForm, IsEventLine}
+use Rattle.tk_world.specs.Line.{IsNoEventLine}
 use Rattle.tk_world.proofs.NumberTexts.{region_found, moment_found, no_region, no_moment}
 
 -- the text at an index, empty past the end; a slice pattern reads its texts with this default
@@ -35,19 +39,23 @@ two : (fs : List (Bor (List ℕ))) → length fs ≡ 2 → texts fs ≡ text_at 
 two [] e = absurd (omega (arith, e))
 two (x ∷ fs) e = ap (λ l. x.now ∷ l) (one fs (omega (arith, e)))
 
-three : (fs : List (Bor (List ℕ))) → length fs ≡ 3 → texts fs ≡ text_at fs 0 ∷ text_at fs 1 ∷ text_at fs 2 ∷ []
+three : (fs : List (Bor (List ℕ))) → length fs ≡ 3
+    → texts fs ≡ text_at fs 0 ∷ text_at fs 1 ∷ text_at fs 2 ∷ []
 three [] e = absurd (omega (arith, e))
 three (x ∷ fs) e = ap (λ l. x.now ∷ l) (two fs (omega (arith, e)))
 
-pub four : (fs : List (Bor (List ℕ))) → length fs ≡ 4 → texts fs ≡ text_at fs 0 ∷ text_at fs 1 ∷ text_at fs 2 ∷ text_at fs 3 ∷ []
+pub four : (fs : List (Bor (List ℕ))) → length fs ≡ 4
+    → texts fs ≡ text_at fs 0 ∷ text_at fs 1 ∷ text_at fs 2 ∷ text_at fs 3 ∷ []
 four [] e = absurd (omega (arith, e))
 four (x ∷ fs) e = ap (λ l. x.now ∷ l) (three fs (omega (arith, e)))
 
-five : (fs : List (Bor (List ℕ))) → length fs ≡ 5 → texts fs ≡ text_at fs 0 ∷ text_at fs 1 ∷ text_at fs 2 ∷ text_at fs 3 ∷ text_at fs 4 ∷ []
+five : (fs : List (Bor (List ℕ))) → length fs ≡ 5
+    → texts fs ≡ text_at fs 0 ∷ text_at fs 1 ∷ text_at fs 2 ∷ text_at fs 3 ∷ text_at fs 4 ∷ []
 five [] e = absurd (omega (arith, e))
 five (x ∷ fs) e = ap (λ l. x.now ∷ l) (four fs (omega (arith, e)))
 
-three_up : (fs : List (Bor (List ℕ))) → 3 ≤ length fs → texts fs ≡ text_at fs 0 ∷ text_at fs 1 ∷ text_at fs 2 ∷ texts (drop 3 fs)
+three_up : (fs : List (Bor (List ℕ))) → 3 ≤ length fs
+    → texts fs ≡ text_at fs 0 ∷ text_at fs 1 ∷ text_at fs 2 ∷ texts (drop 3 fs)
 three_up [] e = absurd (omega (arith, e))
 three_up (x ∷ []) e = absurd (omega (arith, e))
 three_up (x ∷ y ∷ []) e = absurd (omega (arith, e))
@@ -62,7 +70,8 @@ count (x ∷ fs) (a ∷ l) e = let rest : texts fs ≡ l = cc in let n = count f
 -- ---- names
 
 -- the first field of a request is not that of another event
-no_request_named : (name other : List ℕ) (form : List (List ℕ)) (request : List ℕ) → asked_of name form ≡ Some request → asked_of other form ≡ None → name ≢ other
+no_request_named : (name other : List ℕ) (form : List (List ℕ)) (request : List ℕ)
+    → asked_of name form ≡ Some request → asked_of other form ≡ None → name ≢ other
 no_request_named name other form request h none same = some_is_not_none request (sym h ∙ ap (λ n. asked_of n form) same ∙ none)
   where
     some_is_not_none : (q : List ℕ) → ¬ (Some q ≡ None)
@@ -71,31 +80,39 @@ no_request_named name other form request h none same = some_is_not_none request 
 -- ---- the fields of an event
 
 module _ (fs : List (Bor (List ℕ))) where
-  pub open_there : (region : ℕ) → length fs ≡ 2 → text_at fs 0 ≡ codes "open" → region_in (text_at fs 1) ≡ Some region → IsEventForm (texts fs) (Open region)
+  pub open_there : (region : ℕ) → length fs ≡ 2 → text_at fs 0 ≡ codes "open"
+      → region_in (text_at fs 1) ≡ Some region → IsEventForm (texts fs) (Open region)
   open_there region long name at =
       let at_region = region_found (text_at fs 1) region at in
       (rw (two fs long, name, at_region.1) refl, at_region.0)
 
-  pub deliver_there : (bundle region : ℕ) → length fs ≡ 3 → text_at fs 0 ≡ codes "deliver" → decimal_in (text_at fs 1) ≡ Some bundle → region_in (text_at fs 2) ≡ Some region → IsEventForm (texts fs) (Deliver bundle region)
+  pub deliver_there : (bundle region : ℕ) → length fs ≡ 3 → text_at fs 0 ≡ codes "deliver"
+      → decimal_in (text_at fs 1) ≡ Some bundle → region_in (text_at fs 2) ≡ Some region
+      → IsEventForm (texts fs) (Deliver bundle region)
   deliver_there bundle region long name number at =
       let given = decimal_found (text_at fs 1) bundle number in
       let at_region = region_found (text_at fs 2) region at in
       (rw (three fs long, name, given.spelled, at_region.1) refl, given.fits, at_region.0)
 
-  pub pull_there : (region : ℕ) (vector : Vector) (after : Option Dot) → length fs ≡ 4 → text_at fs 0 ≡ codes "pull" → region_in (text_at fs 1) ≡ Some region → IsVectorText (text_at fs 2) vector → IsCursorText (text_at fs 3) after
+  pub pull_there : (region : ℕ) (vector : Vector) (after : Option Dot) → length fs ≡ 4
+      → text_at fs 0 ≡ codes "pull" → region_in (text_at fs 1) ≡ Some region
+      → IsVectorText (text_at fs 2) vector → IsCursorText (text_at fs 3) after
       → IsEventForm (texts fs) (Pull region vector after)
   pull_there region vector after long name at is place =
       let at_region = region_found (text_at fs 1) region at in
       (text_at fs 2, text_at fs 3, rw (four fs long, name, at_region.1) refl, at_region.0, is, place)
 
-  pub prune_there : (region horizon : ℕ) → length fs ≡ 3 → text_at fs 0 ≡ codes "prune" → region_in (text_at fs 1) ≡ Some region → moment_in (text_at fs 2) ≡ Some horizon → IsEventForm (texts fs) (Prune region horizon)
+  pub prune_there : (region horizon : ℕ) → length fs ≡ 3 → text_at fs 0 ≡ codes "prune"
+      → region_in (text_at fs 1) ≡ Some region → moment_in (text_at fs 2) ≡ Some horizon
+      → IsEventForm (texts fs) (Prune region horizon)
   prune_there region horizon long name at then =
       let at_region = region_found (text_at fs 1) region at in
       let at_moment = moment_found (text_at fs 2) horizon then in
       (rw (three fs long, name, at_region.1, at_moment.1) refl, at_region.0, at_moment.0)
 
   -- five fields that begin with `prune_some` are those of a slice
-  pub slice_texts : length fs ≡ 5 → text_at fs 0 ≡ codes "prune_some" → codes "prune_some" ∷ text_at fs 1 ∷ text_at fs 2 ∷ text_at fs 3 ∷ text_at fs 4 ∷ [] ≡ texts fs
+  pub slice_texts : length fs ≡ 5 → text_at fs 0 ≡ codes "prune_some"
+      → codes "prune_some" ∷ text_at fs 1 ∷ text_at fs 2 ∷ text_at fs 3 ∷ text_at fs 4 ∷ [] ≡ texts fs
   slice_texts long name = ap (λ t. t ∷ text_at fs 1 ∷ text_at fs 2 ∷ text_at fs 3 ∷ text_at fs 4 ∷ []) (sym name) ∙ sym (five fs long)
 
 -- ---- the fields of no event
@@ -118,7 +135,9 @@ module _ (fs : List (Bor (List ℕ))) where
   open_bad long none (PruneSome region horizon after most) h = absurd (omega (arith, count fs _ h.1))
 
   -- three fields that begin with `deliver` are those of a delivery or of no event
-  deliver_only : length fs ≡ 3 → text_at fs 0 ≡ codes "deliver" → ((bundle region : ℕ) → text_at fs 1 ≡ decimal bundle → bundle < 2 ^ 64 → text_at fs 2 ≡ decimal region → IsRegion region → ⊥) → IsNoEventForm (texts fs)
+  deliver_only : length fs ≡ 3 → text_at fs 0 ≡ codes "deliver"
+      → ((bundle region : ℕ) → text_at fs 1 ≡ decimal bundle → bundle < 2 ^ 64 → text_at fs 2 ≡ decimal region → IsRegion region → ⊥)
+      → IsNoEventForm (texts fs)
   deliver_only long name none (Open region) h = absurd (omega (arith, count fs _ h.0))
   deliver_only long name none (Request region now words request) h =
       let parts = sym (three_up fs (omega arith)) ∙ h.2 in
@@ -134,11 +153,14 @@ module _ (fs : List (Bor (List ℕ))) where
       names_differ (sym name ∙ same)
   deliver_only long name none (PruneSome region horizon after most) h = absurd (omega (arith, count fs _ h.1))
 
-  pub deliver_bad_region : length fs ≡ 3 → text_at fs 0 ≡ codes "deliver" → region_in (text_at fs 2) ≡ None → IsNoEventForm (texts fs)
+  pub deliver_bad_region : length fs ≡ 3 → text_at fs 0 ≡ codes "deliver"
+      → region_in (text_at fs 2) ≡ None → IsNoEventForm (texts fs)
   deliver_bad_region long name none = deliver_only long name (λ bundle region same high at is. no_region (text_at fs 2) region none is at)
 
   -- three fields that begin with `prune` are those of a prune or of no event
-  prune_only : length fs ≡ 3 → text_at fs 0 ≡ codes "prune" → ((region horizon : ℕ) → text_at fs 1 ≡ decimal region → IsRegion region → text_at fs 2 ≡ decimal horizon → IsMoment horizon → ⊥) → IsNoEventForm (texts fs)
+  prune_only : length fs ≡ 3 → text_at fs 0 ≡ codes "prune"
+      → ((region horizon : ℕ) → text_at fs 1 ≡ decimal region → IsRegion region → text_at fs 2 ≡ decimal horizon → IsMoment horizon → ⊥)
+      → IsNoEventForm (texts fs)
   prune_only long name none (Open region) h = absurd (omega (arith, count fs _ h.0))
   prune_only long name none (Request region now words request) h =
       let parts = sym (three_up fs (omega arith)) ∙ h.2 in
@@ -154,14 +176,18 @@ module _ (fs : List (Bor (List ℕ))) where
       none region horizon (cc) h.1 (cc) h.2
   prune_only long name none (PruneSome region horizon after most) h = absurd (omega (arith, count fs _ h.1))
 
-  pub prune_bad_region : length fs ≡ 3 → text_at fs 0 ≡ codes "prune" → region_in (text_at fs 1) ≡ None → IsNoEventForm (texts fs)
+  pub prune_bad_region : length fs ≡ 3 → text_at fs 0 ≡ codes "prune"
+      → region_in (text_at fs 1) ≡ None → IsNoEventForm (texts fs)
   prune_bad_region long name none = prune_only long name (λ region horizon at is then late. no_region (text_at fs 1) region none is at)
 
-  pub prune_bad_moment : length fs ≡ 3 → text_at fs 0 ≡ codes "prune" → moment_in (text_at fs 2) ≡ None → IsNoEventForm (texts fs)
+  pub prune_bad_moment : length fs ≡ 3 → text_at fs 0 ≡ codes "prune"
+      → moment_in (text_at fs 2) ≡ None → IsNoEventForm (texts fs)
   prune_bad_moment long name none = prune_only long name (λ region horizon at is then late. no_moment (text_at fs 2) horizon none late then)
 
   -- four fields that begin with `pull` are those of a pull or of no event
-  pull_only : length fs ≡ 4 → text_at fs 0 ≡ codes "pull" → ((region : ℕ) (vector : Vector) (after : Option Dot) → text_at fs 1 ≡ decimal region → IsRegion region → IsVectorText (text_at fs 2) vector → IsCursorText (text_at fs 3) after → ⊥) → IsNoEventForm (texts fs)
+  pull_only : length fs ≡ 4 → text_at fs 0 ≡ codes "pull"
+      → ((region : ℕ) (vector : Vector) (after : Option Dot) → text_at fs 1 ≡ decimal region → IsRegion region → IsVectorText (text_at fs 2) vector → IsCursorText (text_at fs 3) after → ⊥)
+      → IsNoEventForm (texts fs)
   pull_only long name none (Open region) h = absurd (omega (arith, count fs _ h.0))
   pull_only long name none (Request region now words request) h =
       let parts = sym (three_up fs (omega arith)) ∙ h.2 in
@@ -176,10 +202,12 @@ module _ (fs : List (Bor (List ℕ))) where
   pull_only long name none (Prune region horizon) h = absurd (omega (arith, count fs _ h.0))
   pull_only long name none (PruneSome region horizon after most) h = absurd (omega (arith, count fs _ h.1))
 
-  pub pull_bad_region : length fs ≡ 4 → text_at fs 0 ≡ codes "pull" → region_in (text_at fs 1) ≡ None → IsNoEventForm (texts fs)
+  pub pull_bad_region : length fs ≡ 4 → text_at fs 0 ≡ codes "pull"
+      → region_in (text_at fs 1) ≡ None → IsNoEventForm (texts fs)
   pull_bad_region long name none = pull_only long name (λ region vector after at is entries place. no_region (text_at fs 1) region none is at)
 
-  pub pull_bad_vector : length fs ≡ 4 → text_at fs 0 ≡ codes "pull" → IsNoVectorText (text_at fs 2) → IsNoEventForm (texts fs)
+  pub pull_bad_vector : length fs ≡ 4 → text_at fs 0 ≡ codes "pull" → IsNoVectorText (text_at fs 2)
+      → IsNoEventForm (texts fs)
   pull_bad_vector long name none = pull_only long name (λ region vector after at is entries place. none vector entries)
 
   -- three or more fields with another name are those of a request or of no event
@@ -190,7 +218,9 @@ module _ (fs : List (Bor (List ℕ))) where
     pub prune : length fs ≡ 3 → text_at fs 0 ≢ codes "prune"
     pub slice : length fs ≡ 5 → text_at fs 0 ≢ codes "prune_some"
 
-  request_only : IsOther → ((region now : ℕ) (request : List ℕ) → text_at fs 1 ≡ decimal region → IsRegion region → text_at fs 2 ≡ decimal now → IsMoment now → asked_of (text_at fs 0) (texts (drop 3 fs)) ≡ Some request → ⊥) → IsNoEventForm (texts fs)
+  request_only : IsOther
+      → ((region now : ℕ) (request : List ℕ) → text_at fs 1 ≡ decimal region → IsRegion region → text_at fs 2 ≡ decimal now → IsMoment now → asked_of (text_at fs 0) (texts (drop 3 fs)) ≡ Some request → ⊥)
+      → IsNoEventForm (texts fs)
   request_only other none (Open region) h = let long = other.long in absurd (omega (arith, count fs _ h.0))
   request_only other none (Request region now words request) h =
       let parts = sym (three_up fs other.long) ∙ h.2 in
@@ -218,14 +248,17 @@ module _ (fs : List (Bor (List ℕ))) where
   abbrev pub rest : List (Bor (List ℕ))
   rest = take (length fs - 3) (drop 3 fs)
 
-  pub request_bad : IsOther → ((region now : ℕ) (request : List ℕ) → text_at fs 1 ≡ decimal region → IsRegion region → text_at fs 2 ≡ decimal now → IsMoment now → asked_of (text_at fs 0) (texts rest) ≡ Some request → ⊥) → IsNoEventForm (texts fs)
+  pub request_bad : IsOther
+      → ((region now : ℕ) (request : List ℕ) → text_at fs 1 ≡ decimal region → IsRegion region → text_at fs 2 ≡ decimal now → IsMoment now → asked_of (text_at fs 0) (texts rest) ≡ Some request → ⊥)
+      → IsNoEventForm (texts fs)
   request_bad other none = request_only other (λ region now request at is then late form. none region now request at is then late (subst (λ l. asked_of (text_at fs 0) (texts l) ≡ Some request) (sym (take_rest fs 3)) form))
 
   pub with_rest : 3 ≤ length fs → text_at fs 0 ∷ text_at fs 1 ∷ text_at fs 2 ∷ texts rest ≡ texts fs
   with_rest long = ap (λ l. text_at fs 0 ∷ text_at fs 1 ∷ text_at fs 2 ∷ texts l) (take_rest fs 3) ∙ sym (three_up fs long)
 
   -- fewer than three fields are those of `open` or of no event
-  pub no_form : length fs < 3 → (length fs ≡ 2 → text_at fs 0 ≢ codes "open") → IsNoEventForm (texts fs)
+  pub no_form : length fs < 3 → (length fs ≡ 2 → text_at fs 0 ≢ codes "open")
+      → IsNoEventForm (texts fs)
   no_form short other (Open region) h =
       let long = count fs _ h.0 in
       let parts = sym (two fs long) ∙ h.0 in
@@ -244,7 +277,8 @@ module _ (at then place most : List ℕ) where
   slice_fields = codes "prune_some" ∷ at ∷ then ∷ place ∷ most ∷ []
 
   -- five fields that begin with `prune_some` are those of a slice or of no event
-  slice_only : ((region horizon : ℕ) → at ≡ decimal region → IsRegion region → then ≡ decimal horizon → IsMoment horizon → ⊥) → IsNoEventForm slice_fields
+  slice_only : ((region horizon : ℕ) → at ≡ decimal region → IsRegion region → then ≡ decimal horizon → IsMoment horizon → ⊥)
+      → IsNoEventForm slice_fields
   slice_only none (Open region) h = absurd (omega (arith, ap length h.0))
   slice_only none (Request region now words request) h =
       let parts = h.2 in
@@ -266,7 +300,9 @@ module _ (at then place most : List ℕ) where
 -- ---- lines
 
 module _ (line : List ℕ) (fs : List (Bor (List ℕ))) (parts : texts fs ≡ slice_split is_space line) where
-  pub line_there : (event : Event) → IsPrintable line → AllWithin (λ f. 0 < length f.now) fs 0 (length fs) → IsEventForm (texts fs) event → IsEventLine line event
+  pub line_there : (event : Event) → IsPrintable line
+      → AllWithin (λ f. 0 < length f.now) fs 0 (length fs) → IsEventForm (texts fs) event
+      → IsEventLine line event
   line_there event plain each form = record {
     printable = plain;
     parted = subst (All (λ field. 0 < length field)) parts (All-map (λ field. 0 < length field) (λ f. f.now) fs (All-from_all_within (λ f. 0 < length f.now) fs each));
@@ -274,7 +310,8 @@ module _ (line : List ℕ) (fs : List (Bor (List ℕ))) (parts : texts fs ≡ sl
   }
 
   -- a line with an empty field has no event
-  pub line_bad : (k : ℕ) × (k < length fs) × HoldsAt (λ f. length f.now ≡ 0) fs k → IsNoEventLine line
+  pub line_bad : (k : ℕ) × (k < length fs) × HoldsAt (λ f. length f.now ≡ 0) fs k
+      → IsNoEventLine line
   line_bad (k, there, empty) event h =
       let d : Bor (List ℕ) = record { ref_ptr = (0, 0); now = [] } in
       let long = h.parted k [] (omega (arith, ap length parts, length-map fs (λ (f : Bor (List ℕ)). f.now))) in

@@ -22,7 +22,9 @@ record RunFor (way : Way) (s : State) (es : List Event) (os : List Outcome) (new
   run : RunBy way s es os shown after
   stands : WorldStands new made after
 
-run_for : (way : Way) (w : WorldFields) (es : List Event) (os : List Outcome) (new : WorldFields) → ActsBy way w es os new → (U : FactSet) (s : State) → WorldStands w U s → RunFor way s es os new
+run_for : (way : Way) (w : WorldFields) (es : List Event) (os : List Outcome) (new : WorldFields)
+    → ActsBy way w es os new → (U : FactSet) (s : State) → WorldStands w U s
+    → RunFor way s es os new
 run_for way w [] [] new acts U s S = record { shown = []; made = U; after = s; run = refl; stands = subst (λ (x : WorldFields). WorldStands x U s) (sym acts) S }
 run_for way w (e ∷ es) (o ∷ os) new acts U s S =
     let one : StepFor way s e o acts.0 = step_for way w e o acts.0 acts.1 U s S in
@@ -31,7 +33,9 @@ run_for way w (e ∷ es) (o ∷ os) new acts U s S =
 run_for way w es os new acts U s S = absurd acts
 
 -- a run of a world is a run of the state for which it stands
-pub runs_for : (way : Way) (w : WorldFields) (es : List Event) (os : List Outcome) (new : WorldFields) → ActsBy way w es os new → (U : FactSet) (s : State) → WorldStands w U s → RunStands way s es os new
+pub runs_for : (way : Way) (w : WorldFields) (es : List Event) (os : List Outcome) (new : WorldFields)
+    → ActsBy way w es os new → (U : FactSet) (s : State) → WorldStands w U s
+    → RunStands way s es os new
 runs_for way w es os new acts U s S =
     let x = run_for way w es os new acts U s S in
     record {

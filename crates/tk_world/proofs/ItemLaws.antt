@@ -3,7 +3,10 @@
 --   items_stand      a store stands for the facts of a bundle once it took the items in
 --   items_agree      no region of a world finds a conflict in a bundle of that world
 --   items_made       a region has made each dot under its own number
-use Rattle.std.proofs.Common.{◌≡◌, ◌⊎◌, inl, inr, ℕ, zero, suc, ◌+◌, ◌-◌, ◌<◌, ◌≤◌, ◌==◌, ◌&&◌, ◌||◌, nat_le, nat_lt, max, Bool, true, false, cond, List, [], ◌∷◌, ◌++◌, length, map, take, slice_get, Option, Some, None, is_some, refl, sym, ap, subst, ◌∙◌, arith}
+use Rattle.std.proofs.Common.{◌≡◌, ◌⊎◌, inl, inr, ℕ, zero, suc, ◌+◌, ◌-◌, ◌<◌, ◌≤◌, ◌==◌, ◌&&◌}
+use Rattle.std.proofs.Common.{◌||◌, nat_le, nat_lt, max, Bool, true, false, cond, List, [], ◌∷◌}
+use Rattle.std.proofs.Common.{◌++◌, length, map, take, slice_get, Option, Some, None, is_some, refl}
+use Rattle.std.proofs.Common.{sym, ap, subst, ◌∙◌, arith}
 use Rattle.std.proofs.lemmas.Bool.{true≢false}
 use Rattle.std.proofs.lemmas.Bool.Decides.{nat_tests}
 use Rattle.std.specs.FinMap as sets
@@ -39,14 +42,17 @@ use Rattle.tk_world.proofs.KnownLaws.{beyond_dots, length_dots, take_dots}
 
 -- ---- pages
 
-AllIn-part : {X : Type 0} (S : sets.FinMap _ X) (k : ℕ) (es : List (Dot × X)) → AllIn S es → AllIn S (take k es)
+AllIn-part : {X : Type 0} (S : sets.FinMap _ X) (k : ℕ) (es : List (Dot × X)) → AllIn S es
+    → AllIn S (take k es)
 AllIn-part S zero es all = tt
 AllIn-part S (suc k) [] all = tt
 AllIn-part S (suc k) (e ∷ es) all = (all.0, AllIn-part S k es all.1)
 
 module _ (P : StoreFields) (U F : FactSet) (S : StandsFor P U F) where
   -- an item that a store knows stands for the fact at its dot
-  one_item : (horizon : Option ℕ) (d : Dot) (x : Slot) (b : Body) → (is_mark (d, x) ≡ true → horizon ≡ Some P.horizon) → sets.get P.slots d ≡ Some x → sets.get F d ≡ Some b → ItemStands U horizon d x b
+  one_item : (horizon : Option ℕ) (d : Dot) (x : Slot) (b : Body)
+      → (is_mark (d, x) ≡ true → horizon ≡ Some P.horizon) → sets.get P.slots d ≡ Some x
+      → sets.get F d ≡ Some b → ItemStands U horizon d x b
   one_item horizon d (Held c) b marks at here =
       let stands : SlotStands U P.horizon d (Some (Held c)) (Some b) = subst (λ (f : Option Body). SlotStands U P.horizon d (Some (Held c)) f) here (subst (λ (o : Option Slot). SlotStands U P.horizon d o (sets.get F d)) at (S d)) in
       some_injective c b (sym stands.0)
@@ -65,7 +71,9 @@ module _ (P : StoreFields) (U F : FactSet) (S : StandsFor P U F) where
   or_left : (a b : Bool) → a ≡ true → (a || b) ≡ true
   or_left a b h = subst (λ x. (x || b) ≡ true) (sym h) refl
 
-  known_items : (horizon : Option ℕ) (is : Items) (fs : Facts) → (list_any is_mark is ≡ true → horizon ≡ Some P.horizon) → map dot_of is ≡ map dot_of fs → AllIn P.slots is → AllIn F fs → ItemsStand U horizon is fs
+  known_items : (horizon : Option ℕ) (is : Items) (fs : Facts)
+      → (list_any is_mark is ≡ true → horizon ≡ Some P.horizon) → map dot_of is ≡ map dot_of fs
+      → AllIn P.slots is → AllIn F fs → ItemsStand U horizon is fs
   known_items horizon [] [] marks dots known held = tt
   known_items horizon [] (f ∷ fs) marks dots known held = cc
   known_items horizon (i ∷ is) [] marks dots known held = cc
@@ -104,7 +112,8 @@ module _ (P : StoreFields) (U F : FactSet) (S : StandsFor P U F) where
     pub page_horizon : ((bundles.page_of P v after).bundle.horizon ≡ None) ⊎ ((bundles.page_of P v after).bundle.horizon ≡ Some P.horizon)
     page_horizon = by (list_any is_mark its_items)
       where
-        by : (t : Bool) → (cond t (Some P.horizon) None ≡ None) ⊎ (cond t (Some P.horizon) None ≡ Some P.horizon)
+        by : (t : Bool)
+            → (cond t (Some P.horizon) None ≡ None) ⊎ (cond t (Some P.horizon) None ≡ Some P.horizon)
         by true = inr refl
         by false = inl refl
 
@@ -121,33 +130,40 @@ module _ (P : StoreFields) (U F : FactSet) (S : StandsFor P U F) where
 
 -- what stands for a bundle where more facts were made
 module _ (U V : FactSet) (within : IsSubset U V) where
-  item_more : (horizon : Option ℕ) (d : Dot) (x : Slot) (b : Body) → ItemStands U horizon d x b → ItemStands V horizon d x b
+  item_more : (horizon : Option ℕ) (d : Dot) (x : Slot) (b : Body) → ItemStands U horizon d x b
+      → ItemStands V horizon d x b
   item_more horizon d (Held c) b h = h
   item_more horizon d Skipped b h = (h.0, h.1, may_more U V within h.0 h.0 (omega arith) d h.2)
 
-  items_more : (horizon : Option ℕ) (is : Items) (fs : Facts) → ItemsStand U horizon is fs → ItemsStand V horizon is fs
+  items_more : (horizon : Option ℕ) (is : Items) (fs : Facts) → ItemsStand U horizon is fs
+      → ItemsStand V horizon is fs
   items_more horizon [] [] h = tt
   items_more horizon (i ∷ is) (f ∷ fs) h = (h.0, item_more horizon f.0 i.1 f.1 h.1, items_more horizon is fs h.2)
   items_more horizon is fs h = absurd h
 
-  pub bundles_more : (bs : List BundleFields) (cs : List Sent) → BundlesStand U bs cs → BundlesStand V bs cs
+  pub bundles_more : (bs : List BundleFields) (cs : List Sent) → BundlesStand U bs cs
+      → BundlesStand V bs cs
   bundles_more [] [] h = tt
   bundles_more (b ∷ bs) (c ∷ cs) h = (record { horizon = h.0.horizon; items = items_more b.horizon b.items c.facts h.0.items }, bundles_more bs cs h.1)
   bundles_more bs cs h = absurd h
 
 module _ (U : FactSet) where
-  pub bundles_and : (bs : List BundleFields) (cs : List Sent) (b : BundleFields) (c : Sent) → BundlesStand U bs cs → BundleStands U b c → BundlesStand U (bs ++ b ∷ []) (cs ++ c ∷ [])
+  pub bundles_and : (bs : List BundleFields) (cs : List Sent) (b : BundleFields) (c : Sent)
+      → BundlesStand U bs cs → BundleStands U b c → BundlesStand U (bs ++ b ∷ []) (cs ++ c ∷ [])
   bundles_and [] [] b c h one = (one, tt)
   bundles_and (x ∷ bs) (y ∷ cs) b c h one = (h.0, bundles_and bs cs b c h.1 one)
   bundles_and bs cs b c h one = absurd h
 
-  pub bundles_length : (bs : List BundleFields) (cs : List Sent) → BundlesStand U bs cs → length bs ≡ length cs
+  pub bundles_length : (bs : List BundleFields) (cs : List Sent) → BundlesStand U bs cs
+      → length bs ≡ length cs
   bundles_length [] [] h = refl
   bundles_length (x ∷ bs) (y ∷ cs) h = ap suc (bundles_length bs cs h.1)
   bundles_length bs cs h = absurd h
 
   -- a bundle at an index stands for that of the state
-  pub bundle_at : (bs : List BundleFields) (cs : List Sent) (i : ℕ) (b : BundleFields) → BundlesStand U bs cs → slice_get bs i ≡ Some b → (c : Sent) × (slice_get cs i ≡ Some c) × BundleStands U b c
+  pub bundle_at : (bs : List BundleFields) (cs : List Sent) (i : ℕ) (b : BundleFields)
+      → BundlesStand U bs cs → slice_get bs i ≡ Some b
+      → (c : Sent) × (slice_get cs i ≡ Some c) × BundleStands U b c
   bundle_at [] [] zero b h at = absurd (none_is_not_some b at)
   bundle_at [] [] (suc i) b h at = absurd (none_is_not_some b at)
   bundle_at (x ∷ bs) (y ∷ cs) zero b h at = (y, refl, subst (λ (z : BundleFields). BundleStands U z y) (some_injective x b at) h.0)
@@ -155,14 +171,16 @@ module _ (U : FactSet) where
   bundle_at bs cs i b h at = absurd h
 
   -- no bundle is at an index where the state has none
-  pub no_bundle_at : (bs : List BundleFields) (cs : List Sent) (i : ℕ) → BundlesStand U bs cs → slice_get bs i ≡ None → slice_get cs i ≡ None
+  pub no_bundle_at : (bs : List BundleFields) (cs : List Sent) (i : ℕ) → BundlesStand U bs cs
+      → slice_get bs i ≡ None → slice_get cs i ≡ None
   no_bundle_at [] [] zero h at = refl
   no_bundle_at [] [] (suc i) h at = refl
   no_bundle_at (x ∷ bs) (y ∷ cs) zero h at = absurd (none_is_not_some x (sym at))
   no_bundle_at (x ∷ bs) (y ∷ cs) (suc i) h at = no_bundle_at bs cs i h.1 at
   no_bundle_at bs cs i h at = absurd h
 
-  pub items_part : (horizon : Option ℕ) (k : ℕ) (is : Items) (fs : Facts) → ItemsStand U horizon is fs → ItemsStand U horizon (take k is) (take k fs)
+  pub items_part : (horizon : Option ℕ) (k : ℕ) (is : Items) (fs : Facts)
+      → ItemsStand U horizon is fs → ItemsStand U horizon (take k is) (take k fs)
   items_part horizon zero is fs h = tt
   items_part horizon (suc k) [] [] h = tt
   items_part horizon (suc k) (i ∷ is) (f ∷ fs) h = (h.0, h.1, items_part horizon k is fs h.2)
@@ -176,7 +194,9 @@ SlotsStand U t S F = (d : Dot) → SlotStands U t d (sets.get S d) (sets.get F d
 
 module _ (U : FactSet) (t : ℕ) where
   -- what is known of a dot, joined with an item for its fact, stands for that fact
-  joined_stands : (horizon : Option ℕ) → ((m : ℕ) → horizon ≡ Some m → m ≤ t) → (d : Dot) (o : Option Slot) (f : Option Body) (x : Slot) (b : Body) → SlotStands U t d o f → sets.get U d ≡ Some b → ItemStands U horizon d x b
+  joined_stands : (horizon : Option ℕ) → ((m : ℕ) → horizon ≡ Some m → m ≤ t)
+      → (d : Dot) (o : Option Slot) (f : Option Body) (x : Slot) (b : Body) → SlotStands U t d o f
+      → sets.get U d ≡ Some b → ItemStands U horizon d x b
       → SlotStands U t d (Some (joined_slot o x)) (Some b)
   joined_stands horizon late d None f (Held c) b h made item = (sym (ap (λ (y : Body). Some y) item), made ∙ sym (ap (λ (y : Body). Some y) item))
   joined_stands horizon late d None f Skipped b h made item = (sym made, may_more U U (λ q y z. z) item.0 t (late item.0 item.1) d item.2)
@@ -184,14 +204,18 @@ module _ (U : FactSet) (t : ℕ) where
   joined_stands horizon late d (Some (Held e)) f Skipped b h made item = (sym made, may_more U U (λ q y z. z) item.0 t (late item.0 item.1) d item.2)
   joined_stands horizon late d (Some Skipped) f x b h made item = (sym made, h.1)
 
-  put_stands : (S : Slots) (F : FactSet) (horizon : Option ℕ) → ((m : ℕ) → horizon ≡ Some m → m ≤ t) → (d : Dot) (x : Slot) (b : Body) → SlotsStand U t S F → sets.get U d ≡ Some b → ItemStands U horizon d x b
+  put_stands : (S : Slots) (F : FactSet) (horizon : Option ℕ) → ((m : ℕ) → horizon ≡ Some m → m ≤ t)
+      → (d : Dot) (x : Slot) (b : Body) → SlotsStand U t S F → sets.get U d ≡ Some b
+      → ItemStands U horizon d x b
       → SlotsStand U t (sets.insert S d (joined_slot (sets.get S d) x)) (sets.insert F d b)
   put_stands S F horizon late d x b stands made item =
       slot_put U t S d (joined_slot (sets.get S d) x) (sets.insert F d b)
       (subst (λ (f : Option Body). SlotStands U t d (Some (joined_slot (sets.get S d) x)) f) (sym (get_here F d b)) (joined_stands horizon late d (sets.get S d) (sets.get F d) x b (stands d) made item))
       (λ q ne. subst (λ (f : Option Body). SlotStands U t q (sets.get S q) f) (sym (by_dot (λ o. o ≡ sets.get F q) F d b q (λ same. absurd (ne same)) refl)) (stands q))
 
-  all_stand : (horizon : Option ℕ) → ((m : ℕ) → horizon ≡ Some m → m ≤ t) → (is : Items) (fs : Facts) (S : Slots) (F : FactSet) → ItemsStand U horizon is fs → AllIn U fs → SlotsStand U t S F → SlotsStand U t (with_slots S is) (with_facts F fs)
+  all_stand : (horizon : Option ℕ) → ((m : ℕ) → horizon ≡ Some m → m ≤ t)
+      → (is : Items) (fs : Facts) (S : Slots) (F : FactSet) → ItemsStand U horizon is fs
+      → AllIn U fs → SlotsStand U t S F → SlotsStand U t (with_slots S is) (with_facts F fs)
   all_stand horizon late [] [] S F items all stands = stands
   all_stand horizon late (i ∷ is) (f ∷ fs) S F items all stands =
       all_stand horizon late is fs (sets.insert S i.0 (joined_slot (sets.get S i.0) i.1)) (sets.insert F f.0 f.1) items.2 all.1
@@ -200,7 +224,8 @@ module _ (U : FactSet) (t : ℕ) where
   all_stand horizon late is fs S F items all stands = absurd items
 
 -- the horizon that a bundle raises
-pub raised_horizon : (P : StoreFields) (h : ℕ) (horizon moment : Option ℕ) → h ≡ P.horizon → moment ≡ horizon → raised_to h moment ≡ (raised P horizon).horizon
+pub raised_horizon : (P : StoreFields) (h : ℕ) (horizon moment : Option ℕ) → h ≡ P.horizon
+    → moment ≡ horizon → raised_to h moment ≡ (raised P horizon).horizon
 raised_horizon P h horizon moment same is = ap (raised_to h) is ∙ by horizon
   where
     by : (o : Option ℕ) → raised_to h o ≡ (raised P o).horizon
@@ -208,7 +233,9 @@ raised_horizon P h horizon moment same is = ap (raised_to h) is ∙ by horizon
     by (Some m) = ap (λ x. max x m) same
 
 -- a store stands for the facts of a bundle once it took the items in
-pub items_stand : (P : StoreFields) (U F : FactSet) (horizon : Option ℕ) (is : Items) (fs : Facts) → ItemsStand U horizon is fs → AllIn U fs → StandsFor P U F → StandsFor (items_taken (raised P horizon) is) U (with_facts F fs)
+pub items_stand : (P : StoreFields) (U F : FactSet) (horizon : Option ℕ) (is : Items) (fs : Facts)
+    → ItemsStand U horizon is fs → AllIn U fs → StandsFor P U F
+    → StandsFor (items_taken (raised P horizon) is) U (with_facts F fs)
 items_stand P U F None is fs items all S = all_stand U P.horizon None (λ m h. absurd (none_is_not_some m h)) is fs P.slots F items all S
 items_stand P U F (Some moment) is fs items all S =
     all_stand U (max P.horizon moment) (Some moment) (λ m h. late m (some_injective moment m h)) is fs P.slots F items all
@@ -227,16 +254,20 @@ passing_kept : (d : Dot) (b : Body) (k : TokenId) → kept_for d b ≡ Some k �
 passing_kept d (body.CodeIssued f) k h = refl
 passing_kept d (body.CodeRedeemed f) k h = refl
 passing_kept d (body.RefreshRotated f) k h = refl
+passing_kept d (body.TokenRevoked f) k h = refl
 passing_kept d (body.ReuseSeen f) k h = refl
 passing_kept d b k h = absurd (none_is_not_some k h)
 
-passes_of : (U : FactSet) (t : ℕ) (d : Dot) (b : Body) → MaySkip (sets.get U) t d → sets.get U d ≡ Some b → is_passing b ≡ true
+passes_of : (U : FactSet) (t : ℕ) (d : Dot) (b : Body) → MaySkip (sets.get U) t d
+    → sets.get U d ≡ Some b → is_passing b ≡ true
 passes_of U t d b may at =
     let same : may.fact ≡ b = some_injective may.fact b (sym may.here ∙ at) in
     passing_kept d b may.token (ap (kept_for d) (sym same) ∙ may.kept)
 
 module _ (P : StoreFields) (U F : FactSet) (S : StandsFor P U F) where
-  agrees : (horizon : Option ℕ) (d : Dot) (o : Option Slot) (f : Option Body) (x : Slot) (b : Body) → SlotStands U P.horizon d o f → sets.get U d ≡ Some b → ItemStands U horizon d x b → SlotAgrees o (Some x)
+  agrees : (horizon : Option ℕ) (d : Dot) (o : Option Slot) (f : Option Body) (x : Slot) (b : Body)
+      → SlotStands U P.horizon d o f → sets.get U d ≡ Some b → ItemStands U horizon d x b
+      → SlotAgrees o (Some x)
   agrees horizon d None f x b h made item = tt
   agrees horizon d (Some (Held e)) f (Held c) b h made item = some_injective e c (sym h.1 ∙ made ∙ ap (λ (y : Body). Some y) (sym item))
   agrees horizon d (Some (Held e)) f Skipped b h made item = passes_of U item.0 d e item.2 h.1
@@ -244,7 +275,8 @@ module _ (P : StoreFields) (U F : FactSet) (S : StandsFor P U F) where
   agrees horizon d (Some Skipped) f Skipped b h made item = tt
 
   -- what is known agrees with the items of a bundle
-  pub items_agree : (horizon : Option ℕ) (is : Items) (fs : Facts) → ItemsStand U horizon is fs → AllIn U fs → AgreesWith P.slots is
+  pub items_agree : (horizon : Option ℕ) (is : Items) (fs : Facts) → ItemsStand U horizon is fs
+      → AllIn U fs → AgreesWith P.slots is
   items_agree horizon [] [] items all = tt
   items_agree horizon (i ∷ is) (f ∷ fs) items all = (
     subst (λ (d : Dot). SlotAgrees (sets.get P.slots d) (Some i.1)) (sym items.0) (agrees horizon f.0 (sets.get P.slots f.0) (sets.get F f.0) i.1 f.1 (S f.0) all.0 items.1),
@@ -255,23 +287,27 @@ module _ (P : StoreFields) (U F : FactSet) (S : StandsFor P U F) where
 none_of : (a b : Bool) → a ≡ false → b ≡ false → (a || b) ≡ false
 none_of a b p q = subst (λ x. (x || b) ≡ false) (sym p) q
 
-before : (region r serial next : ℕ) → (region ≡ r → serial < next) → (region == r) && nat_le next serial ≡ false
+before : (region r serial next : ℕ) → (region ≡ r → serial < next)
+    → (region == r) && nat_le next serial ≡ false
 before region r serial next h = grind (arith, nat_tests)
 
 module _ (s : State) (U : FactSet) (c : Consists s U) (r : ℕ) (k : Kept) (at : sets.get s.regions r ≡ Some k) where
   -- a region holds all facts under its own number
-  own_held : (d : Dot) (b : Body) → sets.get U d ≡ Some b → d.region ≡ r → sets.get k.facts d ≡ Some b
+  own_held : (d : Dot) (b : Body) → sets.get U d ≡ Some b → d.region ≡ r
+      → sets.get k.facts d ≡ Some b
   own_held d b h own =
       let home = c.home d b h in
       ap (λ (x : Kept). sets.get x.facts d) (some_injective k home.0 (sym at ∙ ap (sets.get s.regions) (sym own) ∙ home.1)) ∙ home.2
 
-  own_before : (d : Dot) (b : Body) → sets.get U d ≡ Some b → d.region ≡ r → d.serial < next_serial k.facts r
+  own_before : (d : Dot) (b : Body) → sets.get U d ≡ Some b → d.region ≡ r
+      → d.serial < next_serial k.facts r
   own_before d b h own =
       let most = at_most_last_serial r (sets.entries k.facts) d b own (sym (sets.get-entries k.facts d) ∙ own_held d b h own) in
       omega arith
 
   -- a region has made each dot under its own number
-  pub items_made : (horizon : Option ℕ) (is : Items) (fs : Facts) → ItemsStand U horizon is fs → AllIn U fs → has_unmade (record { region = r; serial = next_serial k.facts r }) is ≡ false
+  pub items_made : (horizon : Option ℕ) (is : Items) (fs : Facts) → ItemsStand U horizon is fs
+      → AllIn U fs → has_unmade (record { region = r; serial = next_serial k.facts r }) is ≡ false
   items_made horizon [] [] items all = refl
   items_made horizon (i ∷ is) (f ∷ fs) items all =
       let next : Dot = record { region = r; serial = next_serial k.facts r } in

@@ -4,7 +4,10 @@
 --   len_same      their number
 --   next_same     the next serial of a region
 --   beyond_dots   the dots that a vector does not cover
-use Rattle.std.proofs.Common.{◌≡◌, ℕ, zero, suc, ◌+◌, ◌-◌, ◌&&◌, ◌==◌, nat_le, not, max, Bool, true, false, cond, if◌then◌else◌, T, List, [], ◌∷◌, length, map, filter, take, Option, Some, None, option_map, is_some, refl, sym, ap, subst, ◌∙◌}
+use Rattle.std.proofs.Common.{◌≡◌, ℕ, zero, suc, ◌+◌, ◌-◌, ◌&&◌, ◌==◌, nat_le, not, max, Bool, true}
+use Rattle.std.proofs.Common.{false, cond, if◌then◌else◌, T, List, [], ◌∷◌, length, map, filter}
+use Rattle.std.proofs.Common.{take, Option, Some, None, option_map, is_some, refl, sym, ap, subst}
+use Rattle.std.proofs.Common.{◌∙◌}
 use Rattle.std.specs.Ordering.{eq_by_cmp, is_lt}
 use Rattle.std.specs.FinMap as sets
 use Rattle.std.specs.FinMap.{find}
@@ -40,15 +43,18 @@ abbrev bare : {X : Type 0} → Dot × X → Dot × ℕ
 bare e = (e.0, 0)
 
 module _ {X : Type 0} where
-  below_bare : (d : Dot) (es : List (Dot × X)) → below_all dot_cmp d (map bare es) ≡ below_all dot_cmp d es
+  below_bare : (d : Dot) (es : List (Dot × X))
+      → below_all dot_cmp d (map bare es) ≡ below_all dot_cmp d es
   below_bare d [] = refl
   below_bare d (e ∷ es) = ap (λ b. is_lt (dot_cmp d e.0) && b) (below_bare d es)
 
-  sorted_bare : (es : List (Dot × X)) → sets.is_sorted dot_cmp (map bare es) ≡ sets.is_sorted dot_cmp es
+  sorted_bare : (es : List (Dot × X))
+      → sets.is_sorted dot_cmp (map bare es) ≡ sets.is_sorted dot_cmp es
   sorted_bare [] = refl
   sorted_bare (e ∷ es) = ap (λ b. b && sets.is_sorted dot_cmp (map bare es)) (below_bare e.0 es) ∙ ap (λ b. below_all dot_cmp e.0 es && b) (sorted_bare es)
 
-  find_bare : (q : Dot) (es : List (Dot × X)) → find dot_cmp q (map bare es) ≡ option_map naught (find dot_cmp q es)
+  find_bare : (q : Dot) (es : List (Dot × X))
+      → find dot_cmp q (map bare es) ≡ option_map naught (find dot_cmp q es)
   find_bare q [] = refl
   find_bare q (e ∷ es) =
       elim (eq_by_cmp dot_cmp q e.0) as (λ t. cond t (Some 0) (find dot_cmp q (map bare es)) ≡ option_map naught (cond t (Some e.1) (find dot_cmp q es))) [
@@ -60,10 +66,12 @@ module _ {X : Type 0} where
   abbrev known_of : sets.FinMap dot_cmp X → sets.FinMap dot_cmp ℕ
   known_of m = sets.from_sorted (map bare (sets.entries m))
 
-  entries_known : (m : sets.FinMap dot_cmp X) → sets.entries (known_of m) ≡ map bare (sets.entries m)
+  entries_known : (m : sets.FinMap dot_cmp X)
+      → sets.entries (known_of m) ≡ map bare (sets.entries m)
   entries_known m = sets.entries-from_sorted dot_cmp _ (subst T (sym (sorted_bare (sets.entries m))) (sets.entries_sorted m))
 
-  get_known : (m : sets.FinMap dot_cmp X) (q : Dot) → sets.get (known_of m) q ≡ option_map naught (sets.get m q)
+  get_known : (m : sets.FinMap dot_cmp X) (q : Dot)
+      → sets.get (known_of m) q ≡ option_map naught (sets.get m q)
   get_known m q = sets.get-entries (known_of m) q ∙ ap (find dot_cmp q) (entries_known m) ∙ find_bare q (sets.entries m) ∙ ap (option_map naught) (sym (sets.get-entries m q))
 
   dots_bare : (es : List (Dot × X)) → map dot_of (map bare es) ≡ map dot_of es
@@ -74,7 +82,8 @@ module _ {X : Type 0} where
   length_dots [] = refl
   length_dots (e ∷ es) = ap suc (length_dots es)
 
-  filter_dots : (p : Dot × X → Bool) (t : Dot → Bool) → ((e : Dot × X) → p e ≡ t e.0) → (es : List (Dot × X)) → map dot_of (filter p es) ≡ filter t (map dot_of es)
+  filter_dots : (p : Dot × X → Bool) (t : Dot → Bool) → ((e : Dot × X) → p e ≡ t e.0)
+      → (es : List (Dot × X)) → map dot_of (filter p es) ≡ filter t (map dot_of es)
   filter_dots p t same [] = refl
   filter_dots p t same (e ∷ es) =
       ap (λ b. map dot_of (cond b (e ∷ filter p es) (filter p es))) (same e)
@@ -92,7 +101,8 @@ module _ {X : Type 0} where
   past_is None e = refl
   past_is (Some q) e = refl
 
-  beyond_filtered : (m : sets.FinMap dot_cmp X) (v : Vector) (after : Option Dot) → map dot_of (beyond m v after) ≡ filter (is_uncovered v) (filter (is_past after) (map dot_of (sets.entries m)))
+  beyond_filtered : (m : sets.FinMap dot_cmp X) (v : Vector) (after : Option Dot)
+      → map dot_of (beyond m v after) ≡ filter (is_uncovered v) (filter (is_past after) (map dot_of (sets.entries m)))
   beyond_filtered m v after =
       filter_dots (is_beyond v) (is_uncovered v) (λ e. refl) (above m after)
       ∙ ap (filter (is_uncovered v)) (filter_dots (is_above after) (is_past after) (past_is after) (sets.entries m))
@@ -106,7 +116,8 @@ abbrev pub SameDots : {X Y : Type 0} → sets.FinMap dot_cmp X → sets.FinMap d
 SameDots m n = (q : Dot) → is_some (sets.get m q) ≡ is_some (sets.get n q)
 
 module _ {X Y : Type 0} (m : sets.FinMap dot_cmp X) (n : sets.FinMap dot_cmp Y) (same : SameDots m n) where
-  zero_as : (o : Option X) (p : Option Y) → is_some o ≡ is_some p → option_map naught o ≡ option_map naught p
+  zero_as : (o : Option X) (p : Option Y) → is_some o ≡ is_some p
+      → option_map naught o ≡ option_map naught p
   zero_as None None h = refl
   zero_as None (Some y) h = cc
   zero_as (Some x) None h = cc
@@ -126,7 +137,8 @@ module _ {X Y : Type 0} (m : sets.FinMap dot_cmp X) (n : sets.FinMap dot_cmp Y) 
   pub next_same : (r : ℕ) → next_serial m r ≡ next_serial n r
   next_same r = ap (λ x. x + 1) (last_dots r (sets.entries m) ∙ ap (last_of_dots r) dots_same ∙ sym (last_dots r (sets.entries n)))
 
-  pub beyond_dots : (v : Vector) (after : Option Dot) → map dot_of (beyond m v after) ≡ map dot_of (beyond n v after)
+  pub beyond_dots : (v : Vector) (after : Option Dot)
+      → map dot_of (beyond m v after) ≡ map dot_of (beyond n v after)
   beyond_dots v after =
       beyond_filtered m v after ∙ ap (λ (ds : List Dot). filter (is_uncovered v) (filter (is_past after) ds)) dots_same
       ∙ sym (beyond_filtered n v after)

@@ -5,13 +5,16 @@
 --   settings_after, world_after       the settings and the world after a write at an index
 --   request_steps                     how a request ends is how its event ends
 --   ended                             what holds of the fields holds of the world
-use Rattle.std.proofs.Common.{◌≡◌, ℕ, T, List, slice_get, get_or, set, Option, Some, None, Result, Ok, Err, Vec, Global, IsSome, IfSome, is_some, false, inl, inr, refl, sym, ap, subst, ◌∙◌}
+use Rattle.std.proofs.Common.{◌≡◌, ℕ, T, List, slice_get, get_or, set, Option, Some, None, Result}
+use Rattle.std.proofs.Common.{Ok, Err, Vec, Global, IsSome, IfSome, is_some, false, inl, inr, refl}
+use Rattle.std.proofs.Common.{sym, ap, subst, ◌∙◌}
 use Rattle.std.specs.List.{insert}
 use Rattle.std.specs.Ordering.{nat_cmp}
 use Rattle.std.specs.Cmp.{nat_cmp_total}
 use Rattle.std.specs.FinMap as map
 use Rattle.tk_handle.specs.SortedEntries.{IsAt, IsGap}
-use Rattle.tk_handle.proofs.SortedEntriesLaws.{get_at_place, get_at_gap, sorted_at_place, sorted_at_gap, insert_at_place, insert_at_gap}
+use Rattle.tk_handle.proofs.SortedEntriesLaws.{get_at_place, get_at_gap, sorted_at_place}
+use Rattle.tk_handle.proofs.SortedEntriesLaws.{sorted_at_gap, insert_at_place, insert_at_gap}
 use Rattle.tk_handle.specs.declared.dot.Dot.{Dot}
 use Rattle.tk_vector.specs.VersionVector.{Vector}
 use Rattle.tk_store.specs.StoreFields.{StoreFields, empty_store}
@@ -32,7 +35,8 @@ use Rattle.tk_edge.specs.declared.reach.PathSet.TheVariants.{Admin, All}
 use Rattle.tk_edge.proofs.AnswerLaws.{answers_alone}
 use Rattle.tk_edge.proofs.StreamLaws.{all_heard}
 use Rattle.tk_world.specs.AskedFields.{AskedFields}
-use Rattle.tk_world.specs.Acts.{Turns, MakesAt, OpensAt, PullsAt, DeliversAt, PrunesAt, PrunesSomeAt}
+use Rattle.tk_world.specs.Acts.{Turns, MakesAt, OpensAt, PullsAt, DeliversAt, PrunesAt}
+use Rattle.tk_world.specs.Acts.{PrunesSomeAt}
 use Rattle.tk_world.specs.Broken.{Requests, Steps}
 use Rattle.tk_world.specs.Carrying.{Carries, IsReplied, Makes, Way}
 use Rattle.tk_world.specs.Parts.{Opens, Pages, TakesBundle, PrunesTo, PrunesSomeTo}
@@ -40,8 +44,10 @@ use Rattle.tk_world.specs.Regions.{entry_of, entries_of, IsOpen, HaveSettings}
 use Rattle.tk_world.specs.WorldFields.{WorldFields, with_store, with_bundles, region_at}
 use Rattle.tk_world.specs.declared.event.Event.TheVariants.{Request}
 use Rattle.tk_world.specs.declared.event.Outcome.{Outcome}
-use Rattle.tk_world.specs.declared.event.Outcome.TheVariants.{Opened, Reply, Bundle, Took, Pruned, PrunedSome, Memory}
-use Rattle.tk_world.proofs.RegionLaws.{entry_at, entries_set, entries_insert, settings_at, settings_set, settings_insert}
+use Rattle.tk_world.specs.declared.event.Outcome.TheVariants.{Opened, Reply, Bundle, Took, Pruned}
+use Rattle.tk_world.specs.declared.event.Outcome.TheVariants.{PrunedSome, Memory}
+use Rattle.tk_world.proofs.RegionLaws.{entry_at, entries_set, entries_insert, settings_at}
+use Rattle.tk_world.proofs.RegionLaws.{settings_set, settings_insert}
 use Rattle.tk_world.proofs.StandsLaws.{same_again}
 
 -- an edge has the settings and the terms of another, and is sealed if that one is
@@ -51,7 +57,8 @@ IsAsOpen p q = (q.region.settings ≡ p.region.settings) × (q.sealed ≡ p.seal
 abbrev pub fields_of : SettingsFields → List (ℕ × StoreFields) → List BundleFields → WorldFields
 fields_of settings rs bs = record { settings = settings; regions = map.from_sorted rs; bundles = bs }
 
-same_region : (w : WorldFields) (r : ℕ) (P : StoreFields) → map.get w.regions r ≡ Some P → with_store w r P ≡ w
+same_region : (w : WorldFields) (r : ℕ) (P : StoreFields) → map.get w.regions r ≡ Some P
+    → with_store w r P ≡ w
 same_region w r P h = ap (λ (m : map.FinMap nat_cmp StoreFields). record { settings = w.settings; regions = m; bundles = w.bundles }) (same_again w.regions r P h)
 
 some_is : {A : Type 0} (o : Option A) (x : A) → o ≡ Some x → IsSome o
@@ -60,12 +67,14 @@ some_is o x h = ap is_some h
 -- ---- what happens to one region
 
 -- an edge that is unchanged leaves the world unchanged
-unchanged : (w : WorldFields) (r : ℕ) (p q : EdgeFields) → map.get w.regions r ≡ Some p.region.facts → q ≡ p → with_store w r q.region.facts ≡ w
+unchanged : (w : WorldFields) (r : ℕ) (p q : EdgeFields) → map.get w.regions r ≡ Some p.region.facts
+    → q ≡ p → with_store w r q.region.facts ≡ w
 unchanged w r p q at same = ap (λ (x : EdgeFields). with_store w r x.region.facts) same ∙ same_region w r p.region.facts at
 
 module _ (way : Way) (w : WorldFields) (r : ℕ) (p q : EdgeFields) (asked : AskedFields) (is : p.region ≡ region_at w r p.region.facts) (plain_terms : p.terms ≡ accept_all) (at : map.get w.regions r ≡ Some p.region.facts) where
   -- the fact made for an answer is added to the world's region
-  made_at : (heard : Arrival) → Makes p asked heard q → MakesAt w r p.region.facts asked heard (with_store w r q.region.facts)
+  made_at : (heard : Arrival) → Makes p asked heard q
+      → MakesAt w r p.region.facts asked heard (with_store w r q.region.facts)
   made_at heard made = (
     record {
       is_open = at;
@@ -74,7 +83,8 @@ module _ (way : Way) (w : WorldFields) (r : ℕ) (p q : EdgeFields) (asked : Ask
     subst (λ (x : RegionFields). IfSome (fact_by x asked.now asked.words heard) (IsNextFact x)) is made.next,
   )
 
-  pub request_act : {E : Type 0} (o : Result Outcome E) → Carries way p asked o q → Requests way w r asked o (with_store w r q.region.facts)
+  pub request_act : {E : Type 0} (o : Result Outcome E) → Carries way p asked o q
+      → Requests way w r asked o (with_store w r q.region.facts)
   request_act (Ok (Reply status bytes)) a = (
     p.region.facts,
     a.0,
@@ -94,24 +104,33 @@ pub request_steps : {F : Type 0} (way : Way) (old : WorldFields) (r now : ℕ) (
 request_steps way old r now words bytes (Ok outcome) new h = h
 request_steps way old r now words bytes (Err fault) new h = h
 
-turned : (w : WorldFields) (r : ℕ) (P Q : StoreFields) → map.get w.regions r ≡ Some P → Turns w r P Q (with_store w r Q)
+turned : (w : WorldFields) (r : ℕ) (P Q : StoreFields) → map.get w.regions r ≡ Some P
+    → Turns w r P Q (with_store w r Q)
 turned w r P Q at = record { is_open = at; changes = refl }
 
-pub deliver_act : (w : WorldFields) (i r : ℕ) (p q : RegionFields) (b : BundleFields) (o : Outcome) → map.get w.regions r ≡ Some p.facts → slice_get w.bundles i ≡ Some b → TakesBundle p b o q → DeliversAt w i r o (with_store w r q.facts)
+pub deliver_act : (w : WorldFields) (i r : ℕ) (p q : RegionFields) (b : BundleFields) (o : Outcome)
+    → map.get w.regions r ≡ Some p.facts → slice_get w.bundles i ≡ Some b → TakesBundle p b o q
+    → DeliversAt w i r o (with_store w r q.facts)
 deliver_act w i r p q b (Took n) at there t = (p.facts, q.facts, turned w r p.facts q.facts at, b, there, t.1)
 deliver_act w i r p q b Memory at there t = (p.facts, q.facts, turned w r p.facts q.facts at, b, there, t.1)
 deliver_act w i r p q b o at there t = absurd t
 
-pub prune_act : (w : WorldFields) (r moment : ℕ) (p q : RegionFields) (o : Outcome) → map.get w.regions r ≡ Some p.facts → PrunesTo p moment o q → PrunesAt w r moment o (with_store w r q.facts)
+pub prune_act : (w : WorldFields) (r moment : ℕ) (p q : RegionFields) (o : Outcome)
+    → map.get w.regions r ≡ Some p.facts → PrunesTo p moment o q
+    → PrunesAt w r moment o (with_store w r q.facts)
 prune_act w r moment p q (Pruned n) at t = (p.facts, q.facts, turned w r p.facts q.facts at, t.1)
 prune_act w r moment p q Memory at t = (some_is _ p.facts at, ap (λ (x : RegionFields). with_store w r x.facts) t ∙ same_region w r p.facts at)
 prune_act w r moment p q o at t = absurd t
 
-pub slice_act : (w : WorldFields) (r moment : ℕ) (after : Option Dot) (count : ℕ) (p q : RegionFields) (o : Outcome) → map.get w.regions r ≡ Some p.facts → PrunesSomeTo p moment after count o q → PrunesSomeAt w r moment after count o (with_store w r q.facts)
+pub slice_act : (w : WorldFields) (r moment : ℕ) (after : Option Dot) (count : ℕ) (p q : RegionFields) (o : Outcome)
+    → map.get w.regions r ≡ Some p.facts → PrunesSomeTo p moment after count o q
+    → PrunesSomeAt w r moment after count o (with_store w r q.facts)
 slice_act w r moment after count p q (PrunedSome slice) at t = (p.facts, q.facts, turned w r p.facts q.facts at, t.1)
 slice_act w r moment after count p q o at t = absurd t
 
-pub pull_act : (w : WorldFields) (r : ℕ) (P : StoreFields) (v : Vector) (after : Option Dot) (o : Outcome) (bs : List BundleFields) → map.get w.regions r ≡ Some P → Pages (page_of P v after) w.bundles o bs → PullsAt w r v after o (with_bundles w bs)
+pub pull_act : (w : WorldFields) (r : ℕ) (P : StoreFields) (v : Vector) (after : Option Dot) (o : Outcome) (bs : List BundleFields)
+    → map.get w.regions r ≡ Some P → Pages (page_of P v after) w.bundles o bs
+    → PullsAt w r v after o (with_bundles w bs)
 pull_act w r P v after (Bundle index count last more) bs at p = (P, at, (p.0, p.1, p.2, p.3, ap (with_bundles w) p.4))
 pull_act w r P v after Memory bs at p = (some_is _ P at, ap (with_bundles w) p)
 pull_act w r P v after o bs at p = absurd p
@@ -122,34 +141,41 @@ abbrev pub world : SettingsFields → List EdgeFields → List BundleFields → 
 world settings rs bs = fields_of settings (entries_of rs) bs
 
 module _ (settings : SettingsFields) (rs : List EdgeFields) (bs : List BundleFields) (sorted : T (map.is_sorted nat_cmp (entries_of rs))) (r i : ℕ) where
-  pub absent_at : IsGap nat_cmp (entries_of rs) r i → map.get (world settings rs bs).regions r ≡ None
+  pub absent_at : IsGap nat_cmp (entries_of rs) r i
+      → map.get (world settings rs bs).regions r ≡ None
   absent_at gap = get_at_gap nat_cmp_total (entries_of rs) sorted r i gap
 
   module _ (gap : IsGap nat_cmp (entries_of rs) r i) (p : EdgeFields) (is : p ≡ record { region = record { number = r; settings = settings; facts = empty_store }; terms = accept_all; sealed = false }) where
     -- the entries after a region that knows nothing is inserted
-    opened_entries : (new : List EdgeFields) → new ≡ insert rs i p → entries_of new ≡ insert (entries_of rs) i (r, empty_store)
+    opened_entries : (new : List EdgeFields) → new ≡ insert rs i p
+        → entries_of new ≡ insert (entries_of rs) i (r, empty_store)
     opened_entries new h = ap entries_of h ∙ entries_insert rs i p ∙ ap (λ x. insert (entries_of rs) i (entry_of x)) is
 
-    pub open_act : (o : Outcome) (new : List EdgeFields) → Opens rs i p o new → OpensAt (world settings rs bs) r o (world settings new bs)
+    pub open_act : (o : Outcome) (new : List EdgeFields) → Opens rs i p o new
+        → OpensAt (world settings rs bs) r o (world settings new bs)
     open_act Opened new h =
         (absent_at gap, ap (λ es. fields_of settings es bs) (opened_entries new h) ∙ ap (λ m. record { settings = settings; regions = m; bundles = bs }) (insert_at_gap nat_cmp_total (entries_of rs) sorted r i gap empty_store))
     open_act Memory new h = (absent_at gap, ap (λ xs. world settings xs bs) h)
     open_act o new h = absurd h
 
-    pub sorted_new : (o : Outcome) (new : List EdgeFields) → Opens rs i p o new → T (map.is_sorted nat_cmp (entries_of new))
+    pub sorted_new : (o : Outcome) (new : List EdgeFields) → Opens rs i p o new
+        → T (map.is_sorted nat_cmp (entries_of new))
     sorted_new Opened new h = subst (λ es. T (map.is_sorted nat_cmp es)) (sym (opened_entries new h)) (sorted_at_gap nat_cmp_total (entries_of rs) sorted r i gap empty_store)
     sorted_new Memory new h = subst (λ xs. T (map.is_sorted nat_cmp (entries_of xs))) (sym h) sorted
     sorted_new o new h = absurd h
 
-    pub settings_new : (o : Outcome) (new : List EdgeFields) → Opens rs i p o new → HaveSettings settings rs → HaveSettings settings new
+    pub settings_new : (o : Outcome) (new : List EdgeFields) → Opens rs i p o new
+        → HaveSettings settings rs → HaveSettings settings new
     settings_new Opened new h all = subst (HaveSettings settings) (sym h) (settings_insert settings rs i p (subst (IsOpen settings) (sym is) (refl, refl, refl)) all)
     settings_new Memory new h all = subst (HaveSettings settings) (sym h) all
     settings_new o new h all = absurd h
 
-  pub found_at : IsAt nat_cmp (entries_of rs) r i → IsSome (map.get (world settings rs bs).regions r)
+  pub found_at : IsAt nat_cmp (entries_of rs) r i
+      → IsSome (map.get (world settings rs bs).regions r)
   found_at at = found (map.get (world settings rs bs).regions r) (λ d. get_at_place nat_cmp_total (entries_of rs) sorted r i at d)
     where
-      found : (o : Option StoreFields) → ((d : ℕ × StoreFields) → o ≡ Some (get_or (entries_of rs) i d).1) → IsSome o
+      found : (o : Option StoreFields)
+          → ((d : ℕ × StoreFields) → o ≡ Some (get_or (entries_of rs) i d).1) → IsSome o
       found o h = ap is_some (h (0, empty_store))
 
   module _ (at : IsAt nat_cmp (entries_of rs) r i) (all : HaveSettings settings rs) (p : EdgeFields) (is : p ≡ get_or rs i p) where
@@ -192,7 +218,8 @@ module _ (settings : SettingsFields) (rs : List EdgeFields) (bs : List BundleFie
           ∙ ap (λ m. record { settings = settings; regions = m; bundles = bs }) (insert_at_place nat_cmp_total (entries_of rs) sorted r i at q.region.facts (entry_of p))
 
 -- carrying a request leaves the region's number, its settings, and whether the edge is open
-pub carried_number : {F : Type 0} (way : Way) (p q : EdgeFields) (asked : AskedFields) (o : Result Outcome F) → Carries way p asked o q → (q.region.number ≡ p.region.number) × IsAsOpen p q
+pub carried_number : {F : Type 0} (way : Way) (p q : EdgeFields) (asked : AskedFields) (o : Result Outcome F)
+    → Carries way p asked o q → (q.region.number ≡ p.region.number) × IsAsOpen p q
 carried_number {F = F} way p q asked o a = by o a
   where
     same : q ≡ p → (q.region.number ≡ p.region.number) × IsAsOpen p q
@@ -201,10 +228,12 @@ carried_number {F = F} way p q asked o a = by o a
       (ap (λ (x : EdgeFields). x.region.settings) e, ap (λ (x : EdgeFields). x.sealed) e, ap (λ (x : EdgeFields). x.terms) e),
     )
 
-    made : (heard : Arrival) → Makes p asked heard q → (q.region.number ≡ p.region.number) × IsAsOpen p q
+    made : (heard : Arrival) → Makes p asked heard q
+        → (q.region.number ≡ p.region.number) × IsAsOpen p q
     made heard m = (m.gains.number, (m.gains.settings, m.sealed, m.terms))
 
-    by : (o : Result Outcome F) → Carries way p asked o q → (q.region.number ≡ p.region.number) × IsAsOpen p q
+    by : (o : Result Outcome F) → Carries way p asked o q
+        → (q.region.number ≡ p.region.number) × IsAsOpen p q
     by (Ok (Reply status bytes)) a = made a.0 a.3
     by (Ok Memory) a = same a
     by (Ok o) a = absurd a
@@ -219,7 +248,8 @@ heard_answer terms r new asked seen (came, is, told) =
     (came, is, answers_alone terms r asked.now asked.words came (Ok seen) new (all_heard (plain Admin) asked.bytes came is) told)
 
 -- if no path of `/sync/` is served, running out of memory leaves the region unchanged
-pub untouched : (p q : EdgeFields) (now : ℕ) (bytes : List ℕ) → q.sealed ≡ p.sealed → q.terms ≡ p.terms
+pub untouched : (p q : EdgeFields) (now : ℕ) (bytes : List ℕ) → q.sealed ≡ p.sealed
+    → q.terms ≡ p.terms
     → IsShort (plain Admin) p.terms now (Some bytes) p.region q.region → q ≡ p
 untouched p q now bytes sealed ahead (inl same) =
     ap (λ (r : RegionFields). record { region = r; terms = q.terms; sealed = q.sealed }) same
@@ -231,7 +261,8 @@ untouched p q now bytes sealed ahead (inr (sent, arrives, taken, took)) = absurd
     clash e = cc
 
 -- the answer of an edge, by what contracts see of it
-pub answered_part : (p q : EdgeFields) (asked : AskedFields) (told seen : AnswerFields) → told ≡ seen → q.sealed ≡ p.sealed → q.terms ≡ p.terms
+pub answered_part : (p q : EdgeFields) (asked : AskedFields) (told seen : AnswerFields)
+    → told ≡ seen → q.sealed ≡ p.sealed → q.terms ≡ p.terms
     → ((came : Arrival) × IsArrival (plain Admin) asked.bytes came × Answers p.terms p.region asked.now asked.words came (Ok seen) q.region)
     → (heard : Arrival) × IsHeard asked.bytes heard × IsReplied (answer_at p.terms p.region asked.now asked.words heard) told.status told.bytes × Makes p asked heard q
 answered_part p q asked told seen is sealed ahead came =
@@ -242,22 +273,29 @@ answered_part p q asked told seen is sealed ahead came =
       record { gains = a.2.1; next = a.2.2; sealed = sealed; terms = ahead },
     )
 
-pub taken_number : (p q : EdgeFields) (b : BundleFields) (o : Outcome) → TakesBundle p.region b o q.region → q.sealed ≡ p.sealed → q.terms ≡ p.terms → (q.region.number ≡ p.region.number) × IsAsOpen p q
+pub taken_number : (p q : EdgeFields) (b : BundleFields) (o : Outcome)
+    → TakesBundle p.region b o q.region → q.sealed ≡ p.sealed → q.terms ≡ p.terms
+    → (q.region.number ≡ p.region.number) × IsAsOpen p q
 taken_number p q b (Took n) t sealed terms = (t.0.number, (t.0.settings, sealed, terms))
 taken_number p q b Memory t sealed terms = (t.0.number, (t.0.settings, sealed, terms))
 taken_number p q b o t sealed terms = absurd t
 
-pub pruned_number : (p q : EdgeFields) (moment : ℕ) (o : Outcome) → PrunesTo p.region moment o q.region → q.sealed ≡ p.sealed → q.terms ≡ p.terms → (q.region.number ≡ p.region.number) × IsAsOpen p q
+pub pruned_number : (p q : EdgeFields) (moment : ℕ) (o : Outcome)
+    → PrunesTo p.region moment o q.region → q.sealed ≡ p.sealed → q.terms ≡ p.terms
+    → (q.region.number ≡ p.region.number) × IsAsOpen p q
 pruned_number p q moment (Pruned n) t sealed terms = (t.0.number, (t.0.settings, sealed, terms))
 pruned_number p q moment Memory t sealed terms = (ap (λ (r : RegionFields). r.number) t, (ap (λ (r : RegionFields). r.settings) t, sealed, terms))
 pruned_number p q moment o t sealed terms = absurd t
 
-pub sliced_number : (p q : EdgeFields) (moment : ℕ) (after : Option Dot) (count : ℕ) (o : Outcome) → PrunesSomeTo p.region moment after count o q.region → q.sealed ≡ p.sealed → q.terms ≡ p.terms → (q.region.number ≡ p.region.number) × IsAsOpen p q
+pub sliced_number : (p q : EdgeFields) (moment : ℕ) (after : Option Dot) (count : ℕ) (o : Outcome)
+    → PrunesSomeTo p.region moment after count o q.region → q.sealed ≡ p.sealed → q.terms ≡ p.terms
+    → (q.region.number ≡ p.region.number) × IsAsOpen p q
 sliced_number p q moment place count (PrunedSome slice) t sealed terms = (t.0.number, (t.0.settings, sealed, terms))
 sliced_number p q moment place count o t sealed terms = absurd t
 
 -- ---- the end of a call
 
 -- what holds of the fields before and after holds of the world
-pub ended : (P : WorldFields → WorldFields → Type 0) (s new' : WorldFields) → P s new' → (new : WorldFields) → new ≡ new' → (old : WorldFields) → s ≡ old → P old new
+pub ended : (P : WorldFields → WorldFields → Type 0) (s new' : WorldFields) → P s new'
+    → (new : WorldFields) → new ≡ new' → (old : WorldFields) → s ≡ old → P old new
 ended P s new' h new same old seen_as = subst (λ w. P w new) seen_as (subst (P s) (sym same) h)

@@ -5,10 +5,14 @@
 --   revoked_inactive    a token that its client revoked is inactive
 --   families_inactive   each token of a family with a bad grant is inactive
 use Rattle.std.proofs.lemmas.Bool.Decides.{nat_tests}
-use Rattle.std.proofs.Common.{false, cond, nat_lt, arith, ◌≡◌, ◌≤◌, ℕ, zero, suc, List, [], ◌∷◌, take, slice_get, Option, Some, None, refl, sym, ap, subst, ◌∙◌}
+use Rattle.std.proofs.Common.{false, cond, nat_lt, arith, inl, inr, ◌≡◌, ◌≤◌, ℕ, zero, suc, List}
+use Rattle.std.proofs.Common.{[], ◌∷◌, take, slice_get, Option, Some, None, refl, sym, ap, subst}
+use Rattle.std.proofs.Common.{◌∙◌}
 use Rattle.std.specs.FinMap as map
 use Rattle.std.specs.Option.{option_map_or}
+use Rattle.tk_handle.specs.declared.dot.Dot.{Dot}
 use Rattle.tk_handle.specs.declared.handle.Handle.{Handle}
+use Rattle.tk_fact.specs.declared.body.Body.{Body}
 use Rattle.tk_store.specs.FactSet.{FactSet, Facts}
 use Rattle.tk_store.specs.StoreFields.{StoreFields, held_facts}
 use Rattle.tk_store.specs.WholeStores.{whole_store}
@@ -16,7 +20,7 @@ use Rattle.tk_store.proofs.PutLaws.{none_is_not_some, some_injective}
 use Rattle.tk_ledger.specs.Status.{IsActive}
 use Rattle.tk_ledger.proofs.FamilyEnds as ends
 use Rattle.tk_message.specs.declared.request.Endpoint.{Endpoint}
-use Rattle.tk_message.specs.declared.request.Endpoint.TheVariants.{Introspect}
+use Rattle.tk_message.specs.declared.request.Endpoint.TheVariants.{Introspect, Revoke}
 use Rattle.tk_message.specs.RequestFields.{RequestFields}
 use Rattle.tk_query.specs.Introspection.{introspection_of}
 use Rattle.tk_query.proofs.ActiveLaws.{says_nothing}
@@ -25,6 +29,8 @@ use Rattle.tk_region.specs.RegionFields.{RegionFields, place_in}
 use Rattle.tk_region.specs.SettingsFields.{SettingsFields}
 use Rattle.tk_region.specs.Step.{PreparedFields, early_in, prepared_by}
 use Rattle.tk_edge.specs.Answers.{answer_by, rendered}
+use Rattle.tk_edge.specs.Told.{AnswerFields}
+use Rattle.tk_edge.specs.declared.hear.Arrival.{Arrival}
 use Rattle.tk_edge.specs.declared.hear.Arrival.TheVariants.{Request as Asked}
 use Rattle.tk_edge.specs.Paths.{plain}
 use Rattle.tk_edge.specs.declared.reach.PathSet.TheVariants.{Admin}
@@ -33,9 +39,11 @@ use Rattle.tk_world.specs.declared.event.Event.{Event}
 use Rattle.tk_world.specs.declared.event.Event.TheVariants.{Request}
 use Rattle.tk_world.specs.declared.event.Outcome.{Outcome}
 use Rattle.tk_world.specs.declared.event.Outcome.TheVariants.{Reply}
-use Rattle.tk_world.specs.Promises.{held_before, TellsOfSets, IntrospectAlike, IsInactive, RevokedInactive, FamiliesInactive}
+use Rattle.tk_world.specs.Promises.{held_before, TellsOfSets, IntrospectAlike, IsInactive}
+use Rattle.tk_world.specs.Promises.{RevokedInactive, FamiliesInactive}
 use Rattle.tk_world.specs.State.{Kept, State, region_with}
 use Rattle.tk_world.specs.Carrying.{in_place, IsReplied}
+use Rattle.tk_world.specs.Told.{TellsBy}
 use Rattle.tk_world.specs.World.{Step, Run, state_before}
 use Rattle.tk_world.proofs.RunLaws.{run_joins, run_settings}
 
@@ -48,7 +56,8 @@ record At (old : State) (es : List Event) (os : List Outcome) (ss : List Facts) 
   run : Run old (take i es) (take i os) (take i ss) (state_before in_place old es os ss new all i)
   step : Step (state_before in_place old es os ss new all i) e o seen next
 
-run_at : (old : State) (es : List Event) (os : List Outcome) (ss : List Facts) (new : State) (run : Run old es os ss new) (i : ℕ) (e : Event) (o : Outcome) → slice_get es i ≡ Some e → slice_get os i ≡ Some o → At old es os ss new run i e o
+run_at : (old : State) (es : List Event) (os : List Outcome) (ss : List Facts) (new : State) (run : Run old es os ss new) (i : ℕ) (e : Event) (o : Outcome)
+    → slice_get es i ≡ Some e → slice_get os i ≡ Some o → At old es os ss new run i e o
 run_at old [] [] [] new run zero e o he ho = absurd (none_is_not_some e he)
 run_at old [] [] [] new run (suc i) e o he ho = absurd (none_is_not_some e he)
 run_at old (x ∷ es) (y ∷ os) (s ∷ ss) new run zero e o he ho = record {
@@ -69,7 +78,8 @@ never_before now horizon h = grind (arith, nat_tests, h)
 
 -- from the horizon on, the reply to an introspection request doesn't depend on the cap, since no
 -- fact is made
-introspects : (s : State) (n : ℕ) (k : Kept) (now : ℕ) (words : List ℕ) (request : RequestFields) → k.horizon ≤ now → request.endpoint ≡ Introspect
+introspects : (s : State) (n : ℕ) (k : Kept) (now : ℕ) (words : List ℕ) (request : RequestFields)
+    → k.horizon ≤ now → request.endpoint ≡ Introspect
     → answer_by (region_with s n k) now words (Asked request) ≡ rendered (introspection_of (whole_store k.facts) s.settings.choices.refresh_seen now request) None None
 introspects s n k now words request soon h =
     let r : RegionFields = region_with s n k in
@@ -77,13 +87,30 @@ introspects s n k now words request soon h =
     ap (λ t. let p : PreparedFields = cond t (early_in (place_in r)) (by request.endpoint) in rendered p.reply None p.logged) (never_before now k.horizon soon)
     ∙ ap (λ (e : Endpoint). rendered (by e).reply None (by e).logged) h
 
+-- the endpoint of what was heard
+abbrev endpoint_in : Arrival → Option Endpoint
+endpoint_in (Asked request) = Some request.endpoint
+endpoint_in heard = None
+
+-- what is told of an introspection is no revocation
+telling : (x : RegionFields) (F : FactSet) (now : ℕ) (words : List ℕ) (heard : Arrival) (request : RequestFields) (answer : AnswerFields) (fact : Option (Dot × Body))
+    → heard ≡ Asked request → request.endpoint ≡ Introspect
+    → TellsBy x F now words heard answer fact
+    → answer ≡ answer_by x now words (Asked request)
+telling x F now words heard request answer fact one introspects (inl same) = same.0 ∙ ap (answer_by x now words) one
+telling x F now words heard request answer fact one introspects (inr anew) =
+    let two : Some Revoke ≡ Some Introspect =
+    sym (ap (λ (e : Endpoint). Some e) anew.revokes) ∙ sym (ap endpoint_in anew.is) ∙ ap endpoint_in one ∙ ap (λ (e : Endpoint). Some e) introspects in
+    absurd (cc)
+
 abbrev facts_of : Option Kept → FactSet
 facts_of o = option_map_or (λ k. k.facts) o map.empty
 
 abbrev horizon_of : Option Kept → ℕ
 horizon_of o = option_map_or (λ k. k.horizon) o 0
 
-pub tells_of_sets : (old : State) (es : List Event) (os : List Outcome) (ss : List Facts) (new : State) (run : Run old es os ss new) → TellsOfSets old es os ss new run
+pub tells_of_sets : (old : State) (es : List Event) (os : List Outcome) (ss : List Facts) (new : State) (run : Run old es os ss new)
+    → TellsOfSets old es os ss new run
 tells_of_sets old es os ss new run i r now request status reply q from =
     let mid : State = state_before in_place old es os ss new run i in
     let at : At old es os ss new run i (Request r now q.words q.bytes) (Reply status q.written) = run_at old es os ss new run i (Request r now q.words q.bytes) (Reply status q.written) q.asked q.answered in
@@ -92,12 +119,13 @@ tells_of_sets old es os ss new run i r now request status reply q from =
     let held : k.facts ≡ held_before old es ss i r = ap facts_of (sym at.step.1.is_open) ∙ joins.joins in
     let soon : k.horizon ≤ now = subst (λ h. h ≤ now) (ap horizon_of at.step.1.is_open) from in
     let one : at.step.2 ≡ Asked request = has_one_meaning (plain Admin) q.bytes.items at.step.2 (Asked request) at.step.3 q.heard in
-    let told = ap (answer_by (region_with mid r k) now q.words) one ∙ introspects mid r k now q.words request soon q.introspects
+    let told = telling (region_with mid r k) k.facts now q.words at.step.2 request at.step.4 at.step.5 one q.introspects at.step.6 ∙ introspects mid r k now q.words request soon q.introspects
     ∙ ap (λ (x : SettingsFields). rendered (introspection_of (whole_store k.facts) x.choices.refresh_seen now request) None None) (run_settings in_place old (take i es) (take i os) (take i ss) mid at.run)
     ∙ ap (λ G. rendered (introspection_of (whole_store G) old.settings.choices.refresh_seen now request) None None) held in
-    subst (λ a. IsReplied a status reply) told (at.step.4.0, sym q.replied ∙ at.step.4.1)
+    subst (λ a. IsReplied a status reply) told (at.step.7.0, sym q.replied ∙ at.step.7.1)
 
-pub introspect_alike : (old : State) (es : List Event) (os : List Outcome) (ss : List Facts) (new : State) (run : Run old es os ss new) → IntrospectAlike old es os ss new run
+pub introspect_alike : (old : State) (es : List Event) (os : List Outcome) (ss : List Facts) (new : State) (run : Run old es os ss new)
+    → IntrospectAlike old es os ss new run
 introspect_alike old es os ss new run i j q r now request s t one two a b from_one from_two same =
     let here = tells_of_sets old es os ss new run i q now request s one a from_one in
     let there = subst (λ G. IsReplied (rendered (introspection_of (whole_store G) old.settings.choices.refresh_seen now request) None None) t two) (sym same) (tells_of_sets old es os ss new run j r now request t two b from_two) in
@@ -105,7 +133,8 @@ introspect_alike old es os ss new run i j q r now request s t one two a b from_o
 
 -- ---- inactive tokens
 
-inactive : (P : StoreFields) (h : Handle) → ((now : ℕ) → ¬ IsActive (map.get (held_facts P)) now h) → IsInactive P h
+inactive : (P : StoreFields) (h : Handle) → ((now : ℕ) → ¬ IsActive (map.get (held_facts P)) now h)
+    → IsInactive P h
 inactive P h never now = (never now, λ seen client_kind asker. says_nothing P seen now client_kind asker h (never now))
 
 pub revoked_inactive : (store : ℕ → StoreFields) → RevokedInactive store

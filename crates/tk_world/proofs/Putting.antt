@@ -2,7 +2,9 @@
 --   lines_more    a write of lines goes on
 --   lines_failed  a write of lines that fails leaves a beginning
 --   lines_end     the lines of all events or outcomes are all lines
-use Rattle.std.proofs.Common.{◌≡◌, ℕ, min, zero, suc, ◌+◌, ◌<◌, ◌≤◌, List, [], ◌∷◌, ◌++◌, length, take, drop, get_or, Option, refl, sym, ap, subst, ◌∙◌, append_assoc, append-nil, add-one, arith}
+use Rattle.std.proofs.Common.{◌≡◌, ℕ, min, zero, suc, ◌+◌, ◌<◌, ◌≤◌, List, [], ◌∷◌, ◌++◌, length}
+use Rattle.std.proofs.Common.{take, drop, get_or, Option, refl, sym, ap, subst, ◌∙◌, append_assoc}
+use Rattle.std.proofs.Common.{append-nil, add-one, arith}
 use Rattle.std.proofs.KnownBytes.{Appends-trans}
 use Rattle.std.specs.Io.KnownBytes.{Appends}
 use Rattle.tk_put.specs.Put.{AppendsFront}
@@ -11,7 +13,8 @@ use Rattle.tk_world.specs.declared.event.Event.{Event}
 use Rattle.tk_world.specs.declared.event.Outcome.{Outcome}
 use Rattle.tk_world.specs.Printed.{line_text, lines_text}
 
-lines_at : (es : List Event) (os : List Outcome) (i : ℕ) (e : Event) (o : Outcome) → i < length es → i < length os → e ≡ get_or es i e → o ≡ get_or os i o
+lines_at : (es : List Event) (os : List Outcome) (i : ℕ) (e : Event) (o : Outcome) → i < length es
+    → i < length os → e ≡ get_or es i e → o ≡ get_or os i o
     → lines_text es os ≡ lines_text (take i es) (take i os) ++ (line_text (e, o) ++ lines_text (drop (suc i) es) (drop (suc i) os))
 lines_at [] os i e o l m p q = absurd (omega arith)
 lines_at (x ∷ es) [] i e o l m p q = absurd (omega arith)
@@ -20,7 +23,8 @@ lines_at (x ∷ es) (y ∷ os) (suc i) e o l m p q =
     ap (λ t. line_text (x, y) ++ t) (lines_at es os i e o (omega arith) (omega arith) p q)
     ∙ sym (append_assoc (line_text (x, y)) (lines_text (take i es) (take i os)) (line_text (e, o) ++ lines_text (drop (suc i) es) (drop (suc i) os)))
 
-lines_to : (es : List Event) (os : List Outcome) (i : ℕ) (e : Event) (o : Outcome) → i < length es → i < length os → e ≡ get_or es i e → o ≡ get_or os i o
+lines_to : (es : List Event) (os : List Outcome) (i : ℕ) (e : Event) (o : Outcome) → i < length es
+    → i < length os → e ≡ get_or es i e → o ≡ get_or os i o
     → lines_text (take i es) (take i os) ++ line_text (e, o) ≡ lines_text (take (suc i) es) (take (suc i) os)
 lines_to [] os i e o l m p q = absurd (omega arith)
 lines_to (x ∷ es) [] i e o l m p q = absurd (omega arith)
@@ -29,16 +33,19 @@ lines_to (x ∷ es) (y ∷ os) zero e o l m p q =
 lines_to (x ∷ es) (y ∷ os) (suc i) e o l m p q =
     append_assoc (line_text (x, y)) (lines_text (take i es) (take i os)) (line_text (e, o)) ∙ ap (λ t. line_text (x, y) ++ t) (lines_to es os i e o (omega arith) (omega arith) p q)
 
-pub lines_more : (old mid new : Option (List ℕ)) (es : List Event) (os : List Outcome) (i : ℕ) (e : Event) (o : Outcome) → i < length es → i < length os → e ≡ get_or es i e → o ≡ get_or os i o
+pub lines_more : (old mid new : Option (List ℕ)) (es : List Event) (os : List Outcome) (i : ℕ) (e : Event) (o : Outcome)
+    → i < length es → i < length os → e ≡ get_or es i e → o ≡ get_or os i o
     → Appends old mid (lines_text (take i es) (take i os)) → Appends mid new (line_text (e, o)) → Appends old new (lines_text (take (i + 1) es) (take (i + 1) os))
 lines_more old mid new es os i e o l m p q before here = rw add-one (subst (Appends old new) (lines_to es os i e o l m p q) (Appends-trans old mid new _ _ before here))
 
-pub lines_failed : (old mid new : Option (List ℕ)) (es : List Event) (os : List Outcome) (i : ℕ) (e : Event) (o : Outcome) → i < length es → i < length os → e ≡ get_or es i e → o ≡ get_or os i o
+pub lines_failed : (old mid new : Option (List ℕ)) (es : List Event) (os : List Outcome) (i : ℕ) (e : Event) (o : Outcome)
+    → i < length es → i < length os → e ≡ get_or es i e → o ≡ get_or os i o
     → Appends old mid (lines_text (take i es) (take i os)) → AppendsFront mid new (line_text (e, o)) → AppendsFront old new (lines_text es os)
 lines_failed old mid new es os i e o l m p q before here = front_more old mid new _ (line_text (e, o)) _ _ before here (lines_at es os i e o l m p q)
 
 -- the lines of all events, or of all outcomes, are all lines
-pub lines_end : (es : List Event) (os : List Outcome) (n : ℕ) → min (length es) (length os) ≤ n → lines_text (take n es) (take n os) ≡ lines_text es os
+pub lines_end : (es : List Event) (os : List Outcome) (n : ℕ) → min (length es) (length os) ≤ n
+    → lines_text (take n es) (take n os) ≡ lines_text es os
 lines_end [] os n le = nothing n
   where
     nothing : (k : ℕ) → lines_text (take {A = Event} k []) (take k os) ≡ []

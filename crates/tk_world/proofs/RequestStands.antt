@@ -2,7 +2,8 @@
 --   asked_for          it is a request at the state, with the same outcome
 --   request_standing   the world still stands for a state, also if the request was lost
 --   answers_for        from its horizon on, a region answers as one that holds all its facts
-use Rattle.std.proofs.Common.{◌≡◌, inl, inr, ℕ, ◌≤◌, nat_lt, List, [], ◌∷◌, Option, Some, None, IfSome, Result, Ok, Err, refl, sym, ap, subst, ◌∙◌, arith}
+use Rattle.std.proofs.Common.{◌≡◌, inl, inr, ℕ, ◌≤◌, nat_lt, List, [], ◌∷◌, Option, Some, None}
+use Rattle.std.proofs.Common.{IfSome, Result, Ok, Err, refl, sym, ap, subst, ◌∙◌, arith}
 use Rattle.std.proofs.lemmas.Bool.Decides.{nat_tests}
 use Rattle.std.specs.FinMap as map
 use Rattle.tk_handle.specs.declared.dot.Dot.{Dot}
@@ -19,9 +20,9 @@ use Rattle.tk_region.specs.SettingsFields.{SettingsFields}
 use Rattle.tk_region.specs.Step.{listed, IsNextFact}
 use Rattle.tk_region.proofs.CapLaws.{next_unknown}
 use Rattle.tk_edge.specs.Answers.{answer_by, fact_by}
-use Rattle.tk_edge.specs.Told.{AnswerFields}
 use Rattle.tk_edge.specs.declared.hear.Arrival.{Arrival}
-use Rattle.tk_edge.specs.declared.hear.Arrival.TheVariants.{Silence, Refused, Request as Asked, Exchange, Notice}
+use Rattle.tk_edge.specs.declared.hear.Arrival.TheVariants.{Silence, Refused, Request as Asked}
+use Rattle.tk_edge.specs.declared.hear.Arrival.TheVariants.{Exchange, Notice}
 use Rattle.tk_retention.specs.StandsFor.{SlotStands, StandsFor, AddsOne, MeetsFamily}
 use Rattle.tk_retention.proofs.KeepingLaws.{stands_more, fact_stands, sound_stays}
 use Rattle.tk_retention.proofs.MadeLaws.{made_meets}
@@ -34,11 +35,13 @@ use Rattle.tk_world.specs.Broken.{Loses, Requests}
 use Rattle.tk_world.specs.Carrying.{Way}
 use Rattle.tk_world.specs.Headline.{AnswersFor, unpruned}
 use Rattle.tk_world.specs.State.{Kept, State, with_region, region_with, kept_store}
+use Rattle.tk_world.specs.Told.{TellsBy}
 use Rattle.tk_world.specs.World.{IsAnswer}
 use Rattle.tk_world.specs.WorldFields.{WorldFields, with_store, region_at}
 use Rattle.tk_world.specs.WorldStands.{WorldStands, IsStanding}
-use Rattle.tk_world.proofs.AlikeLaws.{kept_stands, answers_same, facts_same}
-use Rattle.tk_world.proofs.ConsistencyLaws.{consists_kept, consists_made, free_everywhere, subset_more}
+use Rattle.tk_world.proofs.AlikeLaws.{tells_by}
+use Rattle.tk_world.proofs.ConsistencyLaws.{consists_kept, consists_made, free_everywhere}
+use Rattle.tk_world.proofs.ConsistencyLaws.{subset_more}
 use Rattle.tk_world.proofs.StandsLaws.{open_for, closed_for, some_for, stands_put, unchanged_stands}
 
 -- ---- a request
@@ -74,32 +77,24 @@ module _ (w : WorldFields) (U : FactSet) (s : State) (S : WorldStands w U s) (r 
     both : nat_lt now P.horizon ≡ nat_lt now kept.horizon
     both = ap (nat_lt now) (sym level)
 
-    pub answer_for : answer_by (region_at w r P) now words heard ≡ answer_by (region_with s r kept) now words heard
-    answer_for =
-        answers_same r w.settings U stood P (kept_store kept) stands (kept_stands kept U within) S.sound now words both heard
-        ∙ ap (λ (x : RegionFields). answer_by x now words heard) (whole_is kept)
-
-    pub fact_for : fact_by (region_at w r P) now words heard ≡ fact_by (region_with s r kept) now words heard
-    fact_for =
-        facts_same r w.settings U stood P (kept_store kept) stands (kept_stands kept U within) S.sound now words both heard
-        ∙ ap (λ (x : RegionFields). fact_by x now words heard) (whole_is kept)
+    -- it answers, and makes, what the region with all facts does, or revokes anew
+    pub tells_for : TellsBy (region_with s r kept) stood now words heard (answer_by (region_at w r P) now words heard) (fact_by (region_at w r P) now words heard)
+    tells_for =
+        subst (λ (x : RegionFields). TellsBy x stood now words heard (answer_by (region_at w r P) now words heard) (fact_by (region_at w r P) now words heard)) (whole_is kept)
+        (tells_by r w.settings U P kept stands within S.sound now words both heard)
 
     module _ (soon : P.horizon ≤ now) where
       neither : nat_lt now P.horizon ≡ nat_lt now 0
       neither = grind (arith, nat_tests, soon)
 
-      pub answer_unpruned : answer_by (region_at w r P) now words heard ≡ answer_by (region_with s r (unpruned kept)) now words heard
-      answer_unpruned =
-          answers_same r w.settings U stood P (kept_store (unpruned kept)) stands (kept_stands (unpruned kept) U within) S.sound now words neither heard
-          ∙ ap (λ (x : RegionFields). answer_by x now words heard) (whole_is (unpruned kept))
-
-      pub fact_unpruned : fact_by (region_at w r P) now words heard ≡ fact_by (region_with s r (unpruned kept)) now words heard
-      fact_unpruned =
-          facts_same r w.settings U stood P (kept_store (unpruned kept)) stands (kept_stands (unpruned kept) U within) S.sound now words neither heard
-          ∙ ap (λ (x : RegionFields). fact_by x now words heard) (whole_is (unpruned kept))
+      pub tells_unpruned : TellsBy (region_with s r (unpruned kept)) stood now words heard (answer_by (region_at w r P) now words heard) (fact_by (region_at w r P) now words heard)
+      tells_unpruned =
+          subst (λ (x : RegionFields). TellsBy x stood now words heard (answer_by (region_at w r P) now words heard) (fact_by (region_at w r P) now words heard)) (whole_is (unpruned kept))
+          (tells_by r w.settings U P (unpruned kept) stands within S.sound now words neither heard)
 
   -- what a region makes meets its family
-  fact_meets : (now : ℕ) (words : List ℕ) (heard : Arrival) (V : FactSet) → IfSome (fact_by (region_at w r P) now words heard) (λ f. AddsOne U f.0 f.1 V → MeetsFamily U f.0 V)
+  fact_meets : (now : ℕ) (words : List ℕ) (heard : Arrival) (V : FactSet)
+      → IfSome (fact_by (region_at w r P) now words heard) (λ f. AddsOne U f.0 f.1 V → MeetsFamily U f.0 V)
   fact_meets now words Silence V = tt
   fact_meets now words (Refused why) V = tt
   fact_meets now words (Asked request) V = made_meets (region_at w r P) U V now words request (held_made P U stood stands)
@@ -113,7 +108,9 @@ module _ (w : WorldFields) (U : FactSet) (s : State) (S : WorldStands w U s) (r 
     joins : JoinsFacts stood (listed o) grown
     stays : WorldStands (with_store w r (with_made P o)) made (with_region s r (record { facts = grown; horizon = kept.horizon }))
 
-  made_for : (o : Option (Dot × Body)) → ((V : FactSet) → IfSome o (λ f. AddsOne U f.0 f.1 V → MeetsFamily U f.0 V)) → IfSome o (IsNextFact (region_at w r P)) → MadeFor o
+  made_for : (o : Option (Dot × Body))
+      → ((V : FactSet) → IfSome o (λ f. AddsOne U f.0 f.1 V → MeetsFamily U f.0 V))
+      → IfSome o (IsNextFact (region_at w r P)) → MadeFor o
   made_for None meets next = record {
     made = U;
     grown = stood;
@@ -150,7 +147,9 @@ pub record AnswerFor (way : Way) (s : State) (r : ℕ) (asked : AskedFields) (o 
   pub answer : IsAnswer way s r asked o seen after
   pub stands : WorldStands new made after
 
-pub asked_for : (way : Way) (w : WorldFields) (r : ℕ) (asked : AskedFields) (o : Outcome) (new : WorldFields) → AnswersAt way w r asked o new → (U : FactSet) (s : State) → WorldStands w U s → AnswerFor way s r asked o new
+pub asked_for : (way : Way) (w : WorldFields) (r : ℕ) (asked : AskedFields) (o : Outcome) (new : WorldFields)
+    → AnswersAt way w r asked o new → (U : FactSet) (s : State) → WorldStands w U s
+    → AnswerFor way s r asked o new
 asked_for way w r asked (Reply status bytes) new act U s S =
     let P = act.0 in
     let heard = act.1 in
@@ -165,8 +164,11 @@ asked_for way w r asked (Reply status bytes) new act U s S =
         record { is_open = (open_for w U s S r P at).at; grown = m.grown; joins = m.joins; changes = refl },
         heard,
         act.2,
-        subst (λ (a : AnswerFields). way.Shows a status bytes.items) (answer_for w U s S r P at asked.now asked.words heard) act.3,
-        ap listed (fact_for w U s S r P at asked.now asked.words heard),
+        answer_by (region_at w r P) asked.now asked.words heard,
+        fact_by (region_at w r P) asked.now asked.words heard,
+        tells_for w U s S r P at asked.now asked.words heard,
+        act.3,
+        refl,
       );
       stands = unchanged_stands _ new m.made _ act.4.0.changes m.stays;
     }
@@ -175,20 +177,23 @@ asked_for way w r asked Memory new act U s S = record { seen = []; made = U; aft
 asked_for way w r asked o new act U s S = absurd act
 
 -- a request leaves a world that stands for a state
-pub asked_standing : (way : Way) (w : WorldFields) (r : ℕ) (asked : AskedFields) (o : Outcome) (new : WorldFields) → AnswersAt way w r asked o new → IsStanding w → IsStanding new
+pub asked_standing : (way : Way) (w : WorldFields) (r : ℕ) (asked : AskedFields) (o : Outcome) (new : WorldFields)
+    → AnswersAt way w r asked o new → IsStanding w → IsStanding new
 asked_standing way w r asked o new act standing =
     let x = asked_for way w r asked o new act standing.0 standing.1 standing.2 in
     (x.made, x.after, x.stands)
 
 -- a request that was lost leaves a world that stands for a state
-pub lost_for : (way : Way) (w : WorldFields) (r : ℕ) (asked : AskedFields) (new : WorldFields) → Loses way w r asked new → IsStanding w → IsStanding new
+pub lost_for : (way : Way) (w : WorldFields) (r : ℕ) (asked : AskedFields) (new : WorldFields)
+    → Loses way w r asked new → IsStanding w → IsStanding new
 lost_for way w r asked new (inl same) standing = subst IsStanding (sym same) standing
 lost_for way w r asked new (inr (P, heard, hears, act)) standing =
     let m = made_for w standing.0 standing.1 standing.2 r P act.0.is_open (fact_by (region_at w r P) asked.now asked.words heard) (fact_meets w standing.0 standing.1 standing.2 r P act.0.is_open asked.now asked.words heard) act.1 in
     (m.made, _, unchanged_stands _ new m.made _ act.0.changes m.stays)
 
 -- how a request ended leaves a world that stands for a state
-pub request_standing : {F : Type 0} (way : Way) (w : WorldFields) (r : ℕ) (asked : AskedFields) (o : Result Outcome F) (new : WorldFields) → Requests way w r asked o new → IsStanding w → IsStanding new
+pub request_standing : {F : Type 0} (way : Way) (w : WorldFields) (r : ℕ) (asked : AskedFields) (o : Result Outcome F) (new : WorldFields)
+    → Requests way w r asked o new → IsStanding w → IsStanding new
 request_standing way w r asked (Ok o) new h standing = asked_standing way w r asked o new h standing
 request_standing way w r asked (Err fault) new h standing = lost_for way w r asked new h standing
 
@@ -196,7 +201,6 @@ request_standing way w r asked (Err fault) new h standing = lost_for way w r ask
 pub answers_for : (w : WorldFields) (U : FactSet) (s : State) → WorldStands w U s → AnswersFor w s
 answers_for w U s S r P k at is now soon words heard =
     let x = open_for w U s S r P at in
-    let same : x.k ≡ k = some_injective x.k k (sym x.at ∙ is) in (
-      answer_unpruned w U s S r P at now words heard soon ∙ ap (λ (j : Kept). answer_by (region_with s r (unpruned j)) now words heard) same,
-      fact_unpruned w U s S r P at now words heard soon ∙ ap (λ (j : Kept). fact_by (region_with s r (unpruned j)) now words heard) same,
-    )
+    let same : x.k ≡ k = some_injective x.k k (sym x.at ∙ is) in
+    subst (λ (j : Kept). TellsBy (region_with s r (unpruned j)) j.facts now words heard (answer_by (region_at w r P) now words heard) (fact_by (region_at w r P) now words heard)) same
+    (tells_unpruned w U s S r P at now words heard soon)

@@ -29,7 +29,8 @@ use Rattle.tk_world.proofs.ConsistencyLaws.{region_of_get, new_consists}
 use Rattle.tk_world.proofs.ItemLaws.{bundles_more}
 
 -- inserting the value that a map has changes nothing
-pub same_again : {A : Type 0} (m : map.FinMap nat_cmp A) (r : ℕ) (x : A) → map.get m r ≡ Some x → map.insert m r x ≡ m
+pub same_again : {A : Type 0} (m : map.FinMap nat_cmp A) (r : ℕ) (x : A) → map.get m r ≡ Some x
+    → map.insert m r x ≡ m
 same_again m r x at = map.same_map nat_cmp_total map.nat_cmp-IsAntisymmetric _ _ (λ q.
     region_of_get m r x q (λ o. o ≡ map.get m q) (λ same. sym at ∙ ap (map.get m) (sym same)) (λ _. refl))
 
@@ -42,21 +43,24 @@ pub record OpenFor (w : WorldFields) (U : FactSet) (s : State) (r : ℕ) (P : St
   pub stands : StandsFor P U k.facts
   pub horizon : k.horizon ≡ P.horizon
 
-pub open_for : (w : WorldFields) (U : FactSet) (s : State) → WorldStands w U s → (r : ℕ) (P : StoreFields) → map.get w.regions r ≡ Some P → OpenFor w U s r P
+pub open_for : (w : WorldFields) (U : FactSet) (s : State) → WorldStands w U s
+    → (r : ℕ) (P : StoreFields) → map.get w.regions r ≡ Some P → OpenFor w U s r P
 open_for w U s S r P at = by (map.get s.regions r) refl (subst (λ (o : Option StoreFields). RegionFor U o (map.get s.regions r)) at (S.regions r))
   where
     by : (o : Option Kept) → map.get s.regions r ≡ o → RegionFor U (Some P) o → OpenFor w U s r P
     by None is x = absurd x
     by (Some k) is x = record { k = k; at = is; stands = x.0; horizon = x.1 }
 
-pub closed_for : (w : WorldFields) (U : FactSet) (s : State) → WorldStands w U s → (r : ℕ) → map.get w.regions r ≡ None → map.get s.regions r ≡ None
+pub closed_for : (w : WorldFields) (U : FactSet) (s : State) → WorldStands w U s → (r : ℕ)
+    → map.get w.regions r ≡ None → map.get s.regions r ≡ None
 closed_for w U s S r at = by (map.get s.regions r) (subst (λ (o : Option StoreFields). RegionFor U o (map.get s.regions r)) at (S.regions r))
   where
     by : (o : Option Kept) → RegionFor U None o → o ≡ None
     by None x = refl
     by (Some k) x = absurd x
 
-pub some_for : (w : WorldFields) (U : FactSet) (s : State) → WorldStands w U s → (r : ℕ) → IsSome (map.get w.regions r) → IsSome (map.get s.regions r)
+pub some_for : (w : WorldFields) (U : FactSet) (s : State) → WorldStands w U s → (r : ℕ)
+    → IsSome (map.get w.regions r) → IsSome (map.get s.regions r)
 some_for w U s S r is = by (map.get w.regions r) (map.get s.regions r) (S.regions r) is
   where
     by : (o : Option StoreFields) (k : Option Kept) → RegionFor U o k → IsSome o → IsSome k
@@ -66,7 +70,9 @@ some_for w U s S r is = by (map.get w.regions r) (map.get s.regions r) (S.region
     by (Some P) (Some k) x is = refl
 
 -- a region's store and the facts for which it stands change
-pub stands_put : (w : WorldFields) (U V : FactSet) (s : State) (r : ℕ) (P : StoreFields) (k : Kept) → WorldStands w U s → IsSubset U V → Consists (with_region s r k) V → AreSound V → StandsFor P V k.facts → k.horizon ≡ P.horizon
+pub stands_put : (w : WorldFields) (U V : FactSet) (s : State) (r : ℕ) (P : StoreFields) (k : Kept)
+    → WorldStands w U s → IsSubset U V → Consists (with_region s r k) V → AreSound V
+    → StandsFor P V k.facts → k.horizon ≡ P.horizon
     → WorldStands (with_store w r P) V (with_region s r k)
 stands_put w U V s r P k S more consists sound stands level = record {
   settings = S.settings;
@@ -87,11 +93,13 @@ stands_put w U V s r P k S more consists sound stands level = record {
 
 -- ---- parts that stay
 
-pub unchanged_stands : (w new : WorldFields) (U : FactSet) (s : State) → new ≡ w → WorldStands w U s → WorldStands new U s
+pub unchanged_stands : (w new : WorldFields) (U : FactSet) (s : State) → new ≡ w → WorldStands w U s
+    → WorldStands new U s
 unchanged_stands w new U s same S = subst (λ (x : WorldFields). WorldStands x U s) (sym same) S
 
 -- setting the store that a region has changes nothing
-pub put_back : (w : WorldFields) (r : ℕ) (P : StoreFields) → map.get w.regions r ≡ Some P → with_store w r P ≡ w
+pub put_back : (w : WorldFields) (r : ℕ) (P : StoreFields) → map.get w.regions r ≡ Some P
+    → with_store w r P ≡ w
 put_back w r P at = ap (λ (m : map.FinMap nat_cmp StoreFields). record { settings = w.settings; regions = m; bundles = w.bundles }) (same_again w.regions r P at)
 
 abbrev pub no_facts : FactSet
@@ -106,7 +114,8 @@ abbrev no_kept : map.FinMap nat_cmp Kept
 no_kept = map.empty
 
 -- a world without regions and bundles
-pub new_stands : (settings : SettingsFields) → settings.cap ≤ greatest_cap → WorldStands (new_world settings) map.empty (new_state settings)
+pub new_stands : (settings : SettingsFields) → settings.cap ≤ greatest_cap
+    → WorldStands (new_world settings) map.empty (new_state settings)
 new_stands settings low = record {
   settings = refl;
   consists = new_consists settings low;

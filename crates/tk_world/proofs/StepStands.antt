@@ -4,7 +4,8 @@
 --   step_standing, pull_standing, deliver_standing, prune_standing, slice_standing
 --                                the world still stands for a state
 --   bundle_agrees, bundle_made   no region of a world refuses a bundle of that world
-use Rattle.std.proofs.Common.{◌≡◌, ◌⊎◌, inl, inr, ℕ, max, false, List, [], ◌∷◌, take, slice_get, Option, Some, None, is_some, refl, sym, ap, subst, ◌∙◌, arith}
+use Rattle.std.proofs.Common.{◌≡◌, ◌⊎◌, inl, inr, ℕ, max, false, List, [], ◌∷◌, take, slice_get}
+use Rattle.std.proofs.Common.{Option, Some, None, is_some, refl, sym, ap, subst, ◌∙◌, arith}
 use Rattle.std.specs.FinMap as map
 use Rattle.tk_handle.specs.declared.dot.Dot.{Dot}
 use Rattle.tk_vector.specs.VersionVector.{Vector}
@@ -12,7 +13,8 @@ use Rattle.tk_store.specs.FactSet.{FactSet, Facts, AllIn, with_facts}
 use Rattle.tk_store.specs.Joining.{JoinsFacts}
 use Rattle.tk_store.specs.StoreFields.{StoreFields, empty_store, with_skipped, with_horizon}
 use Rattle.tk_store.proofs.JoiningLaws.{joins_with_facts, joins_nothing}
-use Rattle.tk_store.proofs.SubsetLaws.{subset_itself, subset_with_facts, keeps_with_facts, AllIn-take, AllIn-subset}
+use Rattle.tk_store.proofs.SubsetLaws.{subset_itself, subset_with_facts, keeps_with_facts}
+use Rattle.tk_store.proofs.SubsetLaws.{AllIn-take, AllIn-subset}
 use Rattle.tk_ledger.specs.Slices.{Steps}
 use Rattle.tk_bundle.specs.BundleFields.{BundleFields}
 use Rattle.tk_bundle.specs.Page as bundles
@@ -23,9 +25,12 @@ use Rattle.tk_retention.specs.StandsFor.{StandsFor}
 use Rattle.tk_retention.proofs.KeepingLaws.{prune_stands}
 use Rattle.tk_retention.proofs.SliceStands.{slice_stands}
 use Rattle.tk_world.specs.declared.event.Event.{Event}
-use Rattle.tk_world.specs.declared.event.Event.TheVariants.{Open, Request, Pull, Deliver, Prune, PruneSome}
+use Rattle.tk_world.specs.declared.event.Event.TheVariants.{Open, Request, Pull, Deliver, Prune}
+use Rattle.tk_world.specs.declared.event.Event.TheVariants.{PruneSome}
 use Rattle.tk_world.specs.declared.event.Outcome.{Outcome}
-use Rattle.tk_world.specs.declared.event.Outcome.TheVariants.{Opened, NumberTaken, NoRegion, NoBundle, Bundle, Took, Pruned, PrunedSome, Memory}
+use Rattle.tk_world.specs.declared.event.Outcome.TheVariants.{Opened, NumberTaken, NoRegion}
+use Rattle.tk_world.specs.declared.event.Outcome.TheVariants.{NoBundle, Bundle, Took, Pruned}
+use Rattle.tk_world.specs.declared.event.Outcome.TheVariants.{PrunedSome, Memory}
 use Rattle.tk_world.specs.Acts.{OpensAt, PullsAt, DeliversAt, PrunesAt, PrunesSomeAt, ActBy}
 use Rattle.tk_world.specs.Carrying.{Way, in_place}
 use Rattle.tk_world.specs.Pages.{page_of}
@@ -34,11 +39,16 @@ use Rattle.tk_world.specs.World.{raised_to, IsPull, StepBy}
 use Rattle.tk_world.specs.WorldFields.{WorldFields, with_store, region_at}
 use Rattle.tk_world.specs.WorldStands.{BundleStands, WorldStands, IsStanding}
 use Rattle.tk_world.proofs.AlikeLaws.{stands_dots}
-use Rattle.tk_world.proofs.ConsistencyLaws.{AllIn-page, short_page, consists_kept, consists_opened, consists_bundle}
-use Rattle.tk_world.proofs.ItemLaws.{page_items, page_horizon, page_length, page_last, page_more, bundles_and, bundles_length, bundle_at, no_bundle_at, items_part, raised_horizon, items_stand, items_agree, items_made}
+use Rattle.tk_world.proofs.ConsistencyLaws.{AllIn-page, short_page, consists_kept, consists_opened}
+use Rattle.tk_world.proofs.ConsistencyLaws.{consists_bundle}
+use Rattle.tk_world.proofs.ItemLaws.{page_items, page_horizon, page_length, page_last, page_more}
+use Rattle.tk_world.proofs.ItemLaws.{bundles_and, bundles_length, bundle_at, no_bundle_at}
+use Rattle.tk_world.proofs.ItemLaws.{items_part, raised_horizon, items_stand, items_agree}
+use Rattle.tk_world.proofs.ItemLaws.{items_made}
 use Rattle.tk_world.proofs.KnownLaws.{len_same, next_same}
 use Rattle.tk_world.proofs.RequestStands.{asked_for}
-use Rattle.tk_world.proofs.StandsLaws.{OpenFor, open_for, closed_for, some_for, stands_put, unchanged_stands, put_back, empty_stands}
+use Rattle.tk_world.proofs.StandsLaws.{OpenFor, open_for, closed_for, some_for, stands_put}
+use Rattle.tk_world.proofs.StandsLaws.{unchanged_stands, put_back, empty_stands}
 
 -- ---- a step of the state for which a world stands
 
@@ -52,7 +62,9 @@ pub record StepFor (way : Way) (s : State) (e : Event) (o : Outcome) (new : Worl
 
 -- ---- opening a region
 
-open_step_for : (way : Way) (w : WorldFields) (n : ℕ) (o : Outcome) (new : WorldFields) → OpensAt w n o new → (U : FactSet) (s : State) → WorldStands w U s → StepFor way s (Open n) o new
+open_step_for : (way : Way) (w : WorldFields) (n : ℕ) (o : Outcome) (new : WorldFields)
+    → OpensAt w n o new → (U : FactSet) (s : State) → WorldStands w U s
+    → StepFor way s (Open n) o new
 open_step_for way w n Opened new act U s S =
     let none = closed_for w U s S n act.0 in
     record {
@@ -77,7 +89,9 @@ record PullFor (s : State) (r : ℕ) (v : Vector) (after : Option Dot) (o : Outc
   pulls : IsPull s r v after o seen after_it
   stands : WorldStands new made after_it
 
-pull_step_for : (w : WorldFields) (r : ℕ) (v : Vector) (after : Option Dot) (o : Outcome) (new : WorldFields) → PullsAt w r v after o new → (U : FactSet) (s : State) → WorldStands w U s → PullFor s r v after o new
+pull_step_for : (w : WorldFields) (r : ℕ) (v : Vector) (after : Option Dot) (o : Outcome) (new : WorldFields)
+    → PullsAt w r v after o new → (U : FactSet) (s : State) → WorldStands w U s
+    → PullFor s r v after o new
 pull_step_for w r v after (Bundle index count last more) new act U s S =
     let P = act.0 in
     let x = open_for w U s S r P act.1 in
@@ -123,7 +137,8 @@ record TakenFor (w : WorldFields) (U : FactSet) (s : State) (r : ℕ) (k : Kept)
   stands_now : StandsFor Q U (with_facts k.facts seen)
   stays : WorldStands (with_store w r Q) U (with_region s r (record { facts = with_facts k.facts seen; horizon = raised_to k.horizon moment }))
 
-taken_for : (w : WorldFields) (U : FactSet) (s : State) → WorldStands w U s → (r : ℕ) (P Q : StoreFields) (x : OpenFor w U s r P) (horizon moment : Option ℕ) (is : _) (seen : Facts)
+taken_for : (w : WorldFields) (U : FactSet) (s : State) → WorldStands w U s
+    → (r : ℕ) (P Q : StoreFields) (x : OpenFor w U s r P) (horizon moment : Option ℕ) (is : _) (seen : Facts)
     → Q ≡ items_taken (raised P horizon) is → moment ≡ horizon → StandsFor (items_taken (raised P horizon) is) U (with_facts x.k.facts seen) → AllIn U seen → TakenFor w U s r x.k Q moment seen
 taken_for w U s S r P Q x horizon moment is seen taken same stands all =
     let F = x.k.facts in
@@ -137,7 +152,9 @@ taken_for w U s S r P Q x horizon moment is seen taken same stands all =
           (raised_horizon P x.k.horizon horizon moment x.horizon same ∙ ap (λ (R : StoreFields). R.horizon) (sym taken));
     }
 
-deliver_step_for : (way : Way) (w : WorldFields) (i r : ℕ) (o : Outcome) (new : WorldFields) → DeliversAt w i r o new → (U : FactSet) (s : State) → WorldStands w U s → StepFor way s (Deliver i r) o new
+deliver_step_for : (way : Way) (w : WorldFields) (i r : ℕ) (o : Outcome) (new : WorldFields)
+    → DeliversAt w i r o new → (U : FactSet) (s : State) → WorldStands w U s
+    → StepFor way s (Deliver i r) o new
 deliver_step_for way w i r (Took n) new act U s S =
     let P = act.0 in
     let Q = act.1 in
@@ -206,7 +223,9 @@ deliver_step_for way w i r o new act U s S = absurd act
 
 -- ---- a prune
 
-prune_step_for : (way : Way) (w : WorldFields) (r moment : ℕ) (o : Outcome) (new : WorldFields) → PrunesAt w r moment o new → (U : FactSet) (s : State) → WorldStands w U s → StepFor way s (Prune r moment) o new
+prune_step_for : (way : Way) (w : WorldFields) (r moment : ℕ) (o : Outcome) (new : WorldFields)
+    → PrunesAt w r moment o new → (U : FactSet) (s : State) → WorldStands w U s
+    → StepFor way s (Prune r moment) o new
 prune_step_for way w r moment (Pruned n) new act U s S =
     let P = act.0 in
     let Q = act.1 in
@@ -232,7 +251,9 @@ steps_horizon : (P Q : StoreFields) (ds : List Dot) → Steps P ds Q → Q.horiz
 steps_horizon P Q [] is = ap (λ (R : StoreFields). R.horizon) is
 steps_horizon P Q (d ∷ ds) steps = steps_horizon (with_skipped P d) Q ds steps.1
 
-slice_step_for : (way : Way) (w : WorldFields) (r moment : ℕ) (after : Option Dot) (count : ℕ) (o : Outcome) (new : WorldFields) → PrunesSomeAt w r moment after count o new → (U : FactSet) (s : State) → WorldStands w U s → StepFor way s (PruneSome r moment after count) o new
+slice_step_for : (way : Way) (w : WorldFields) (r moment : ℕ) (after : Option Dot) (count : ℕ) (o : Outcome) (new : WorldFields)
+    → PrunesSomeAt w r moment after count o new → (U : FactSet) (s : State) → WorldStands w U s
+    → StepFor way s (PruneSome r moment after count) o new
 slice_step_for way w r moment after count (PrunedSome slice) new act U s S =
     let P = act.0 in
     let Q = act.1 in
@@ -253,7 +274,8 @@ slice_step_for way w r moment after count o new act U s S = absurd act
 
 -- ---- any event
 
-pub step_for : (way : Way) (w : WorldFields) (e : Event) (o : Outcome) (new : WorldFields) → ActBy way w e o new → (U : FactSet) (s : State) → WorldStands w U s → StepFor way s e o new
+pub step_for : (way : Way) (w : WorldFields) (e : Event) (o : Outcome) (new : WorldFields)
+    → ActBy way w e o new → (U : FactSet) (s : State) → WorldStands w U s → StepFor way s e o new
 step_for way w (Open n) o new act U s S = open_step_for way w n o new act U s S
 step_for way w (Request r now words q) o new act U s S =
     let x = asked_for way w r (record { now = now; words = words; bytes = q.items }) o new act U s S in
@@ -266,21 +288,26 @@ step_for way w (Prune r moment) o new act U s S = prune_step_for way w r moment 
 step_for way w (PruneSome r moment after count) o new act U s S = slice_step_for way w r moment after count o new act U s S
 
 -- an event leaves a world that stands for a state
-pub step_standing : (way : Way) (w : WorldFields) (e : Event) (o : Outcome) (new : WorldFields) → ActBy way w e o new → IsStanding w → IsStanding new
+pub step_standing : (way : Way) (w : WorldFields) (e : Event) (o : Outcome) (new : WorldFields)
+    → ActBy way w e o new → IsStanding w → IsStanding new
 step_standing way w e o new act standing =
     let x = step_for way w e o new act standing.0 standing.1 standing.2 in
     (x.made, x.after, x.stands)
 
-pub pull_standing : (w : WorldFields) (r : ℕ) (v : Vector) (after : Option Dot) (o : Outcome) (new : WorldFields) → PullsAt w r v after o new → IsStanding w → IsStanding new
+pub pull_standing : (w : WorldFields) (r : ℕ) (v : Vector) (after : Option Dot) (o : Outcome) (new : WorldFields)
+    → PullsAt w r v after o new → IsStanding w → IsStanding new
 pull_standing w r v after o new act standing = let x = pull_step_for w r v after o new act standing.0 standing.1 standing.2 in (x.made, x.after_it, x.stands)
 
-pub deliver_standing : (w : WorldFields) (i r : ℕ) (o : Outcome) (new : WorldFields) → DeliversAt w i r o new → IsStanding w → IsStanding new
+pub deliver_standing : (w : WorldFields) (i r : ℕ) (o : Outcome) (new : WorldFields)
+    → DeliversAt w i r o new → IsStanding w → IsStanding new
 deliver_standing w i r o new act standing = let x = deliver_step_for in_place w i r o new act standing.0 standing.1 standing.2 in (x.made, x.after, x.stands)
 
-pub prune_standing : (w : WorldFields) (r moment : ℕ) (o : Outcome) (new : WorldFields) → PrunesAt w r moment o new → IsStanding w → IsStanding new
+pub prune_standing : (w : WorldFields) (r moment : ℕ) (o : Outcome) (new : WorldFields)
+    → PrunesAt w r moment o new → IsStanding w → IsStanding new
 prune_standing w r moment o new act standing = let x = prune_step_for in_place w r moment o new act standing.0 standing.1 standing.2 in (x.made, x.after, x.stands)
 
-pub slice_standing : (w : WorldFields) (r moment : ℕ) (after : Option Dot) (count : ℕ) (o : Outcome) (new : WorldFields) → PrunesSomeAt w r moment after count o new → IsStanding w → IsStanding new
+pub slice_standing : (w : WorldFields) (r moment : ℕ) (after : Option Dot) (count : ℕ) (o : Outcome) (new : WorldFields)
+    → PrunesSomeAt w r moment after count o new → IsStanding w → IsStanding new
 slice_standing w r moment after count o new act standing = let x = slice_step_for in_place w r moment after count o new act standing.0 standing.1 standing.2 in (x.made, x.after, x.stands)
 
 -- ---- a bundle that a region has no reason to refuse

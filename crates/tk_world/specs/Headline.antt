@@ -12,6 +12,7 @@ use Rattle.tk_world.specs.declared.event.Event.{Event}
 use Rattle.tk_world.specs.declared.event.Outcome.{Outcome}
 use Rattle.tk_world.specs.Carrying.{Way}
 use Rattle.tk_world.specs.State.{Kept, State, facts_in, region_with}
+use Rattle.tk_world.specs.Told.{TellsBy}
 use Rattle.tk_world.specs.World.{RunBy, seen_by}
 use Rattle.tk_world.specs.WorldFields.{WorldFields, region_at}
 use Rattle.tk_world.specs.WorldStands.{WorldStands}
@@ -38,13 +39,13 @@ abbrev pub unpruned : Kept → Kept
 unpruned k = record { facts = k.facts; horizon = 0 }
 
 -- From its horizon on, a region of a world that stands for the state s answers as a region that
--- holds all its facts and never pruned. The answers are equal, and so are the facts made for them.
+-- holds all its facts and never pruned. The answers are equal, and so are the facts made for them,
+-- but for a token that the region doesn't know, and that its sender revoked before by all facts: it
+-- may be revoked as if for the first time.
 abbrev pub AnswersFor : WorldFields → State → Type 0
 AnswersFor w s =
     (r : ℕ) (P : StoreFields) (k : Kept) → map.get w.regions r ≡ Some P
     → map.get s.regions r ≡ Some k → (now : ℕ) → P.horizon ≤ now → (words : List ℕ)
     → (heard : Arrival)
-    → (answer_by (region_at w r P) now words heard
-    ≡ answer_by (region_with s r (unpruned k)) now words heard)
-    × (fact_by (region_at w r P) now words heard
-    ≡ fact_by (region_with s r (unpruned k)) now words heard)
+    → TellsBy (region_with s r (unpruned k)) k.facts now words heard
+    (answer_by (region_at w r P) now words heard) (fact_by (region_at w r P) now words heard)

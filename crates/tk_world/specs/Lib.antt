@@ -10,6 +10,7 @@
 --   State         State, regions with all facts that they made and took in; Consists, the set of
 --                 all its facts
 --   Pages         page_of, the page of a set of facts
+--   Told          TellsBy, what a region answers and makes by all its facts
 --   World         StepBy, one event of a state, in which no fact is skipped; RunBy, a list of them;
 --                 seen_by, what a region has seen
 --   WorldStands   WorldStands, the state that a world stands for
@@ -37,6 +38,7 @@ pub mod Promises
 pub mod Regions
 pub mod RequestLine
 pub mod State
+pub mod Told
 pub mod World
 pub mod WorldFields
 pub mod WorldStands

@@ -19,11 +19,12 @@ use Rattle.std.specs.Prelude.{◌∷◌, ◌++◌, length, take, slice_get, Opti
 use Rattle.std.specs.FinMap as map
 use Rattle.tk_handle.specs.declared.dot.Dot.{Dot}
 use Rattle.tk_vector.specs.VersionVector.{Vector}
+use Rattle.tk_fact.specs.declared.body.Body.{Body}
 use Rattle.tk_store.specs.FactSet.{FactSet}
 pub use Rattle.tk_store.specs.FactSet.{Facts}
 use Rattle.tk_store.specs.Joining.{JoinsFacts}
 use Rattle.tk_region.specs.Step.{listed}
-use Rattle.tk_edge.specs.Answers.{answer_by, fact_by}
+use Rattle.tk_edge.specs.Told.{AnswerFields}
 use Rattle.tk_edge.specs.declared.hear.Arrival.{Arrival}
 use Rattle.tk_world.specs.declared.event.Event.{Event}
 use Rattle.tk_world.specs.declared.event.Event.TheVariants.{Open, Request, Pull, Deliver, Prune}
@@ -37,6 +38,7 @@ use Rattle.tk_world.specs.Carrying.{Way, in_place}
 use Rattle.tk_world.specs.Pages.{page_of}
 use Rattle.tk_world.specs.State.{Kept, Sent, State, new_kept, with_region, with_bundle}
 use Rattle.tk_world.specs.State.{region_with}
+use Rattle.tk_world.specs.Told.{TellsBy}
 
 -- no fact was shown to a region, and nothing changed
 abbrev pub IsUnchanged : State → Facts → State → Type 0
@@ -68,13 +70,14 @@ IsOpening old n Memory seen new = (map.get old.regions n ≡ None) × IsUnchange
 IsOpening old n outcome seen new = ⊥
 
 -- The reply shows the region's answer to what the bytes are heard as, over all its facts, and the
--- fact made for it, if any, joins them. Before the horizon the answer is
--- `temporarily_unavailable`.
+-- fact made for it, if any, joins them. A token that it doesn't know may be revoked once more as if
+-- it was the first time. Before the horizon the answer is `temporarily_unavailable`.
 abbrev pub IsAnswer : Way → State → ℕ → AskedFields → Outcome → Facts → State → Type 0
 IsAnswer way old r asked (Reply status bytes) seen new =
     (k : Kept) × Grows old r k None seen new × (heard : Arrival) × way.Hears asked.bytes heard
-    × way.Shows (answer_by (region_with old r k) asked.now asked.words heard) status bytes.items
-    × (seen ≡ listed (fact_by (region_with old r k) asked.now asked.words heard))
+    × (answer : AnswerFields) × (fact : Option (Dot × Body))
+    × TellsBy (region_with old r k) k.facts asked.now asked.words heard answer fact
+    × way.Shows answer status bytes.items × (seen ≡ listed fact)
 IsAnswer way old r asked NoRegion seen new =
     (map.get old.regions r ≡ None) × IsUnchanged old seen new
 IsAnswer way old r asked Memory seen new =

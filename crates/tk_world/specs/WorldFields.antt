@@ -2,7 +2,7 @@
 --   WorldFields   settings, the regions' stores, and the bundles made
 --   store_in      what a region knows
 --   region_at     the region of a number with a store
-use Rattle.std.specs.Prelude.{ℕ, List, [], ◌∷◌, ◌++◌, refl, unwrap_or}
+use Rattle.std.specs.Prelude.{ℕ, List, [], refl, unwrap_or}
 use Rattle.std.specs.Ordering.{nat_cmp}
 use Rattle.std.specs.FinMap as map
 use Rattle.std.specs.Coded.{Coded, code_by, coded×, coded_ℕ, coded_list, coded_option}

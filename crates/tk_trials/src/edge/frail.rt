@@ -34,6 +34,8 @@ pub(super) struct FrailSink {
     pub bytes: Vec<u8>,
     /// The most bytes that a call takes, at least 1.
     pub step: usize,
+    /// How many of them a flush has written out.
+    pub flushed: usize,
     /// How many calls there were.
     pub calls: u64,
     /// Which calls fail.
@@ -49,11 +51,12 @@ impl FrailSink {
         requires { 0 < step }
         ensures empty { result.bytes.items ≡ [] }
         ensures given { (result.step ≡ step) × (result.fails ≡ fails) }
-        ensures fresh { (result.calls ≡ 0) × (result.failures ≡ 0) }
+        ensures fresh { (result.flushed ≡ 0) × (result.calls ≡ 0) × (result.failures ≡ 0) }
     {
         FrailSink {
             bytes: Vec::new(alloc),
             step,
+            flushed: 0,
             calls: 0,
             fails,
             failures: 0,
@@ -79,9 +82,11 @@ impl FrailSink {
 }
 
 impl Sink for FrailSink {
-    ghost use Rattle.std.specs.Prelude.{Some};
+    ghost use Rattle.std.specs.Prelude.{Some, take};
 
     ghost holds = { λ s. Some s.bytes.items };
+
+    ghost flushed = { λ s. Some (take s.flushed s.bytes.items) };
 
     ghost failed = { λ s. s.failures };
 
@@ -100,6 +105,7 @@ impl Sink for FrailSink {
         if self.turn() {
             return Err(self.fail());
         }
+        self.flushed = self.bytes.len();
         Ok(())
     }
 

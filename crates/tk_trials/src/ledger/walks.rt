@@ -285,33 +285,45 @@ pub(super) fn is_dead(facts: &[Fact], code: Dot) -> bool {
 pub(super) fn is_passing(body: &Body) -> bool {
     matches!(
         body,
-        Body::CodeIssued(_) | Body::CodeRedeemed(_) | Body::RefreshRotated(_) | Body::ReuseSeen(_)
+        Body::CodeIssued(_)
+            | Body::CodeRedeemed(_)
+            | Body::RefreshRotated(_)
+            | Body::TokenRevoked(_)
+            | Body::ReuseSeen(_)
     )
 }
 
-// Returns the token that a fact is kept for: its own grant, or the one whose reuse it saw.
+// Returns the token that a fact is kept for: its own grant, the token that it revokes, or the one
+// whose reuse it saw.
 fn kept_for(fact: &Fact) -> Option<TokenId> {
     match &fact.body {
+        Body::TokenRevoked(revoked) => Some(revoked.token),
         Body::ReuseSeen(seen) => Some(seen.token),
         _ => grant_of(fact),
     }
 }
 
-// Returns whether the token was minted; `None` unless its family is over at the horizon.
-fn is_minted_and_over(facts: &[Fact], token: &TokenId, horizon: u64) -> Option<bool> {
-    let is_minted = held(facts, token.dot)?.minted(token.kind).is_some();
-    let code = issued_at(facts, code_above(facts, token.dot)?)?;
-    if code.family_end.seconds() <= horizon {
-        Some(is_minted)
-    } else {
-        None
+// Returns the end of the family that a dot is in, if a code is above the dot.
+fn family_end(facts: &[Fact], dot: Dot) -> Option<u64> {
+    let code = issued_at(facts, code_above(facts, dot)?)?;
+    Some(code.family_end.seconds())
+}
+
+// Returns whether the token can't come any more, or is of a family that is over at the horizon.
+fn is_gone(facts: &[Fact], token: &TokenId, horizon: u64) -> bool {
+    match held(facts, token.dot) {
+        Some(fact) if grant_of(fact).is_none() => true,
+        _ => match family_end(facts, token.dot) {
+            Some(end) => end <= horizon,
+            None => false,
+        },
     }
 }
 
-// Returns whether the fact is kept for a token of a family that is over at the horizon.
+// Returns whether the fact is kept for a token that is gone at the horizon.
 pub(super) fn may_skip(facts: &[Fact], fact: &Fact, horizon: u64) -> bool {
     match kept_for(fact) {
-        Some(token) => is_minted_and_over(facts, &token, horizon) == Some(true),
+        Some(token) => is_gone(facts, &token, horizon),
         None => false,
     }
 }

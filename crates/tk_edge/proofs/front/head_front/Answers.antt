@@ -1,4 +1,5 @@
-use Rattle.std.proofs.Common.{◌+◌, ◌++◌, ◌≤◌, length, map, drop, subst, sym, ◌∙◌, add-zero, arith, refl, rules}
+use Rattle.std.proofs.Common.{◌+◌, ◌++◌, ◌≤◌, length, map, drop, subst, sym, ◌∙◌, add-zero, arith}
+use Rattle.std.proofs.Common.{refl, rules}
 use Rattle.std.proofs.lemmas.List.{take_rest}
 use Rattle.httparse.specs.Spans.{name_and_value}
 use Rattle.tk_edge.specs.Bounds.{body_limit, request_limit}
@@ -7,7 +8,8 @@ use Rattle.tk_edge.specs.HeadFields.{AreFields}
 use Rattle.tk_edge.specs.Judged.{MayAsk}
 use Rattle.tk_edge.specs.declared.judge.Judged.TheVariants.{Body, Notice, Query, Vector}
 use Rattle.tk_edge.proofs.BoundLaws.{size_within}
-use Rattle.tk_edge.proofs.FrontLaws.{fewer_within, request_takes, rest_is_all, same_front, size_at, stays_at}
+use Rattle.tk_edge.proofs.FrontLaws.{fewer_within, request_takes, rest_is_all, same_front, size_at}
+use Rattle.tk_edge.proofs.FrontLaws.{stays_at}
 use Rattle.tk_edge.proofs.StreamLaws.{judged_same, judged_may}
 use Rattle.tk_edge.proofs.front.head_front.Goals as goal
 

@@ -1,7 +1,8 @@
 use Rattle.std.proofs.Common.{◌≡◌, ◌<◌, ◌≤◌, [], length, rules, subst, sym}
 use Rattle.tk_edge.specs.Fronts.{IsFront}
 use Rattle.tk_edge.specs.Heads.{field_limit, head_limit}
-use Rattle.tk_edge.proofs.FrontLaws.{error_none, front_heard, headless_arrives, headless_comes, long_none}
+use Rattle.tk_edge.proofs.FrontLaws.{error_none, front_heard, headless_arrives, headless_comes}
+use Rattle.tk_edge.proofs.FrontLaws.{long_none}
 use Rattle.tk_edge.proofs.FrontLaws.{none_of}
 use Rattle.tk_edge.proofs.front.hear_front.Goals as goal
 

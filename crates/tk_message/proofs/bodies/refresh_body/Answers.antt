@@ -1,5 +1,5 @@
 use Rattle.std.proofs.Common.{[], ◌∷◌, ◌++◌, ap, ◌∙◌, codes, decimal, true}
-use Rattle.json.specs.Token.{begin_object, end_object, key, string, number, boolean}
+use Rattle.json.specs.Token.{end_object, key, string, number, boolean}
 use Rattle.serde_json.specs.Data as json
 use Rattle.tk_handle.specs.ClientId.{client_text}
 use Rattle.tk_message.proofs.bodies.refresh_body.Goals as goal

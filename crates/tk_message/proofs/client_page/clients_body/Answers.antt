@@ -11,7 +11,8 @@ use Rattle.tk_ledger.specs.ClientWalk.{clients_in}
 use Rattle.tk_message.specs.ClientPage.{page_size, listed, cursor_of, next_member}
 use Rattle.tk_message.proofs.PageLaws.{opened, whole_none, whole_some}
 use Rattle.tk_message.proofs.client_page.clients_body.Goals as goal
-use Rattle.tk_message.proofs.client_page.clients_body.Goals.{in-Some+in_ok-id+in_ok-put_text, in_default}
+use Rattle.tk_message.proofs.client_page.clients_body.Goals.{in-Some+in_ok-id+in_ok-put_text}
+use Rattle.tk_message.proofs.client_page.clients_body.Goals.{in_default}
 
 pub returns : goal.returns
 returns c =

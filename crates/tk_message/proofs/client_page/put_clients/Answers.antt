@@ -6,7 +6,8 @@ use Rattle.tk_store.specs.StoreFields.{held_facts}
 use Rattle.tk_store.specs.Walk.{above}
 use Rattle.tk_ledger.specs.ClientWalk.{clients_in}
 use Rattle.tk_message.specs.ClientPage.{page_size, listed, cursor_of}
-use Rattle.tk_message.proofs.PageLaws.{listed_none, cursor_none, tokens_more, cursor_more, one_left, none_left}
+use Rattle.tk_message.proofs.PageLaws.{listed_none, cursor_none, tokens_more, cursor_more, one_left}
+use Rattle.tk_message.proofs.PageLaws.{none_left}
 use Rattle.tk_message.proofs.client_page.put_clients.Goals as goal
 
 pub returns-in_default-clause-ok : goal.returns-in_default-clause-ok

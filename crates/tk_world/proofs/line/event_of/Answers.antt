@@ -4,7 +4,10 @@ use Rattle.std.proofs.lemmas.Grind.{common_steps}
 use Rattle.tk_format.specs.Decimals.{decimal_in}
 use Rattle.tk_vector.specs.VectorText.{IsNoVectorText}
 use Rattle.tk_world.specs.Line.{IsEventForm, IsNoEventForm}
-use Rattle.tk_world.proofs.EventForms.{open_there, deliver_there, pull_there, prune_there, with_rest, slice_texts, open_bad, deliver_bad_region, prune_bad_region, prune_bad_moment, pull_bad_region, pull_bad_vector, IsOther, request_bad, no_form}
+use Rattle.tk_world.proofs.EventForms.{open_there, deliver_there, pull_there, prune_there}
+use Rattle.tk_world.proofs.EventForms.{with_rest, slice_texts, open_bad, deliver_bad_region}
+use Rattle.tk_world.proofs.EventForms.{prune_bad_region, prune_bad_moment, pull_bad_region}
+use Rattle.tk_world.proofs.EventForms.{pull_bad_vector, IsOther, request_bad, no_form}
 use Rattle.tk_world.proofs.line.event_of.Goals as goal
 
 pub returns-in_default-region-clause-malformed : goal.returns-in_default-region-clause-malformed

@@ -7,7 +7,8 @@ use Rattle.tk_region.specs.SettingsFields.{SettingsFields}
 use Rattle.tk_region.proofs.CapLaws.{capped_pruned}
 use Rattle.tk_region.proofs.region.Region.prune.Goals as goal
 
-kept : (n : ℕ) (s : SettingsFields) (P Q : StoreFields) (moment : ℕ) (result : Result ℕ AllocError) → IsCapped (record { number = n; settings = s; facts = P })
+kept : (n : ℕ) (s : SettingsFields) (P Q : StoreFields) (moment : ℕ) (result : Result ℕ AllocError)
+    → IsCapped (record { number = n; settings = s; facts = P })
     → IfOk result (λ m. Prunes P moment m Q) → OnErr result (Q ≡ P) → IsCapped (record { number = n; settings = s; facts = Q })
 kept n s P Q moment (Ok m) k prunes same = capped_pruned n s P Q k moment m prunes
 kept n s P Q moment (Err e) k prunes same = subst (λ (R : StoreFields). IsCapped (record { number = n; settings = s; facts = R })) (sym same) k

@@ -5,7 +5,9 @@ use Rattle.tk_region.specs.RegionFields.{RegionFields, place_in}
 use Rattle.tk_region.specs.Taking.{has_unmade}
 use Rattle.tk_world.specs.Acts.{DeliversAt}
 use Rattle.tk_world.specs.WorldStands.{IsStanding}
-use Rattle.tk_world.proofs.PartLaws.{world, absent_at, held_at, region_is, sorted_after, settings_after, world_after, found_at, deliver_act, taken_number, ended}
+use Rattle.tk_world.proofs.PartLaws.{world, absent_at, held_at, region_is, sorted_after}
+use Rattle.tk_world.proofs.PartLaws.{settings_after, world_after, found_at, deliver_act}
+use Rattle.tk_world.proofs.PartLaws.{taken_number, ended}
 use Rattle.tk_world.proofs.StepStands.{deliver_standing, bundle_agrees, bundle_made}
 use Rattle.tk_world.proofs.world.World.deliver.Goals as goal
 

@@ -20,7 +20,8 @@ invariant_of-result c = (
       (map.empty, new_state c.args.settings, new_stands c.args.settings c.cap-cap.ensures.range.1))),
 )
 
-is_new : (settings : _) (rs : _) (bs : _) → rs ≡ [] → bs ≡ [] → world settings rs bs ≡ new_world settings
+is_new : (settings : _) (rs : _) (bs : _) → rs ≡ [] → bs ≡ []
+    → world settings rs bs ≡ new_world settings
 is_new settings rs bs none nothing =
     ap (λ x. world settings x bs) none ∙ ap (λ x. fields_of settings [] x) nothing
     ∙ ap (λ m. record { settings = settings; regions = m; bundles = [] }) (from_sorted_nil nat_cmp)

@@ -2,7 +2,8 @@ use Rattle.std.proofs.Common.{ap, sym, subst, ◌∙◌, refl}
 use Rattle.std.specs.FinMap as map
 use Rattle.tk_world.specs.Acts.{PrunesSomeAt}
 use Rattle.tk_world.specs.WorldStands.{IsStanding}
-use Rattle.tk_world.proofs.PartLaws.{world, absent_at, held_at, sorted_after, settings_after, world_after, slice_act, sliced_number, ended}
+use Rattle.tk_world.proofs.PartLaws.{world, absent_at, held_at, sorted_after, settings_after}
+use Rattle.tk_world.proofs.PartLaws.{world_after, slice_act, sliced_number, ended}
 use Rattle.tk_world.proofs.StepStands.{slice_standing}
 use Rattle.tk_world.proofs.world.World.prune_some.Goals as goal
 

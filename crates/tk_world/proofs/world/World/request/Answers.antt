@@ -3,7 +3,9 @@ use Rattle.std.specs.FinMap as map
 use Rattle.tk_world.specs.AskedFields.{AskedFields}
 use Rattle.tk_world.specs.Broken.{Requests}
 use Rattle.tk_world.specs.WorldStands.{IsStanding}
-use Rattle.tk_world.proofs.PartLaws.{world, absent_at, held_at, region_is, terms_at, sorted_after, settings_after, world_after, request_act, carried_number, ended}
+use Rattle.tk_world.proofs.PartLaws.{world, absent_at, held_at, region_is, terms_at, sorted_after}
+use Rattle.tk_world.proofs.PartLaws.{settings_after, world_after, request_act, carried_number}
+use Rattle.tk_world.proofs.PartLaws.{ended}
 use Rattle.tk_world.proofs.RequestStands.{request_standing}
 use Rattle.tk_world.proofs.world.World.request.Goals as goal
 

@@ -1,5 +1,6 @@
 use Rattle.tk_world.specs.WorldFields.{store_in}
-use Rattle.tk_world.proofs.PromiseLaws.{tells_of_sets, introspect_alike, revoked_inactive, families_inactive}
+use Rattle.tk_world.proofs.PromiseLaws.{tells_of_sets, introspect_alike, revoked_inactive}
+use Rattle.tk_world.proofs.PromiseLaws.{families_inactive}
 use Rattle.tk_world.proofs.world.World.run.Goals as goal
 
 pub returns-in-Ok-clause-run : goal.returns-in-Ok-clause-run

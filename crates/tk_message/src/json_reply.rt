@@ -9,7 +9,7 @@ use tk_scope::Scope;
 
 /// What a JSON reply says.
 #[derive(Drop)]
-pub enum Told<'a> {
+pub enum JsonReply<'a> {
     /// The name of an error (RFC 6749, 5.2).
     Error(ErrorCode),
     /// The id of the client that was added at the dot (own).
@@ -37,7 +37,7 @@ pub enum Told<'a> {
 
 ghost use Rattle.std.specs.Prelude.{◌≡◌, IfOk};
 ghost use Rattle.serde_json.specs.Written.{compact_text};
-ghost use Rattle.tk_message.specs.Told as spec;
+ghost use Rattle.tk_message.specs.JsonReply as spec;
 
 use crate::bodies::{
     access_body, client_body, consent_body, one_flag, one_number, one_text, refresh_body,
@@ -47,10 +47,10 @@ use crate::client_page::clients_body;
 use crate::reply::{Payload, Reply, asks_by};
 use std::alloc::{AllocError, Global};
 
-impl Told<'_> {
+impl JsonReply<'_> {
     /// Returns the reply that says this; an error if memory runs out.
     pub fn reply(self, alloc: Global) -> Result<Reply, AllocError>
-        ensures { IfOk result (λ reply. reply ≡ spec.told self.entry) }
+        ensures { IfOk result (λ reply. reply ≡ spec.reply_of self.entry) }
     {
         let status = self.status();
         let text = self.body(alloc)?;
@@ -67,8 +67,8 @@ impl Told<'_> {
         ensures { result ≡ spec.status_of self.now }
     {
         match self {
-            Told::Error(code) => code.status(),
-            Told::Client(status, _) | Told::Consent(status, _) => *status,
+            JsonReply::Error(code) => code.status(),
+            JsonReply::Client(status, _) | JsonReply::Consent(status, _) => *status,
             _ => StatusCode::Ok,
         }
     }
@@ -78,25 +78,25 @@ impl Told<'_> {
         ensures { IfOk result (λ text. text.items ≡ compact_text (spec.body_of self.entry)) }
     {
         match self {
-            Told::Error(code) => one_text(alloc, "error", code.name()),
-            Told::Client(_, client) => client_body(alloc, client),
-            Told::Shown(client, client_kind, live, scope) => shown_body(
+            JsonReply::Error(code) => one_text(alloc, "error", code.name()),
+            JsonReply::Client(_, client) => client_body(alloc, client),
+            JsonReply::Shown(client, client_kind, live, scope) => shown_body(
                 alloc,
                 client,
                 client_kind,
                 live,
                 scope,
             ),
-            Told::Clients(ledger, after) => clients_body(alloc, ledger, after),
-            Told::Consent(_, consent) => consent_body(alloc, consent),
-            Told::Subject(subject) => one_text(alloc, "subject", subject.as_str()),
-            Told::Tokens(access, lifetime, refresh, scope) => {
+            JsonReply::Clients(ledger, after) => clients_body(alloc, ledger, after),
+            JsonReply::Consent(_, consent) => consent_body(alloc, consent),
+            JsonReply::Subject(subject) => one_text(alloc, "subject", subject.as_str()),
+            JsonReply::Tokens(access, lifetime, refresh, scope) => {
                 token_body(alloc, access, lifetime, refresh, scope)
             }
-            Told::Access(standing) => access_body(alloc, &standing),
-            Told::Refresh(standing) => refresh_body(alloc, &standing),
-            Told::Inactive => one_flag(alloc, "active", false),
-            Told::Taken(count) => one_number(alloc, "took", u64::from(count)),
+            JsonReply::Access(standing) => access_body(alloc, &standing),
+            JsonReply::Refresh(standing) => refresh_body(alloc, &standing),
+            JsonReply::Inactive => one_flag(alloc, "active", false),
+            JsonReply::Taken(count) => one_number(alloc, "took", u64::from(count)),
         }
     }
 }

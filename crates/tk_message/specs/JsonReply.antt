@@ -2,13 +2,13 @@
 -- introspection; the others are own).
 --   status_of   the status of the reply
 --   body_of     the body of the reply
---   told        the reply that says this
+--   reply_of        the reply that says this
 use Rattle.serde_json.specs.Data.{Data}
 use Rattle.tk_store.specs.StoreFields.{held_facts}
 use Rattle.tk_message.specs.declared.status_code.StatusCode.{StatusCode}
 use Rattle.tk_message.specs.declared.status_code.StatusCode.TheVariants.{Ok}
-use Rattle.tk_message.specs.declared.told.Told.{Told}
-use Rattle.tk_message.specs.declared.told.Told.TheVariants.{
+use Rattle.tk_message.specs.declared.json_reply.JsonReply.{JsonReply}
+use Rattle.tk_message.specs.declared.json_reply.JsonReply.TheVariants.{
   Error,
   Client,
   Shown,
@@ -40,14 +40,14 @@ use Rattle.tk_message.specs.Reply.{json_reply}
 use Rattle.tk_message.specs.ReplyFields.{ReplyFields}
 
 -- the status of the reply (RFC 6749, 5.1 and 5.2; RFC 7662, 2.2; own)
-abbrev pub status_of : Told → StatusCode
+abbrev pub status_of : JsonReply → StatusCode
 status_of (Error code) = error_status code
 status_of (Client status client) = status
 status_of (Consent status consent) = status
-status_of told = Ok
+status_of reply_of = Ok
 
 -- the body of the reply (RFC 6749, 5.1 and 5.2; RFC 7662, 2.2; own)
-abbrev pub body_of : Told → Data
+abbrev pub body_of : JsonReply → Data
 body_of (Error code) = error_body (error_name code)
 body_of (Client status client) = client_body client
 body_of (Shown client client_kind live scope) = shown_body client client_kind.now live scope.now
@@ -62,5 +62,5 @@ body_of Inactive = inactive_body
 body_of (Taken count) = taken_body count
 
 -- the reply that says this (RFC 6749, 5.1 and 5.2; RFC 7662, 2.2; own)
-abbrev pub told : Told → ReplyFields
-told t = json_reply (status_of t) (body_of t)
+abbrev pub reply_of : JsonReply → ReplyFields
+reply_of t = json_reply (status_of t) (body_of t)
