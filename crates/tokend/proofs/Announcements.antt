@@ -7,7 +7,8 @@ use Rattle.std.specs.Io.KnownBytes.{Appends}
 use Rattle.tk_put.specs.Put.{AppendsFront, Prints}
 
 -- the beginning of a text begins the text with more behind it
-begins_longer : (old new : Option (List ℕ)) (text more : List ℕ) → AppendsFront old new text → AppendsFront old new (text ++ more)
+begins_longer : (old new : Option (List ℕ)) (text more : List ℕ) → AppendsFront old new text
+    → AppendsFront old new (text ++ more)
 begins_longer old new text more begun = record {
   front = begun.front;
   rest = begun.rest ++ more;
@@ -16,7 +17,8 @@ begins_longer old new text more begun = record {
 }
 
 -- a text, then the beginning of another
-begins_later : (old mid new : Option (List ℕ)) (text more : List ℕ) → Appends old mid text → AppendsFront mid new more → AppendsFront old new (text ++ more)
+begins_later : (old mid new : Option (List ℕ)) (text more : List ℕ) → Appends old mid text
+    → AppendsFront mid new more → AppendsFront old new (text ++ more)
 begins_later old mid new text more done begun = record {
   front = text ++ begun.front;
   rest = begun.rest;
@@ -24,10 +26,12 @@ begins_later old mid new text more done begun = record {
   appended = Appends-trans old mid new text begun.front done begun.appended;
 }
 
-pub prints_then : {A E : Type 0} (old mid new : Option (List ℕ)) (text more : List ℕ) (r : Result A E) → Appends old mid text → Prints r mid new more
+pub prints_then : {A E : Type 0} (old mid new : Option (List ℕ)) (text more : List ℕ) (r : Result A E)
+    → Appends old mid text → Prints r mid new more
     → Prints r old new (text ++ more)
 prints_then old mid new text more (Ok x) done printed = Appends-trans old mid new text more done printed
 prints_then old mid new text more (Err e) done begun = begins_later old mid new text more done begun
 
-pub prints_less : (old new : Option (List ℕ)) (text more : List ℕ) → AppendsFront old new text → AppendsFront old new (text ++ more)
+pub prints_less : (old new : Option (List ℕ)) (text more : List ℕ) → AppendsFront old new text
+    → AppendsFront old new (text ++ more)
 prints_less old new text more begun = begins_longer old new text more begun

@@ -1,7 +1,8 @@
 -- What a connection leaves of a region. Key results:
 --   served_grows   a connection leaves what the region knew
 --   served_less    a log that is unchanged, by less than the whole of it
-use Rattle.std.proofs.Common.{ℕ, Bool, true, false, List, Option, Some, None, Result, Ok, Err, inl, inr}
+use Rattle.std.proofs.Common.{ℕ, Bool, true, false, List, Option, Some, None, Result, Ok, Err, inl}
+use Rattle.std.proofs.Common.{inr}
 use Rattle.tk_region.specs.RegionFields.{RegionFields}
 use Rattle.tk_edge.specs.Answers.{fact_by}
 use Rattle.tk_edge.specs.Arrivals.{Answers, IsShort}
@@ -22,13 +23,15 @@ use Rattle.tk_edge.specs.declared.tell.Fault.TheVariants.{Read, Write, Log, Memo
 use Rattle.tokend.specs.Growing.{Grows}
 use Rattle.tokend.proofs.Growing.{grows_same, made_grows, pushed_grows}
 
-answered_grows : (terms : TermsFields) (now : ℕ) (words : List ℕ) (came : Arrival) (answer : AnswerFields) (old new : RegionFields) → Answers terms old now words came (Ok answer) new → Grows old new
+answered_grows : (terms : TermsFields) (now : ℕ) (words : List ℕ) (came : Arrival) (answer : AnswerFields) (old new : RegionFields)
+    → Answers terms old now words came (Ok answer) new → Grows old new
 answered_grows terms now words (Exchange Vector) answer old new h = grows_same old new h.1
 answered_grows terms now words (Exchange (Pull sent)) answer old new h = grows_same old new h.1
 answered_grows terms now words (Exchange (Push sent)) answer old new h = pushed_grows terms now old new sent h.0 h.1
 answered_grows terms now words came answer old new h = made_grows old new (fact_by old now words came) h.1 h.2
 
-short_grows : (reach : Reach) (terms : TermsFields) (now : ℕ) (known : Option (List ℕ)) (old new : RegionFields) → IsShort reach terms now known old new → Grows old new
+short_grows : (reach : Reach) (terms : TermsFields) (now : ℕ) (known : Option (List ℕ)) (old new : RegionFields)
+    → IsShort reach terms now known old new → Grows old new
 short_grows reach terms now known old new (inl same) = grows_same old new same
 short_grows reach terms now known old new (inr h) = pushed_grows terms now old new h.0 h.2 h.3
 
@@ -48,7 +51,8 @@ module _ (asked : Asked) (old new : RegionFields) (log : Change) (still : Type 0
   replied_grows None came result f h = f h
   replied_grows (Some bytes) came result f h = pushed_grows asked.terms asked.now old new bytes h.0 h.1
 
-  pub served_grows : (result : Result Served Fault) → IsServed asked (record { before = old; after = new }) log still writer sealed result
+  pub served_grows : (result : Result Served Fault)
+      → IsServed asked (record { before = old; after = new }) log still writer sealed result
       → Grows old new
   served_grows (Ok (Done status)) h =
       replied_grows (bundle_to_log asked.log_taken h.0) h.0 (Ok status) (λ k. answered_grows asked.terms asked.now asked.words h.0 k.0 old new k.1) h.3
@@ -62,13 +66,16 @@ module _ (asked : Asked) (old new : RegionFields) (log : Change) (still : Type 0
 
 -- ---- a log that is unchanged, by less than the whole of it
 
-pub uses_less : (P Q : Type 0) (answer : AnswerFields) (result : Result StatusCode Fault) → (P → Q) → UsesLog answer P result → UsesLog answer Q result
+pub uses_less : (P Q : Type 0) (answer : AnswerFields) (result : Result StatusCode Fault) → (P → Q)
+    → UsesLog answer P result → UsesLog answer Q result
 uses_less P Q answer result f h = record { unused = λ none. f (h.unused none); fault = h.fault }
 
-pub writes_less : (P Q : Type 0) (log writer : Change) (sealed : Bool) → (P → Q) → WritesNothing log P writer sealed → WritesNothing log Q writer sealed
+pub writes_less : (P Q : Type 0) (log writer : Change) (sealed : Bool) → (P → Q)
+    → WritesNothing log P writer sealed → WritesNothing log Q writer sealed
 writes_less P Q log writer sealed f h = (h.0, h.1, h.2, f h.3)
 
-logs_less : (P Q : Type 0) (logged : Option (List ℕ)) (taken : Result ℕ PushError) (log writer : Change) (sealed : Bool) (result : Result StatusCode Fault) → (P → Q)
+logs_less : (P Q : Type 0) (logged : Option (List ℕ)) (taken : Result ℕ PushError) (log writer : Change) (sealed : Bool) (result : Result StatusCode Fault)
+    → (P → Q)
     → LogsAndTells logged taken log P writer sealed result → LogsAndTells logged taken log Q writer sealed result
 logs_less P Q logged taken log writer sealed (Ok status) f h = (h.0, λ none. f (h.1 none), h.2, h.3)
 logs_less P Q logged taken log writer sealed (Err Log) f h = h
@@ -76,7 +83,8 @@ logs_less P Q logged taken log writer sealed (Err Write) f h = (h.0, λ none. f 
 logs_less P Q logged taken log writer sealed (Err Read) f h = (h.0, λ none. f (h.1 none), h.2, h.3)
 logs_less P Q logged taken log writer sealed (Err Memory) f h = (h.0, λ none. f (h.1 none), h.2, h.3)
 
-takes_less : (P Q : Type 0) (terms : TermsFields) (now : ℕ) (bytes : List ℕ) (old new : RegionFields) (log writer : Change) (sealed : Bool) (result : Result StatusCode Fault) → (P → Q)
+takes_less : (P Q : Type 0) (terms : TermsFields) (now : ℕ) (bytes : List ℕ) (old new : RegionFields) (log writer : Change) (sealed : Bool) (result : Result StatusCode Fault)
+    → (P → Q)
     → TakesAndLogs terms now bytes old new log P writer sealed result → TakesAndLogs terms now bytes old new log Q writer sealed result
 takes_less P Q terms now bytes old new log writer sealed result f h = (h.0, h.1, h.2, h.3, logs_less P Q h.2 h.0 log writer sealed result f h.4)
 
@@ -89,14 +97,16 @@ replied_less P Q None terms now words came region log writer sealed (Err Write) 
 replied_less P Q None terms now words came region log writer sealed (Err Read) f h = h
 replied_less P Q None terms now words came region log writer sealed (Err Memory) f h = (h.0, h.1, writes_less P Q log writer sealed f h.2)
 
-runs_out_less : (P Q : Type 0) (b : Bool) (asked : Asked) (region : Step) (log writer : Change) (sealed : Bool) → (P → Q)
+runs_out_less : (P Q : Type 0) (b : Bool) (asked : Asked) (region : Step) (log writer : Change) (sealed : Bool)
+    → (P → Q)
     → RunsOut b asked region log P writer sealed → RunsOut b asked region log Q writer sealed
 runs_out_less P Q false asked region log writer sealed f h = (h.0, writes_less P Q log writer sealed f h.1)
 runs_out_less P Q true asked region log writer sealed f (inl h) = inl (h.0, writes_less P Q log writer sealed f h.1)
 runs_out_less P Q true asked region log writer sealed f (inr h) =
     inr (h.0, h.1, takes_less P Q asked.terms asked.now h.0 region.before region.after log writer sealed (Err Memory) f h.2)
 
-pub served_less : (P Q : Type 0) (asked : Asked) (region : Step) (log writer : Change) (sealed : Bool) (result : Result Served Fault) → (P → Q)
+pub served_less : (P Q : Type 0) (asked : Asked) (region : Step) (log writer : Change) (sealed : Bool) (result : Result Served Fault)
+    → (P → Q)
     → IsServed asked region log P writer sealed result → IsServed asked region log Q writer sealed result
 served_less P Q asked region log writer sealed (Ok (Done status)) f h =
     (h.0, h.1, h.2, replied_less P Q (bundle_to_log asked.log_taken h.0) asked.terms asked.now asked.words h.0 region log writer sealed (Ok status) f h.3)

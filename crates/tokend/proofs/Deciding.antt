@@ -1,5 +1,4 @@
 -- What is decided of the front of bytes, apart from the replies and records before it. Key results:
---   front_decides   what serving the front of bytes decides
 --   unread          a connection that ended unread decides nothing
 --   parted          a kept connection that ended behind its last reply decides nothing
 --   short           no memory decides nothing
@@ -9,27 +8,21 @@
 --   fault_ends      a server decides a request that ended by a fault
 --   short_decides   a server ends a connection, because memory is short
 --   again_decides   a server gives a reply again
-use Rattle.std.proofs.Common.{◌≡◌, ℕ, ◌+◌, ◌≤◌, Bool, true, false, List, [], ◌++◌, append-nil, length, take, drop, Option, Some, None, Result, Ok, Err, inl, inr, refl, sym, ap, subst, ◌∙◌, arith}
+use Rattle.std.proofs.Common.{◌≡◌, ℕ, ◌+◌, ◌≤◌, Bool, true, false, List, [], ◌++◌, append-nil}
+use Rattle.std.proofs.Common.{length, take, drop, Option, Some, None, Result, Ok, Err, inl, inr}
+use Rattle.std.proofs.Common.{refl, sym, ap, subst, ◌∙◌, arith}
 use Rattle.std.specs.Prelude.{◌<◌, ◌&&◌}
-use Rattle.std.specs.Io.KnownBytes.{Appends, Keeps}
 use Rattle.std.specs.Prelude.{IfSome, is_some}
 use Rattle.std.proofs.Math.Seq.{drop-append_seam, take-append_seam}
-use Rattle.std.proofs.lemmas.List.{append_cancel_left, length-append}
+use Rattle.std.proofs.lemmas.List.{length-append}
 use Rattle.rand_chacha.specs.ChaCha.{ChaCha}
-use Rattle.tk_put.specs.Put.{AppendsFront}
 use Rattle.tk_turn.specs.Outcomes.{goes_on, taken_of}
 use Rattle.tk_turn.specs.declared.service.Outcome.{Outcome}
 use Rattle.tk_turn.specs.declared.service.Outcome.TheVariants.{Ended}
-use Rattle.tk_message.specs.declared.status_code.StatusCode.{StatusCode}
 use Rattle.tk_edge.specs.EdgeFields.{EdgeFields}
 use Rattle.tk_edge.specs.OpenReply.{IsOpenReply}
-use Rattle.tk_edge.specs.FrontServed.{IsFrontServed, IsFrontTurnedAway, IsServedBy, asked_by}
-use Rattle.tk_edge.specs.Pushes.{IsBegun, LogsAndTells, TellsTaken, bundle_to_log}
-use Rattle.tk_edge.specs.Served.{Asked, IsServed, IsTurnedAway, RepliesTo, RunsOut, Step, WritesNothing}
-use Rattle.tk_edge.specs.Terms.{TermsFields}
-use Rattle.tk_edge.specs.Told.{AnswerFields, Change, IsTold}
-use Rattle.tk_edge.specs.declared.ahead.PushError.{PushError}
-use Rattle.tk_edge.specs.declared.hear.Arrival.{Arrival}
+use Rattle.tk_edge.specs.FrontServed.{asked_by}
+use Rattle.tk_edge.specs.Served.{Asked, RunsOut}
 use Rattle.tk_edge.specs.declared.hear.Arrival.TheVariants.{Request}
 use Rattle.tk_edge.specs.declared.edge.Served.{Served}
 use Rattle.tk_edge.specs.declared.edge.Served.TheVariants.{Nothing, Done}
@@ -38,8 +31,11 @@ use Rattle.tk_edge.specs.Paths.{plain}
 use Rattle.tk_edge.specs.declared.reach.PathSet.TheVariants.{All}
 use Rattle.tk_edge.specs.declared.tell.Fault.{Fault}
 use Rattle.tk_edge.specs.declared.tell.Fault.TheVariants.{Read, Write, Log, Memory}
-use Rattle.tokend.specs.Decisions.{Asking, Decides, Ending, Ends, FrontDecides, IsDecided, IsDecision, IsDecisionBy, IsOutcome, IsReplied, IsTaken, IsUnread, MayGrant, MayStay, asked_of, asking_of, ended_if, gains, outcome_by, reach_by}
-use Rattle.tokend.specs.Decisions.{kept_by, moved_on}
+use Rattle.tokend.specs.Decisions.{Asking, Decides, Ending, Ends, FrontDecides, IsDecided}
+use Rattle.tokend.specs.Decisions.{IsDecision, IsDecisionBy, IsOutcome, IsReplied, IsTaken}
+use Rattle.tokend.specs.Decisions.{IsUnread, MayGrant, MayStay, asked_of, asking_of, ended_if}
+use Rattle.tokend.specs.Decisions.{gains, outcome_by, reach_by}
+use Rattle.tokend.specs.Decisions.{fault_of, kept_by, moved_on, tally_with}
 use Rattle.tokend.specs.Repeating.{FallsShort, GivesAgain, IsAgain, IsCome, IsKept}
 use Rattle.tokend.specs.Repeats.{Repetition, granted_at}
 use Rattle.tokend.specs.declared.repeats.Refreshed.{Refreshed}
@@ -50,251 +46,23 @@ use Rattle.tk_region.specs.RegionFields.{place_in}
 use Rattle.tokend.specs.Draw.{six, past_six}
 use Rattle.tokend.specs.Growing.{Grows}
 use Rattle.tokend.specs.declared.server.Server.{Server}
-use Rattle.tokend.proofs.Connecting.{served_grows, uses_less}
+use Rattle.tokend.proofs.Connecting.{served_grows}
 use Rattle.tokend.proofs.Growing.{grows_same}
 use Rattle.tk_edge.proofs.FrontLaws.{some_taken}
-
--- ---- what is behind other bytes
-
--- the bytes begin with others
-abbrev Behind : List ℕ → List ℕ → Type 0
-Behind old new = (more : List ℕ) × (new ≡ old ++ more)
-
-appends_behind : (old new text : List ℕ) → Appends (Some old) (Some new) text → Behind old new
-appends_behind old new text h = (text, h)
-
-front_behind : (old new text : List ℕ) → AppendsFront (Some old) (Some new) text → Behind old new
-front_behind old new text h = (h.front, h.appended)
-
-keeps_behind : (old new : List ℕ) → Keeps (Some old) (Some new) → Behind old new
-keeps_behind old new h = ([], h ∙ sym (append-nil old))
-
-appends_apart : (old new more text : List ℕ) → new ≡ old ++ more → Appends (Some old) (Some new) text → Appends (Some []) (Some more) text
-appends_apart old new more text is h = append_cancel_left old more text (sym is ∙ h)
-
-front_apart : (old new more text : List ℕ) → new ≡ old ++ more → AppendsFront (Some old) (Some new) text → AppendsFront (Some []) (Some more) text
-front_apart old new more text is h =
-    record { front = h.front; rest = h.rest; parts = h.parts; appended = appends_apart old new more h.front is h.appended }
-
-same_apart : (old new more : List ℕ) → new ≡ old ++ more → new ≡ old → more ≡ []
-same_apart old new more is same = append_cancel_left old more [] (sym is ∙ same ∙ sym (append-nil old))
-
-keeps_apart : (old new more : List ℕ) → new ≡ old ++ more → Keeps (Some old) (Some new) → Keeps (Some []) (Some more)
-keeps_apart old new more is h = same_apart old new more is h
-
--- a list in memory before and after
-abbrev memory : List ℕ → List ℕ → Change
-memory old new = record { before = Some old; after = Some new }
-
--- ---- a log and a writer in memory, which had bytes before
-
-module _ (a n c w : List ℕ) (still : Type 0) (sealed : Bool) where
-  abbrev Both : Type 0
-  Both = Behind c w × Behind a n
-
-  told_behind : (answer : AnswerFields) (result : Result StatusCode Fault) → IsTold answer (memory a n) (memory c w) sealed result → Both
-  told_behind answer (Ok status) h = (appends_behind c w answer.bytes h.2, appends_behind a n _ h.1)
-  told_behind answer (Err Log) h = (keeps_behind c w h.1, front_behind a n _ h.0)
-  told_behind answer (Err Write) h = (front_behind c w answer.bytes h.1, appends_behind a n _ h.0)
-  told_behind answer (Err Read) h = absurd h
-  told_behind answer (Err Memory) h = absurd h
-
-  nothing_behind : WritesNothing (memory a n) still (memory c w) sealed → Both
-  nothing_behind h = (keeps_behind c w h.1, keeps_behind a n h.0)
-
-  begun_behind : (logged : Option (List ℕ)) → IsBegun logged (memory a n) → Behind a n
-  begun_behind None h = absurd h
-  begun_behind (Some bytes) h = front_behind a n bytes h
-
-  tells_behind : (taken : Result ℕ PushError) (result : Result StatusCode Fault) → TellsTaken taken (memory c w) result → Behind c w
-  tells_behind taken (Ok status) h = appends_behind c w _ h.3
-  tells_behind taken (Err Write) h = front_behind c w _ h.2
-  tells_behind taken (Err Memory) h = keeps_behind c w h
-  tells_behind taken (Err Log) h = absurd h
-  tells_behind taken (Err Read) h = absurd h
-
-  logs_behind : (logged : Option (List ℕ)) (taken : Result ℕ PushError) (result : Result StatusCode Fault) → LogsAndTells logged taken (memory a n) still (memory c w) sealed result → Both
-  logs_behind logged taken (Err Log) h = (keeps_behind c w h.1, begun_behind logged h.0)
-  logs_behind logged taken (Ok status) h = (tells_behind taken (Ok status) h.2, appends_behind a n _ h.0)
-  logs_behind logged taken (Err Write) h = (tells_behind taken (Err Write) h.2, appends_behind a n _ h.0)
-  logs_behind logged taken (Err Read) h = (tells_behind taken (Err Read) h.2, appends_behind a n _ h.0)
-  logs_behind logged taken (Err Memory) h = (tells_behind taken (Err Memory) h.2, appends_behind a n _ h.0)
-
-  replied_behind : (sent : Option (List ℕ)) (terms : TermsFields) (now : ℕ) (words : List ℕ) (came : Arrival) (region : Step) (result : Result StatusCode Fault)
-      → RepliesTo sent terms now words came region (memory a n) still (memory c w) sealed result → Both
-  replied_behind (Some bytes) terms now words came region result h = logs_behind h.2 h.0 result h.4
-  replied_behind None terms now words came region (Ok status) h = told_behind h.0 (Ok status) h.2
-  replied_behind None terms now words came region (Err Log) h = told_behind h.0 (Err Log) h.2
-  replied_behind None terms now words came region (Err Write) h = told_behind h.0 (Err Write) h.2
-  replied_behind None terms now words came region (Err Read) h = absurd h
-  replied_behind None terms now words came region (Err Memory) h = nothing_behind h.2
-
-  out_behind : (b : Bool) (asked : Asked) (region : Step) → RunsOut b asked region (memory a n) still (memory c w) sealed → Both
-  out_behind false asked region h = nothing_behind h.1
-  out_behind true asked region (inl h) = nothing_behind h.1
-  out_behind true asked region (inr h) = logs_behind h.2.2 h.2.0 (Err Memory) h.2.4
-
-  served_behind : (asked : Asked) (region : Step) (result : Result Served Fault) → IsServed asked region (memory a n) still (memory c w) sealed result → Both
-  served_behind asked region (Ok (Done status)) h = replied_behind (bundle_to_log asked.log_taken h.0) asked.terms asked.now asked.words h.0 region (Ok status) h.3
-  served_behind asked region (Ok Nothing) h = nothing_behind h.1.1
-  served_behind asked region (Err Log) h = replied_behind (bundle_to_log asked.log_taken h.0) asked.terms asked.now asked.words h.0 region (Err Log) h.3
-  served_behind asked region (Err Write) h = replied_behind (bundle_to_log asked.log_taken h.0) asked.terms asked.now asked.words h.0 region (Err Write) h.3
-  served_behind asked region (Err Read) h = nothing_behind h.1
-  served_behind asked region (Err Memory) h = out_behind asked.log_taken asked region h
-
-  away_behind : (result : Result Served Fault) → IsTurnedAway (memory c w) result → Behind c w
-  away_behind (Ok (Done status)) h = appends_behind c w _ h.1
-  away_behind (Ok Nothing) h = absurd h
-  away_behind (Err Write) h = front_behind c w _ h
-  away_behind (Err Memory) h = keeps_behind c w h
-  away_behind (Err Read) h = absurd h
-  away_behind (Err Log) h = absurd h
-
-  -- apart from what was before
-  module _ (logged reply : List ℕ) (is_log : n ≡ a ++ logged) (is_reply : w ≡ c ++ reply) (unused : still → logged ≡ []) where
-    told_apart : (answer : AnswerFields) (result : Result StatusCode Fault) → IsTold answer (memory a n) (memory c w) sealed result → IsTold answer (gains logged) (gains reply) sealed result
-    told_apart answer (Ok status) h = (h.0, appends_apart a n logged _ is_log h.1, appends_apart c w reply _ is_reply h.2, h.3)
-    told_apart answer (Err Log) h = (front_apart a n logged _ is_log h.0, keeps_apart c w reply is_reply h.1, h.2)
-    told_apart answer (Err Write) h = (appends_apart a n logged _ is_log h.0, front_apart c w reply _ is_reply h.1, h.2)
-    told_apart answer (Err Read) h = absurd h
-    told_apart answer (Err Memory) h = absurd h
-
-    nothing_apart : WritesNothing (memory a n) still (memory c w) sealed → WritesNothing (gains logged) (logged ≡ []) (gains reply) sealed
-    nothing_apart h = (keeps_apart a n logged is_log h.0, keeps_apart c w reply is_reply h.1, h.2, unused h.3)
-
-    begun_apart : (l : Option (List ℕ)) → IsBegun l (memory a n) → IsBegun l (gains logged)
-    begun_apart None h = absurd h
-    begun_apart (Some bytes) h = front_apart a n logged bytes is_log h
-
-    tells_apart : (taken : Result ℕ PushError) (result : Result StatusCode Fault) → TellsTaken taken (memory c w) result → TellsTaken taken (gains reply) result
-    tells_apart taken (Ok status) h = (h.0, h.1, h.2, appends_apart c w reply _ is_reply h.3)
-    tells_apart taken (Err Write) h = (h.0, h.1, front_apart c w reply _ is_reply h.2)
-    tells_apart taken (Err Memory) h = keeps_apart c w reply is_reply h
-    tells_apart taken (Err Log) h = absurd h
-    tells_apart taken (Err Read) h = absurd h
-
-    logs_apart : (l : Option (List ℕ)) (taken : Result ℕ PushError) (result : Result StatusCode Fault) → LogsAndTells l taken (memory a n) still (memory c w) sealed result
-        → LogsAndTells l taken (gains logged) (logged ≡ []) (gains reply) sealed result
-    logs_apart l taken (Err Log) h = (begun_apart l h.0, keeps_apart c w reply is_reply h.1, h.2)
-    logs_apart l taken (Ok status) h = (appends_apart a n logged _ is_log h.0, λ none. unused (h.1 none), tells_apart taken (Ok status) h.2, h.3)
-    logs_apart l taken (Err Write) h = (appends_apart a n logged _ is_log h.0, λ none. unused (h.1 none), tells_apart taken (Err Write) h.2, h.3)
-    logs_apart l taken (Err Read) h = absurd h.2
-    logs_apart l taken (Err Memory) h = (appends_apart a n logged _ is_log h.0, λ none. unused (h.1 none), tells_apart taken (Err Memory) h.2, h.3)
-
-    replied_apart : (sent : Option (List ℕ)) (terms : TermsFields) (now : ℕ) (words : List ℕ) (came : Arrival) (region : Step) (result : Result StatusCode Fault)
-        → RepliesTo sent terms now words came region (memory a n) still (memory c w) sealed result
-        → RepliesTo sent terms now words came region (gains logged) (logged ≡ []) (gains reply) sealed result
-    replied_apart (Some bytes) terms now words came region result h = (h.0, h.1, h.2, h.3, logs_apart h.2 h.0 result h.4)
-    replied_apart None terms now words came region (Ok status) h = (h.0, h.1, told_apart h.0 (Ok status) h.2, uses_less still (logged ≡ []) h.0 (Ok status) unused h.3, h.4)
-    replied_apart None terms now words came region (Err Log) h = (h.0, h.1, told_apart h.0 (Err Log) h.2, uses_less still (logged ≡ []) h.0 (Err Log) unused h.3, h.4)
-    replied_apart None terms now words came region (Err Write) h = (h.0, h.1, told_apart h.0 (Err Write) h.2, uses_less still (logged ≡ []) h.0 (Err Write) unused h.3, h.4)
-    replied_apart None terms now words came region (Err Read) h = absurd h
-    replied_apart None terms now words came region (Err Memory) h = (h.0, h.1, nothing_apart h.2)
-
-    out_apart : (b : Bool) (asked : Asked) (region : Step) → RunsOut b asked region (memory a n) still (memory c w) sealed
-        → RunsOut b asked region (gains logged) (logged ≡ []) (gains reply) sealed
-    out_apart false asked region h = (h.0, nothing_apart h.1)
-    out_apart true asked region (inl h) = inl (h.0, nothing_apart h.1)
-    out_apart true asked region (inr h) = inr (h.0, h.1, (h.2.0, h.2.1, h.2.2, h.2.3, logs_apart h.2.2 h.2.0 (Err Memory) h.2.4))
-
-    served_apart : (asked : Asked) (region : Step) (result : Result Served Fault) → IsServed asked region (memory a n) still (memory c w) sealed result
-        → IsServed asked region (gains logged) (logged ≡ []) (gains reply) sealed result
-    served_apart asked region (Ok (Done status)) h = (h.0, h.1, h.2, replied_apart (bundle_to_log asked.log_taken h.0) asked.terms asked.now asked.words h.0 region (Ok status) h.3)
-    served_apart asked region (Ok Nothing) h = (h.0, (h.1.0, nothing_apart h.1.1))
-    served_apart asked region (Err Log) h = (h.0, h.1, h.2, replied_apart (bundle_to_log asked.log_taken h.0) asked.terms asked.now asked.words h.0 region (Err Log) h.3)
-    served_apart asked region (Err Write) h = (h.0, h.1, h.2, replied_apart (bundle_to_log asked.log_taken h.0) asked.terms asked.now asked.words h.0 region (Err Write) h.3)
-    served_apart asked region (Err Read) h = (h.0, nothing_apart h.1)
-    served_apart asked region (Err Memory) h = out_apart asked.log_taken asked region h
-
-    away_apart : (result : Result Served Fault) → IsTurnedAway (memory c w) result → IsTurnedAway (gains reply) result
-    away_apart (Ok (Done status)) h = (h.0, appends_apart c w reply _ is_reply h.1)
-    away_apart (Ok Nothing) h = absurd h
-    away_apart (Err Write) h = front_apart c w reply _ is_reply h
-    away_apart (Err Memory) h = keeps_apart c w reply is_reply h
-    away_apart (Err Read) h = absurd h
-    away_apart (Err Log) h = absurd h
-
--- ---- what serving the front of bytes decides
-
-clash : true ≡ false → ⊥
-clash e = cc
-
-same_edge : (old new : EdgeFields) → new.region ≡ old.region → new.terms ≡ old.terms → new.sealed ≡ old.sealed → new ≡ old
-same_edge old new region terms sealed = λ i. record { region = region i; terms = terms i; sealed = sealed i }
-
-module _ (asking : Asking) (old new : EdgeFields) (a n c w : List ℕ) (still : Type 0) (unchanged : still → n ≡ a) (terms : new.terms ≡ old.terms) where
-  abbrev Decided : Result (Option (Served × Taken)) Fault → Type 0
-  Decided result = (reply : List ℕ) × (logged : List ℕ) × (w ≡ c ++ reply) × (n ≡ a ++ logged) × FrontDecides asking old result reply logged new
-
-  abbrev Fronts : Result (Option (Served × Taken)) Fault → Type 0
-  Fronts result = IsFrontServed (asked_of asking old) asking.bytes asking.over (record { before = old.region; after = new.region }) (memory a n) still (memory c w) new.sealed result
-
-  abbrev By : Result Served Fault → Type 0
-  By end = IsServedBy (asked_of asking old) asking.bytes asking.over (record { before = old.region; after = new.region }) (memory a n) still (memory c w) new.sealed end
-
-  both : (end : Result Served Fault) → By end → Behind c w × Behind a n
-  both end h = served_behind a n c w still new.sealed (asked_by (asked_of asking old) asking.bytes []) (record { before = old.region; after = new.region }) end (h [] (λ _. refl))
-
-  decided : (end : Result Served Fault) → old.sealed ≡ false → (h : By end) → IsDecided asking old end (both end h).0.0 (both end h).1.0 new
-  decided end unsealed h =
-      let b = both end h in
-      record {
-        served = λ _ tail follows. served_apart a n c w still new.sealed b.1.0 b.0.0 b.1.1 b.0.1 (λ s. same_apart a n b.1.0 b.1.1 (unchanged s))
-            (asked_by (asked_of asking old) asking.bytes tail) (record { before = old.region; after = new.region }) end (h tail follows);
-        shut = λ sealed. absurd (clash (sym sealed ∙ unsealed));
-        terms = terms;
-      }
-
-  unsealed_front : (result : Result (Option (Served × Taken)) Fault) → old.sealed ≡ false → Fronts result → Decided result
-  unsealed_front (Ok None) unsealed h = (
-    [],
-    [],
-    h.1.1.1 ∙ sym (append-nil c),
-    h.1.1.0 ∙ sym (append-nil a),
-    (unsealed, h.0, same_edge old new h.1.0 terms (h.1.1.2 ∙ sym unsealed), refl, refl),
-  )
-  unsealed_front (Ok (Some end)) unsealed h =
-      let b = both (Ok end.0) h.1 in (b.0.0, b.1.0, b.0.1, b.1.1, ((λ _. h.0, λ sealed. absurd (clash (sym sealed ∙ unsealed))), decided (Ok end.0) unsealed h.1))
-  unsealed_front (Err fault) unsealed h =
-      let b = both (Err fault) h in (b.0.0, b.1.0, b.0.1, b.1.1, decided (Err fault) unsealed h)
-
-  away : (end : Result Served Fault) → old.sealed ≡ true → (new ≡ old) × still → (h : IsTurnedAway (memory c w) end)
-      → IsDecided asking old end (away_behind a n c w still new.sealed end h).0 [] new
-  away end shut same h =
-      let b = away_behind a n c w still new.sealed end h in
-      record {
-        served = λ unsealed. absurd (clash (sym shut ∙ unsealed));
-        shut = λ _. (same.0, refl, inl (away_apart a n c w still new.sealed [] b.0 (unchanged same.1 ∙ sym (append-nil a)) b.1 (λ _. refl) end h));
-        terms = terms;
-      }
-
-  shut_front : (result : Result (Option (Served × Taken)) Fault) → old.sealed ≡ true → (new ≡ old) × still → IsFrontTurnedAway asking.bytes (memory c w) result → Decided result
-  shut_front (Ok None) shut same h = absurd h
-  shut_front (Ok (Some end)) shut same h =
-      let b = away_behind a n c w still new.sealed (Ok end.0) h.1 in
-      (b.0, [], b.1, unchanged same.1 ∙ sym (append-nil a), ((λ unsealed. absurd (clash (sym shut ∙ unsealed)), λ _. h.0), away (Ok end.0) shut same h.1))
-  shut_front (Err fault) shut same h =
-      let b = away_behind a n c w still new.sealed (Err fault) h in
-      (b.0, [], b.1, unchanged same.1 ∙ sym (append-nil a), away (Err fault) shut same h)
-
-  pub front_decides : (result : Result (Option (Served × Taken)) Fault) → (old.sealed ≡ false → Fronts result) → (old.sealed ≡ true → IsFrontTurnedAway asking.bytes (memory c w) result)
-      → (old.sealed ≡ true → (new ≡ old) × still) → Decided result
-  front_decides result opened turned same =
-      elim old.sealed as (λ b. old.sealed ≡ b → Decided result) [
-        | true ↦ λ e. shut_front result e (same e) (turned e)
-        | false ↦ λ e. unsealed_front result e (opened e)
-      ] refl
+use Rattle.tokend.proofs.FrontDeciding.{clash}
 
 -- ---- a connection that ended unread
 
 abbrev nothing : List ℕ
 nothing = []
 
-out_of_memory : (b : Bool) (asked : Asked) (edge : EdgeFields) → edge.sealed ≡ false → RunsOut b asked (record { before = edge.region; after = edge.region }) (gains nothing) (nothing ≡ []) (gains nothing) edge.sealed
+out_of_memory : (b : Bool) (asked : Asked) (edge : EdgeFields) → edge.sealed ≡ false
+    → RunsOut b asked (record { before = edge.region; after = edge.region }) (gains nothing) (nothing ≡ []) (gains nothing) edge.sealed
 out_of_memory false asked edge unsealed = (inl refl, (refl, refl, unsealed, refl))
 out_of_memory true asked edge unsealed = inl (refl, (refl, refl, unsealed, refl))
 
-unread_by : (asking : Asking) (edge : EdgeFields) (fault : Fault) → IsUnread fault → IsDecided asking edge (Err fault) [] [] edge
+unread_by : (asking : Asking) (edge : EdgeFields) (fault : Fault) → IsUnread fault
+    → IsDecided asking edge (Err fault) [] [] edge
 unread_by asking edge Read h = record {
   served = λ unsealed tail follows. (refl, (refl, refl, unsealed, refl));
   shut = λ _. (refl, refl, inr tt);
@@ -308,12 +76,15 @@ unread_by asking edge Memory h = record {
 unread_by asking edge Write h = absurd h
 unread_by asking edge Log h = absurd h
 
-pub unread : (words : List ℕ) (log_taken : Bool) (edge : EdgeFields) (fault : Fault) → IsUnread fault → IsDecision words log_taken edge (record { end = Err fault; stays = false; reach = plain All; granted = None; again = None }) [] edge
+pub unread : (words : List ℕ) (log_taken : Bool) (edge : EdgeFields) (fault : Fault)
+    → IsUnread fault
+    → IsDecision words log_taken edge (record { end = Err fault; stays = false; reach = plain All; granted = None; again = None }) [] edge
 unread words log_taken edge fault h =
     (0, [], false, [], unread_by (record { words = words; log_taken = log_taken; reach = plain All; now = 0; bytes = []; over = false }) edge fault h, tt, tt)
 
 -- a kept connection ended behind its last reply: nothing more came
-pub parted : (words : List ℕ) (log_taken : Bool) (edge : EdgeFields) → IsDecision words log_taken edge (record { end = Ok Nothing; stays = false; reach = plain All; granted = None; again = None }) [] edge
+pub parted : (words : List ℕ) (log_taken : Bool) (edge : EdgeFields)
+    → IsDecision words log_taken edge (record { end = Ok Nothing; stays = false; reach = plain All; granted = None; again = None }) [] edge
 parted words log_taken edge = (
   0,
   [],
@@ -340,7 +111,8 @@ short asking edge = unread_by asking edge Memory tt
 
 -- ---- what a decision leaves of a region
 
-decision_grows_by : (again : Option Repetition) (words : List ℕ) (log_taken : Bool) (old : EdgeFields) (ending : Ending) (logged : List ℕ) (new : EdgeFields) → IsDecisionBy again words log_taken old ending logged new
+decision_grows_by : (again : Option Repetition) (words : List ℕ) (log_taken : Bool) (old : EdgeFields) (ending : Ending) (logged : List ℕ) (new : EdgeFields)
+    → IsDecisionBy again words log_taken old ending logged new
     → Grows old.region new.region
 decision_grows_by (Some it) words log_taken old ending logged new h = grows_same old.region new.region (ap (λ (n : EdgeFields). n.region) h.0)
 decision_grows_by None words log_taken old ending logged new h =
@@ -351,14 +123,16 @@ decision_grows_by None words log_taken old ending logged new h =
           served_grows (asked_by (asked_of asking old) h.1 []) old.region new.region (gains logged) (logged ≡ []) (gains h.3) new.sealed ending.end (h.4.served e [] (λ _. refl))
     ] refl
 
-pub decision_grows : (words : List ℕ) (log_taken : Bool) (old : EdgeFields) (ending : Ending) (logged : List ℕ) (new : EdgeFields) → IsDecision words log_taken old ending logged new
+pub decision_grows : (words : List ℕ) (log_taken : Bool) (old : EdgeFields) (ending : Ending) (logged : List ℕ) (new : EdgeFields)
+    → IsDecision words log_taken old ending logged new
     → Grows old.region new.region
 decision_grows words log_taken old ending logged new h = decision_grows_by ending.again words log_taken old ending logged new h
 
 -- ---- what a server makes of that
 
 -- what serving the front decided, once the result is known
-pub as_served : (asking : Asking) (old new : EdgeFields) (found : Option (Served × Taken)) (served : Served) (taken : Taken) (reply logged : List ℕ) → found ≡ Some (served, taken)
+pub as_served : (asking : Asking) (old new : EdgeFields) (found : Option (Served × Taken)) (served : Served) (taken : Taken) (reply logged : List ℕ)
+    → found ≡ Some (served, taken)
     → FrontDecides asking old (Ok found) reply logged new → FrontDecides asking old (Ok (Some (served, taken))) reply logged new
 as_served asking old new found served taken reply logged is h = subst (λ o. FrontDecides asking old (Ok o) reply logged new) is h
 
@@ -367,29 +141,34 @@ none_of None h = refl
 none_of (Some fault) h = absurd (clash h)
 
 -- what is left of replies that are cut to what was there before
-pub front_stays : (old reply all : List ℕ) (mark : ℕ) → all ≡ old ++ reply → mark ≡ length old → take mark all ≡ old ++ []
+pub front_stays : (old reply all : List ℕ) (mark : ℕ) → all ≡ old ++ reply → mark ≡ length old
+    → take mark all ≡ old ++ []
 front_stays old reply all mark is at =
     ap (take mark) is ∙ ap (λ n. take n (old ++ reply)) at ∙ take-append_seam old reply ∙ sym (append-nil old)
 
 -- the place where a reply begins is within the replies
-pub front_within : (old reply all : List ℕ) (mark : ℕ) → all ≡ old ++ reply → mark ≡ length old → mark ≤ length all
+pub front_within : (old reply all : List ℕ) (mark : ℕ) → all ≡ old ++ reply → mark ≡ length old
+    → mark ≤ length all
 front_within old reply all mark is at = omega (arith, ap length is, length-append old reply, at)
 
-taken_within : (asking : Asking) (old : EdgeFields) (taken : Taken) → IsTaken asking old taken → taken.size ≤ length asking.bytes
+taken_within : (asking : Asking) (old : EdgeFields) (taken : Taken) → IsTaken asking old taken
+    → taken.size ≤ length asking.bytes
 taken_within asking old taken h =
     elim old.sealed as (λ b. old.sealed ≡ b → taken.size ≤ length asking.bytes) [
       | true ↦ λ e. omega (arith, ap (λ (t : Taken). t.size) (h.1 e))
       | false ↦ λ e. (h.0 e).1.within
     ] refl
 
-taken_some : (asking : Asking) (old : EdgeFields) (taken : Taken) → IsTaken asking old taken → taken.stays ≡ true → 0 < taken.size
+taken_some : (asking : Asking) (old : EdgeFields) (taken : Taken) → IsTaken asking old taken
+    → taken.stays ≡ true → 0 < taken.size
 taken_some asking old taken h stays =
     elim old.sealed as (λ b. old.sealed ≡ b → 0 < taken.size) [
       | true ↦ λ e. absurd (clash (sym stays ∙ ap (λ (t : Taken). t.stays) (h.1 e)))
       | false ↦ λ e. let come = h.0 e in some_taken asking.reach asking.bytes come.0 taken come.1.takes stays
     ] refl
 
-pub outcome_within : (asking : Asking) (old : EdgeFields) (keeps : Bool) (served : Served) (taken : Taken) (outcome : Outcome) → IsTaken asking old taken → outcome ≡ outcome_by keeps served taken
+pub outcome_within : (asking : Asking) (old : EdgeFields) (keeps : Bool) (served : Served) (taken : Taken) (outcome : Outcome)
+    → IsTaken asking old taken → outcome ≡ outcome_by keeps served taken
     → taken_of outcome ≤ length asking.bytes
 outcome_within asking old keeps Nothing taken outcome h is = subst (λ o. taken_of o ≤ length asking.bytes) (sym is) (omega arith)
 outcome_within asking old keeps (Done status) taken outcome h is = subst (λ o. taken_of o ≤ length asking.bytes) (sym is) (taken_within asking old taken h)
@@ -398,13 +177,15 @@ both_true : (a b : Bool) → (a && b) ≡ true → b ≡ true
 both_true true b e = e
 both_true false b e = absurd (clash (sym e))
 
-pub outcome_some : (asking : Asking) (old : EdgeFields) (keeps : Bool) (served : Served) (taken : Taken) (outcome : Outcome) → IsTaken asking old taken → outcome ≡ outcome_by keeps served taken
+pub outcome_some : (asking : Asking) (old : EdgeFields) (keeps : Bool) (served : Served) (taken : Taken) (outcome : Outcome)
+    → IsTaken asking old taken → outcome ≡ outcome_by keeps served taken
     → goes_on outcome ≡ true → 0 < taken_of outcome
 outcome_some asking old keeps Nothing taken outcome h is on = absurd (clash (sym on ∙ ap goes_on is))
 outcome_some asking old keeps (Done status) taken outcome h is on =
     subst (λ o. 0 < taken_of o) (sym is) (taken_some asking old taken h (both_true keeps taken.stays (sym (ap goes_on is) ∙ on)))
 
-pub ends_decides : (old : Server) (bytes : List ℕ) (over keeps : Bool) (served : Served) (taken : Taken) (outcome : Outcome) (replied logged : List ℕ) (new : Server) → outcome ≡ outcome_by keeps served taken
+pub ends_decides : (old : Server) (bytes : List ℕ) (over keeps : Bool) (served : Served) (taken : Taken) (outcome : Outcome) (replied logged : List ℕ) (new : Server)
+    → outcome ≡ outcome_by keeps served taken
     → Ends old bytes over outcome replied logged new → Decides old bytes over outcome replied logged new
 ends_decides old bytes over keeps Nothing taken outcome replied logged new is h =
     subst (λ o. Decides old bytes over o replied logged new) (sym is) (inl (subst (λ o. Ends old bytes over o replied logged new) is h))
@@ -412,7 +193,8 @@ ends_decides old bytes over keeps (Done status) taken outcome replied logged new
     subst (λ o. Decides old bytes over o replied logged new) (sym is) (inl (subst (λ o. Ends old bytes over o replied logged new) is h))
 
 -- a connection stays only behind a request that lets it
-pub may_stay : (keeps : Bool) (end : Result Served Fault) (asking : Asking) (old : EdgeFields) (outcome : Outcome) → IsOutcome keeps end asking old outcome → MayStay asking old (goes_on outcome)
+pub may_stay : (keeps : Bool) (end : Result Served Fault) (asking : Asking) (old : EdgeFields) (outcome : Outcome)
+    → IsOutcome keeps end asking old outcome → MayStay asking old (goes_on outcome)
 may_stay keeps (Err fault) asking old outcome is = subst (λ o. MayStay asking old (goes_on o)) (sym is) tt
 may_stay keeps (Ok Nothing) asking old outcome h = subst (λ o. MayStay asking old (goes_on o)) (sym h.2) tt
 may_stay keeps (Ok (Done status)) asking old outcome h =
@@ -423,13 +205,15 @@ may_stay keeps (Ok (Done status)) asking old outcome h =
     ] refl)
 
 -- no connection stays unless connections are kept
-pub none_stays : (keeps : Bool) (end : Result Served Fault) (asking : Asking) (old : EdgeFields) (outcome : Outcome) → IsOutcome keeps end asking old outcome → keeps ≡ false → goes_on outcome ≡ false
+pub none_stays : (keeps : Bool) (end : Result Served Fault) (asking : Asking) (old : EdgeFields) (outcome : Outcome)
+    → IsOutcome keeps end asking old outcome → keeps ≡ false → goes_on outcome ≡ false
 none_stays keeps (Err fault) asking old outcome is off = ap goes_on is
 none_stays keeps (Ok Nothing) asking old outcome h off = ap goes_on h.2
 none_stays keeps (Ok (Done status)) asking old outcome h off = ap goes_on h.2 ∙ ap (λ b. b && h.0.stays) off
 
 -- the refresh that is kept of a request came and was granted
-pub may_grant : (asking : Asking) (old : EdgeFields) (refresh : Option Refresh) (served : Served) (now : ℕ) (dot : Dot) (words : List ℕ) (granted : Option Refreshed) → IfSome refresh (IsCome asking.reach asking.bytes asking.over)
+pub may_grant : (asking : Asking) (old : EdgeFields) (refresh : Option Refresh) (served : Served) (now : ℕ) (dot : Dot) (words : List ℕ) (granted : Option Refreshed)
+    → IfSome refresh (IsCome asking.reach asking.bytes asking.over)
     → IsKept refresh served now dot words granted → now ≡ asking.now → dot ≡ next_in (place_in old.region) → words ≡ asking.words → MayGrant asking old (Ok served) granted
 may_grant asking old refresh served now dot words None came h at is six_words = tt
 may_grant asking old None served now dot words (Some it) came h at is six_words = absurd h
@@ -442,10 +226,11 @@ may_grant asking old (Some refresh) served now dot words (Some it) came h at is 
 )
 
 -- the server that moved on, by its steps
-pub has_moved : (old mid kept new : Server) (next : ChaCha) (left : ℕ) (fault : Option Fault) (granted : Option Refreshed) → mid ≡ record old { edge = mid.edge }
-    → kept ≡ record mid { repeats = kept_by granted mid.repeats } → new ≡ record kept { words = next; left = left; fault = fault }
-    → next ≡ past_six old.words → new ≡ record old { edge = new.edge; words = past_six old.words; left = left; fault = fault; repeats = kept_by granted old.repeats }
-has_moved old mid kept new next left fault granted one keep two words =
+pub has_moved : (old mid kept new : Server) (next : ChaCha) (left : ℕ) (end : Result Served Fault) (granted : Option Refreshed)
+    → mid ≡ record old { edge = mid.edge }
+    → kept ≡ record mid { repeats = kept_by granted mid.repeats } → new ≡ record kept { words = next; left = left; fault = fault_of end; tally = tally_with kept end }
+    → next ≡ past_six old.words → new ≡ moved_on old end new.edge granted left
+has_moved old mid kept new next left end granted one keep two words =
     let alloc = ap (λ (s : Server). s.alloc) two ∙ ap (λ (s : Server). s.alloc) keep ∙ ap (λ (s : Server). s.alloc) one in
     let drawn = ap (λ (s : Server). s.words) two ∙ words in
     let logs = ap (λ (s : Server). s.log_taken) two ∙ ap (λ (s : Server). s.log_taken) keep ∙ ap (λ (s : Server). s.log_taken) one in
@@ -457,7 +242,8 @@ has_moved old mid kept new next left fault granted one keep two words =
     let told = ap (λ (s : Server). s.fault) two in
     let repeats = ap (λ (s : Server). s.repeats) two ∙ ap (λ (s : Server). s.repeats) keep ∙ ap (λ (s : Server). kept_by granted s.repeats) one in
     let pruning = ap (λ (s : Server). s.pruning) two ∙ ap (λ (s : Server). s.pruning) keep ∙ ap (λ (s : Server). s.pruning) one in
-    λ i. record { alloc = alloc i; edge = new.edge; words = drawn i; log_taken = logs i; keeps = keeps i; has_inner = has_inner i; is_inner = is_inner i; now = now i; left = many i; fault = told i; repeats = repeats i; pruning = pruning i }
+    let tally = ap (λ (s : Server). s.tally) two ∙ ap (λ (s : Server). tally_with s end) keep ∙ ap (λ (s : Server). tally_with s end) one in
+    λ i. record { alloc = alloc i; edge = new.edge; words = drawn i; log_taken = logs i; keeps = keeps i; has_inner = has_inner i; is_inner = is_inner i; now = now i; left = many i; fault = told i; repeats = repeats i; pruning = pruning i; tally = tally i }
 
 module _ (old mid kept new : Server) (bytes : List ℕ) (over : Bool) (next : ChaCha) (left : ℕ) (words : List ℕ) (reply logged : List ℕ) (granted : Option Refreshed)
     (untold : old.fault ≡ None) (six_words : words ≡ six old.words) (past_words : next ≡ past_six old.words)
@@ -465,15 +251,18 @@ module _ (old mid kept new : Server) (bytes : List ℕ) (over : Bool) (next : Ch
   abbrev asking : Asking
   asking = record { words = words; log_taken = old.log_taken; reach = reach_by old.edge.terms old.has_inner old.is_inner; now = old.now; bytes = bytes; over = over }
 
-  as_asked : (end : Result Served Fault) → new.edge ≡ mid.edge → IsDecided asking old.edge end reply logged mid.edge → IsDecided (asking_of old bytes over) old.edge end reply logged new.edge
+  as_asked : (end : Result Served Fault) → new.edge ≡ mid.edge
+      → IsDecided asking old.edge end reply logged mid.edge
+      → IsDecided (asking_of old bytes over) old.edge end reply logged new.edge
   as_asked end edge h =
       subst (λ e. IsDecided (asking_of old bytes over) old.edge end reply logged e) (sym edge)
       (subst (λ w. IsDecided (record { words = w; log_taken = old.log_taken; reach = reach_by old.edge.terms old.has_inner old.is_inner; now = old.now; bytes = bytes; over = over }) old.edge end reply logged mid.edge) six_words h)
 
   -- the request was served
-  pub served_ends : (served : Served) (taken : Taken) (outcome : Outcome) (sent : List ℕ) → FrontDecides asking old.edge (Ok (Some (served, taken))) reply logged mid.edge
+  pub served_ends : (served : Served) (taken : Taken) (outcome : Outcome) (sent : List ℕ)
+      → FrontDecides asking old.edge (Ok (Some (served, taken))) reply logged mid.edge
       → MayGrant (asking_of old bytes over) old.edge (Ok served) granted
-      → new ≡ record kept { words = next; left = left; fault = None } → outcome ≡ outcome_by old.keeps served taken → IsReplied (goes_on outcome) reply sent
+      → new ≡ record kept { words = next; left = left; fault = None; tally = tally_with kept (Ok served) } → outcome ≡ outcome_by old.keeps served taken → IsReplied (goes_on outcome) reply sent
       → old.left ≡ left + ended_if (goes_on outcome) → Decides old bytes over outcome sent logged new
   served_ends served taken outcome sent h may two is replied counted = ends_decides old bytes over old.keeps served taken outcome sent logged new is (record {
     end = Ok served;
@@ -486,11 +275,11 @@ module _ (old mid kept new : Server) (bytes : List ℕ) (over : Bool) (next : Ch
     is_granted = may;
     left = left;
     counted = counted;
-    moved = has_moved old mid kept new next left None granted one keep two past_words;
+    moved = has_moved old mid kept new next left (Ok served) granted one keep two past_words;
   })
 
   -- the request ended by a fault
-  pub fault_ends : (fault : Fault) → granted ≡ None → FrontDecides asking old.edge (Err fault) reply logged mid.edge → new ≡ record kept { words = next; left = left; fault = Some fault }
+  pub fault_ends : (fault : Fault) → granted ≡ None → FrontDecides asking old.edge (Err fault) reply logged mid.edge → new ≡ record kept { words = next; left = left; fault = Some fault; tally = tally_with kept (Err fault) }
       → old.left ≡ left + 1 → Decides old bytes over Ended [] logged new
   fault_ends fault none h two counted = inl (record {
     end = Err fault;
@@ -503,11 +292,12 @@ module _ (old mid kept new : Server) (bytes : List ℕ) (over : Bool) (next : Ch
     is_granted = subst (MayGrant (asking_of old bytes over) old.edge (Err fault)) (sym none) tt;
     left = left;
     counted = counted;
-    moved = has_moved old mid kept new next left (Some fault) granted one keep two past_words;
+    moved = has_moved old mid kept new next left (Err fault) granted one keep two past_words;
   })
 
 -- no memory: the connection ends, and nothing is changed
-pub short_decides : (old : Server) (bytes : List ℕ) (over : Bool) (outcome : Outcome) (new : Server) → old.fault ≡ None → FallsShort old outcome new → Decides old bytes over outcome [] [] new
+pub short_decides : (old : Server) (bytes : List ℕ) (over : Bool) (outcome : Outcome) (new : Server)
+    → old.fault ≡ None → FallsShort old outcome new → Decides old bytes over outcome [] [] new
 short_decides old bytes over outcome new untold h = subst (λ o. Decides old bytes over o [] [] new) (sym h.0) (inl (record {
   end = Err Memory;
   reply = [];
@@ -522,7 +312,8 @@ short_decides old bytes over outcome new untold h = subst (λ o. Decides old byt
   moved = moved_same old new (Err Memory) h.1.0 h.1.2;
 }))
   where
-    moved_same : (old new : Server) (end : Result Served Fault) (left : ℕ) → new ≡ moved_on old end old.edge None left → new ≡ moved_on old end new.edge None left
+    moved_same : (old new : Server) (end : Result Served Fault) (left : ℕ)
+        → new ≡ moved_on old end old.edge None left → new ≡ moved_on old end new.edge None left
     moved_same old new end left is = is ∙ ap (λ e. moved_on old end e None left) (sym (ap (λ (s : Server). s.edge) is))
 
 -- a request that was given a reply again took some bytes, if its connection stays
@@ -541,7 +332,8 @@ again_within old bytes over outcome reply before after taken new again (inr h) =
 again_within old bytes over outcome reply before after taken new again (inl h) = subst (λ o. taken_of o ≤ length bytes) (sym h.is_outcome) again.repeated.came.came.within
 
 -- the reply to a refresh was given again
-pub again_decides : (old : Server) (bytes : List ℕ) (over : Bool) (outcome : Outcome) (reply before after : List ℕ) (taken : Taken) (new : Server) → old.fault ≡ None
+pub again_decides : (old : Server) (bytes : List ℕ) (over : Bool) (outcome : Outcome) (reply before after : List ℕ) (taken : Taken) (new : Server)
+    → old.fault ≡ None
     → IsAgain old (reach_by old.edge.terms old.has_inner old.is_inner) bytes over reply taken → GivesAgain old taken reply outcome before after new
     → (replied : List ℕ) × Decides old bytes over outcome replied [] new × (after ≡ before ++ replied)
 again_decides old bytes over outcome reply before after taken new untold again (inr h) =
@@ -567,7 +359,8 @@ again_decides old bytes over outcome reply before after taken new untold again (
 )
 
 -- a reply as it is sent over a connection that stays, behind others
-pub replied_over : (front reply all new without : List ℕ) (mark : ℕ) (stays : Bool) → stays ≡ true → all ≡ front ++ reply → mark ≡ length front
+pub replied_over : (front reply all new without : List ℕ) (mark : ℕ) (stays : Bool) → stays ≡ true
+    → all ≡ front ++ reply → mark ≡ length front
     → IsOpenReply (drop mark all) without → new ≡ take mark all ++ without → (sent : List ℕ) × IsReplied stays reply sent × (new ≡ front ++ sent)
 replied_over front reply all new without mark stays on is at said replaced =
     let rest : drop mark all ≡ reply = ap (drop mark) is ∙ ap (λ n. drop n (front ++ reply)) at ∙ drop-append_seam front reply in
@@ -576,5 +369,6 @@ replied_over front reply all new without mark stays on is at said replaced =
     (without, subst (λ b. IsReplied b reply without) (sym on) open_reply, replaced ∙ ap (λ l. l ++ without) first)
 
 -- a reply as it is sent over a connection that ends, behind others
-pub replied_same : (front reply all : List ℕ) (stays : Bool) → stays ≡ false → all ≡ front ++ reply → (sent : List ℕ) × IsReplied stays reply sent × (all ≡ front ++ sent)
+pub replied_same : (front reply all : List ℕ) (stays : Bool) → stays ≡ false → all ≡ front ++ reply
+    → (sent : List ℕ) × IsReplied stays reply sent × (all ≡ front ++ sent)
 replied_same front reply all stays off is = (reply, subst (λ b. IsReplied b reply reply) (sym off) refl, is)

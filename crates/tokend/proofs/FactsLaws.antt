@@ -3,7 +3,8 @@
 --   all_printed    all sources are printed
 --   fault_left     what a fault leaves of the output
 --   rows_named     the names of sources that clap has, as rows
-use Rattle.std.proofs.Common.{◌≡◌, ℕ, List, [], ◌∷◌, Bor, Option, Some, None, Result, Ok, Err, map, option_map, refl, sym, ap, subst, inl, inr, ◌∙◌, string_bytes}
+use Rattle.std.proofs.Common.{◌≡◌, ℕ, List, [], ◌∷◌, Bor, Option, Some, None, Result, Ok, Err, map}
+use Rattle.std.proofs.Common.{option_map, refl, sym, ap, subst, inl, inr, ◌∙◌, string_bytes}
 use Rattle.std.specs.Prelude.{unwrap_or}
 use Rattle.std.specs.Io.KnownBytes.{Keeps}
 use Rattle.tk_edge.specs.Told.{Change}
@@ -12,14 +13,21 @@ use Rattle.clap.specs.declared.parser.matches.Found.{Found}
 use Rattle.clap.proofs.WalkLemmas.{raw_values-rows}
 use Rattle.tk_listing.specs.declared.print.PrintFault.{PrintFault}
 use Rattle.tk_listing.specs.declared.print.PrintFault.TheVariants as print
-use Rattle.tokend.specs.FactsRun.{BeginsFacts, IsBadSource, IsFactsFault, IsSourceFault, IsReported, IsReportedAs, IsUnreadSource, PrintsEach, PrintsFacts, PrintsNamed, PrintsSource, PrintsSources, TellsDropped, with_cut}
+use Rattle.tokend.specs.FactsRun.{BeginsFacts, IsBadSource, IsFactsFault, IsSourceFault, IsReported}
+use Rattle.tokend.specs.FactsRun.{IsReportedAs, IsUnreadSource, PrintsEach, PrintsFacts}
+use Rattle.tokend.specs.FactsRun.{PrintsNamed, PrintsSource, PrintsSources, TellsDropped, with_cut}
 use Rattle.tokend.specs.Status.{LeavesBegun}
 use Rattle.tokend.specs.declared.options.Sources.{Sources}
 use Rattle.tokend.specs.Telling.{Writing}
 use Rattle.tokend.specs.declared.fault.Fault.{Fault}
-use Rattle.tokend.specs.declared.fault.Fault.TheVariants.{BadLine, BadLogFile, BadSeedFile, CannotListen, CannotOpen, CannotRead, CannotReadFile, Facts, Memory, Output, PruneAhead, ScriptTooLong, SharedFolder, SocketFailed, SocketInUse, Words}
+use Rattle.tokend.specs.declared.fault.Fault.TheVariants.{BadLine, BadLogFile, BadSeedFile}
+use Rattle.tokend.specs.declared.fault.Fault.TheVariants.{CannotListen, CannotOpen, CannotRead}
+use Rattle.tokend.specs.declared.fault.Fault.TheVariants.{CannotReadFile, Facts, Memory, Output}
+use Rattle.tokend.specs.declared.fault.Fault.TheVariants.{PruneAhead, ScriptTooLong, SharedFolder}
+use Rattle.tokend.specs.declared.fault.Fault.TheVariants.{SocketFailed, SocketInUse, Words}
 
-pub is_bad : (name : Text) (offset : ℕ) (fault : Fault) → IsBadSource name offset fault → IsSourceFault fault
+pub is_bad : (name : Text) (offset : ℕ) (fault : Fault) → IsBadSource name offset fault
+    → IsSourceFault fault
 is_bad name offset (Facts why) h = tt
 is_bad name offset (Words error) h = absurd h
 is_bad name offset CannotRead h = absurd h
@@ -74,7 +82,8 @@ of_source (BadLine n) h = absurd h
 of_source Memory h = absurd h
 of_source Output h = absurd h
 
-is_told : (name : Text) (why : PrintFault) (fault : Fault) → IsReportedAs name why fault → IsFactsFault fault
+is_told : (name : Text) (why : PrintFault) (fault : Fault) → IsReportedAs name why fault
+    → IsFactsFault fault
 is_told name (print.Malformed offset) fault h = of_source fault (is_bad name offset fault h)
 is_told name print.Read fault h = of_source fault (is_unread name fault h)
 is_told name print.Memory fault h = subst IsFactsFault (sym h) tt
@@ -84,7 +93,8 @@ abbrev pub fault_in : Fault → Result ℕ Fault → Fault
 fault_in other (Ok n) = other
 fault_in other (Err fault) = fault
 
-source_fault : (name : Text) (known : Option (List ℕ)) (fault : Fault) (old new : Option (List ℕ)) → PrintsSource name known (Err fault) old new → IsFactsFault fault
+source_fault : (name : Text) (known : Option (List ℕ)) (fault : Fault) (old new : Option (List ℕ))
+    → PrintsSource name known (Err fault) old new → IsFactsFault fault
 source_fault name known fault old new (inr h) = subst IsFactsFault (sym (ap (fault_in fault) h.1)) (of_source h.0 (is_unread name h.0 h.2))
 source_fault name known fault old new (inl h) = by h.0 h.2
   where
@@ -92,14 +102,16 @@ source_fault name known fault old new (inl h) = by h.0 h.2
     by (Ok cut) e = absurd (cc)
     by (Err why) told = is_told name why fault told
 
-pub later_fault : (cut : ℕ) (later : Result ℕ Fault) (fault : Fault) → Err fault ≡ with_cut cut later → later ≡ Err fault
+pub later_fault : (cut : ℕ) (later : Result ℕ Fault) (fault : Fault)
+    → Err fault ≡ with_cut cut later → later ≡ Err fault
 later_fault cut (Ok n) fault e = absurd (cc)
 later_fault cut (Err why) fault e = sym e
 
 pub no_error : (fault : Fault) (n : ℕ) → Err fault ≡ Ok n → ⊥
 no_error fault n e = absurd (cc)
 
-each_fault : (names : List Text) (input : Option (List ℕ)) (fault : Fault) (old new : Option (List ℕ)) → PrintsEach names input (Err fault) old new → IsFactsFault fault
+each_fault : (names : List Text) (input : Option (List ℕ)) (fault : Fault) (old new : Option (List ℕ))
+    → PrintsEach names input (Err fault) old new → IsFactsFault fault
 each_fault [] input fault old new h = absurd (no_error fault 0 h.0)
 each_fault (name ∷ more) input fault old new (inl h) =
     subst IsFactsFault (sym (ap (fault_in fault) h.1)) (source_fault name _ h.0 old new h.2)
@@ -107,14 +119,16 @@ each_fault (name ∷ more) input fault old new (inr h) =
     each_fault more h.2 fault h.1 new
     (subst (λ (r : Result ℕ Fault). PrintsEach more h.2 r h.1 new) (later_fault h.0 h.3 fault h.7) h.6)
 
-pub facts_fault : (s : Sources) (input : Option (List ℕ)) (fault : Fault) (old new : Option (List ℕ)) → PrintsSources s input (Err fault) old new → IsFactsFault fault
+pub facts_fault : (s : Sources) (input : Option (List ℕ)) (fault : Fault) (old new : Option (List ℕ))
+    → PrintsSources s input (Err fault) old new → IsFactsFault fault
 facts_fault s input fault old new h = by (map string_bytes s.names.items) h
   where
     by : (names : List Text) → PrintsNamed names input (Err fault) old new → IsFactsFault fault
     by [] h = source_fault _ input fault old new h
     by (name ∷ more) h = each_fault (name ∷ more) input fault old new h
 
-pub all_printed : (s : Sources) (input : Option (List ℕ)) (r : Result ℕ Fault) (cut : ℕ) (mid : Option (List ℕ)) (output : Change) (faults : Writing) → r ≡ Ok cut
+pub all_printed : (s : Sources) (input : Option (List ℕ)) (r : Result ℕ Fault) (cut : ℕ) (mid : Option (List ℕ)) (output : Change) (faults : Writing)
+    → r ≡ Ok cut
     → PrintsSources s input r output.before mid → Keeps mid output.after → TellsDropped cut faults → PrintsFacts s input output faults
 all_printed s input r cut mid output faults is h kept told = record {
   cut = cut;
@@ -124,14 +138,16 @@ all_printed s input r cut mid output faults is h kept told = record {
   told = told;
 }
 
-pub fault_left : (s : Sources) (input : Option (List ℕ)) (r : Result ℕ Fault) (fault : Fault) (old mid new : Option (List ℕ)) → r ≡ Err fault
+pub fault_left : (s : Sources) (input : Option (List ℕ)) (r : Result ℕ Fault) (fault : Fault) (old mid new : Option (List ℕ))
+    → r ≡ Err fault
     → PrintsSources s input r old mid → Keeps mid new → LeavesBegun (BeginsFacts s input fault old new) fault old new
 fault_left s input r fault old mid new is h kept = of fault (facts_fault s input fault old mid ended) ended
   where
     ended : PrintsSources s input (Err fault) old mid
     ended = subst (λ (x : Result ℕ Fault). PrintsSources s input x old mid) is h
 
-    of : (fault : Fault) → IsFactsFault fault → PrintsSources s input (Err fault) old mid → LeavesBegun (BeginsFacts s input fault old new) fault old new
+    of : (fault : Fault) → IsFactsFault fault → PrintsSources s input (Err fault) old mid
+        → LeavesBegun (BeginsFacts s input fault old new) fault old new
     of (Facts why) f h = (Err (Facts why), mid, h, kept, refl)
     of Output f h = (Err Output, mid, h, kept, tt)
     of (Words error) f h = absurd f
@@ -149,7 +165,8 @@ fault_left s input r fault old mid new is h kept = of fault (facts_fault s input
     of (BadLine n) f h = absurd f
     of Memory f h = absurd f
 
-pub fault_of_sources : (s : Sources) (input : Option (List ℕ)) (r : Result ℕ Fault) (fault : Fault) (old mid : Option (List ℕ)) → r ≡ Err fault
+pub fault_of_sources : (s : Sources) (input : Option (List ℕ)) (r : Result ℕ Fault) (fault : Fault) (old mid : Option (List ℕ))
+    → r ≡ Err fault
     → PrintsSources s input r old mid → IsFactsFault fault
 fault_of_sources s input r fault old mid is h =
     facts_fault s input fault old mid (subst (λ (x : Result ℕ Fault). PrintsSources s input x old mid) is h)
@@ -158,11 +175,13 @@ fault_of_sources s input r fault old mid is h =
 abbrev pub texts_in : Bor (List (Bor Text)) → List Text
 texts_in s = map (λ (v : Bor Text). v.now) s.now
 
-pub rows_named : (f : Found) (id : Text) (r : Option (Bor (List (Bor Text)))) → option_map texts_in r ≡ option_map raw_values (matched_of f id)
+pub rows_named : (f : Found) (id : Text) (r : Option (Bor (List (Bor Text))))
+    → option_map texts_in r ≡ option_map raw_values (matched_of f id)
     → unwrap_or (option_map texts_in r) [] ≡ unwrap_or (all_of id (rows_of f)) []
 rows_named f id r e = ap (λ (o : Option (List Text)). unwrap_or o []) (e ∙ raw_values-rows f id)
 
-pub some_named : (f : Found) (id : Text) (r : Option (Bor (List (Bor Text)))) (s : Bor (List (Bor Text))) → r ≡ Some s
+pub some_named : (f : Found) (id : Text) (r : Option (Bor (List (Bor Text)))) (s : Bor (List (Bor Text)))
+    → r ≡ Some s
     → option_map texts_in r ≡ option_map raw_values (matched_of f id) → texts_in s ≡ unwrap_or (all_of id (rows_of f)) []
 some_named f id r s is e =
     ap (λ (o : Option (Bor (List (Bor Text)))). unwrap_or (option_map texts_in o) []) (sym is) ∙ rows_named f id r e

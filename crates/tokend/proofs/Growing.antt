@@ -4,7 +4,8 @@
 --   made_grows    a fact is made
 --   taken_grows   a bundle is taken in, refused or cut short
 --   pushed_grows  taken_grows, for a bundle that the edge may refuse
-use Rattle.std.proofs.Common.{◌≡◌, ◌≤◌, ℕ, max, List, take, Option, Some, None, Result, Ok, Err, IfSome, inl, inr, refl, sym, ap, subst, ◌∙◌, arith}
+use Rattle.std.proofs.Common.{◌≡◌, ◌≤◌, ℕ, max, List, take, Option, Some, None, Result, Ok, Err}
+use Rattle.std.proofs.Common.{IfSome, inl, inr, refl, sym, ap, subst, ◌∙◌, arith}
 use Rattle.std.specs.FinMap as map
 use Rattle.tk_format.specs.Format.{whole}
 use Rattle.tk_handle.specs.declared.dot.Dot.{Dot}
@@ -36,7 +37,8 @@ use Rattle.tokend.specs.Growing.{Grows}
 same_store : (P Q : StoreFields) → Q ≡ P → StoreBelow P Q
 same_store P Q same = subst (StoreBelow P) (sym same) (record { slots = slots_itself P.slots; horizon = omega (arith) })
 
-with_fact_above : (P : StoreFields) (d : Dot) (b : Body) → map.get P.slots d ≡ None → StoreBelow P (with_fact P d b)
+with_fact_above : (P : StoreFields) (d : Dot) (b : Body) → map.get P.slots d ≡ None
+    → StoreBelow P (with_fact P d b)
 with_fact_above P d b free = record { slots = above; horizon = omega (arith) }
   where
     above : SlotsBelow P.slots (map.insert P.slots d (Held b))
@@ -45,7 +47,8 @@ with_fact_above P d b free = record { slots = above; horizon = omega (arith) }
         (below_itself (map.get P.slots q))
 
 -- a store is below itself with its horizon raised, and with items that agree with what it knows
-with_items_above : (P : StoreFields) (horizon : Option ℕ) (items : Items) → AgreesWith P.slots items → StoreBelow P (items_taken (raised P horizon) items)
+with_items_above : (P : StoreFields) (horizon : Option ℕ) (items : Items) → AgreesWith P.slots items
+    → StoreBelow P (items_taken (raised P horizon) items)
 with_items_above P None items agree = record { slots = fit_below P.slots items agree; horizon = omega (arith) }
 with_items_above P (Some moment) items agree = record { slots = fit_below P.slots items agree; horizon = later P.horizon moment }
   where
@@ -68,7 +71,8 @@ grows_twice old mid new h k = record {
 }
 
 -- the fact that a region makes, if any, is at a dot that it doesn't know
-pub made_grows : (old new : RegionFields) (fact : Option (Dot × Body)) → Gains old fact new → IfSome fact (IsNextFact old) → Grows old new
+pub made_grows : (old new : RegionFields) (fact : Option (Dot × Body)) → Gains old fact new
+    → IfSome fact (IsNextFact old) → Grows old new
 made_grows old new None gains next = record { number = gains.number; settings = gains.settings; facts = same_store old.facts new.facts gains.facts }
 made_grows old new (Some f) gains next = record {
   number = gains.number;
@@ -77,16 +81,20 @@ made_grows old new (Some f) gains next = record {
 }
 
 -- a bundle that is taken in, refused or cut short
-pub taken_grows : (old new : RegionFields) (bytes : List ℕ) (taken : Result ℕ TakeError) → TakesBundle old bytes taken new → Grows old new
+pub taken_grows : (old new : RegionFields) (bytes : List ℕ) (taken : Result ℕ TakeError)
+    → TakesBundle old bytes taken new → Grows old new
 taken_grows old new bytes taken h = record { number = h.number; settings = h.settings; facts = by_bundle (whole bundle bytes) taken h.takes }
   where
     kept : new.facts ≡ old.facts → StoreBelow old.facts new.facts
     kept same = same_store old.facts new.facts same
 
-    joined : (b : BundleFields) (items : Items) → AgreesWith old.facts.slots items → new.facts ≡ items_taken (raised old.facts b.horizon) items → StoreBelow old.facts new.facts
+    joined : (b : BundleFields) (items : Items) → AgreesWith old.facts.slots items
+        → new.facts ≡ items_taken (raised old.facts b.horizon) items
+        → StoreBelow old.facts new.facts
     joined b items agree is = subst (StoreBelow old.facts) (sym is) (with_items_above old.facts b.horizon items agree)
 
-    by_bundle : (o : Option BundleFields) (t : Result ℕ TakeError) → TakesIn old.facts (next_in (place_in old)) o t new.facts → StoreBelow old.facts new.facts
+    by_bundle : (o : Option BundleFields) (t : Result ℕ TakeError)
+        → TakesIn old.facts (next_in (place_in old)) o t new.facts → StoreBelow old.facts new.facts
     by_bundle None (Err refusal.Malformed) k = kept k
     by_bundle None (Err refusal.Memory) k = kept k
     by_bundle None (Err refusal.OwnNumber) k = absurd k
@@ -100,10 +108,12 @@ taken_grows old new bytes taken h = record { number = h.number; settings = h.set
     by_bundle (Some b) (Ok n) k = joined b b.items k.1 k.2.0
 
 -- a pushed bundle that the edge refuses, or that goes to the region
-pub pushed_grows : (terms : TermsFields) (now : ℕ) (old new : RegionFields) (bytes : List ℕ) (taken : Result ℕ PushError) → Pushes terms now old bytes taken new → Grows old new
+pub pushed_grows : (terms : TermsFields) (now : ℕ) (old new : RegionFields) (bytes : List ℕ) (taken : Result ℕ PushError)
+    → Pushes terms now old bytes taken new → Grows old new
 pushed_grows terms now old new bytes taken h = by (refused terms now (whole bundle bytes)) taken h
   where
-    by : (r : Option PushError) (t : Result ℕ PushError) → PushesBy r old bytes t new → Grows old new
+    by : (r : Option PushError) (t : Result ℕ PushError) → PushesBy r old bytes t new
+        → Grows old new
     by (Some why) (Err HorizonAhead) h = grows_same old new h.1
     by (Some why) (Err OutOfRange) h = grows_same old new h.1
     by (Some why) (Err (Take refusal.Memory)) h = grows_same old new h

@@ -2,11 +2,12 @@
 -- Key results:
 --   decision_adds             a decision adds a bundle that fits, or nothing
 --   decisions_stay, turns_stay  nothing is logged or changed by a sealed edge
-use Rattle.std.proofs.Common.{◌≡◌, ◌≢◌, ℕ, ◌≤◌, max, Bool, true, false, nat_lt, List, [], ◌∷◌, append-nil, filter, take, Option, None, Some, option_map, Result, Ok, Err, inl, inr, refl, sym, ap, subst, arith, ◌∙◌, cond}
+use Rattle.std.proofs.Common.{◌≡◌, ◌≢◌, ℕ, Bool, true, false, nat_lt, List, [], ◌∷◌, filter, take}
+use Rattle.std.proofs.Common.{Option, None, Some, option_map, Result, Ok, Err, inl, inr, refl, sym}
+use Rattle.std.proofs.Common.{ap, subst, ◌∙◌, cond}
 use Rattle.std.specs.Prelude.{◌⊎◌, IfSome}
 use Rattle.std.specs.FinMap as map
-use Rattle.std.specs.Io.KnownBytes.{Appends, Keeps}
-use Rattle.std.proofs.lemmas.Bool.Decides.{nat_tests}
+use Rattle.std.specs.Io.KnownBytes.{Appends}
 use Rattle.rand_chacha.specs.ChaCha.{ChaCha}
 use Rattle.tk_format.specs.Exact.{whole_again}
 use Rattle.tk_format.specs.Format.{whole}
@@ -14,12 +15,13 @@ use Rattle.tk_handle.specs.declared.dot.Dot.{Dot}
 use Rattle.tk_fact.specs.declared.body.Body.{Body}
 use Rattle.tk_store.specs.SlotJoining.{AllBelow, AllFit}
 use Rattle.tk_store.specs.SlotOrder.{SlotAgrees, SlotsBelow}
-use Rattle.tk_store.specs.Slots.{Slot, Slots, Held, Skipped, is_skipped_slot, joined_slot, with_slots}
+use Rattle.tk_store.specs.Slots.{Held, Skipped, is_skipped_slot, joined_slot, with_slots}
 use Rattle.tk_store.specs.StoreFields.{StoreFields, with_fact}
 use Rattle.tk_bundle.specs.BundleFields.{BundleFields, Items, of_facts}
 use Rattle.tk_bundle.specs.Bundle.{bundle, bundle_bytes}
 use Rattle.tk_bundle.specs.BundleLaws.{bundle_exact}
-use Rattle.tk_bundle.specs.News.{changes, changes_slots, counts, is_later, news_of, record_of as news_record}
+use Rattle.tk_bundle.specs.News.{changes, changes_slots, counts, is_later, news_of}
+use Rattle.tk_bundle.specs.News.{record_of as news_record}
 use Rattle.tk_message.specs.Place.{next_in}
 use Rattle.tk_message.specs.declared.status_code.StatusCode.{StatusCode}
 use Rattle.tk_message.specs.ReplyFields.{ReplyFields}
@@ -33,7 +35,8 @@ use Rattle.tk_region.specs.declared.take.TakeError.TheVariants.{Malformed, OwnNu
 use Rattle.tk_region.specs.declared.take.TakeError.TheVariants as Take
 use Rattle.tk_region.proofs.CapLaws.{next_unknown}
 use Rattle.tk_region.proofs.FitsLaws.{fits_differ}
-use Rattle.tk_edge.specs.Answers.{IsRecorded, answer_at, answered_by, fact_by, metrics_by, notice_by}
+use Rattle.tk_edge.specs.Answers.{IsRecorded, answer_at, answered_by, fact_by, metrics_by}
+use Rattle.tk_edge.specs.Answers.{notice_by}
 use Rattle.tk_edge.specs.Arrivals.{Answers}
 use Rattle.tk_edge.specs.EdgeFields.{EdgeFields}
 use Rattle.tk_edge.specs.Ahead.{refused, lifted}
@@ -49,7 +52,8 @@ use Rattle.tk_edge.specs.declared.ahead.PushError.{PushError}
 use Rattle.tk_edge.specs.declared.ahead.PushError.TheVariants as push
 use Rattle.tk_edge.specs.declared.exchange.Exchange.TheVariants.{Vector, Pull, Push}
 use Rattle.tk_edge.specs.declared.hear.Arrival.{Arrival}
-use Rattle.tk_edge.specs.declared.hear.Arrival.TheVariants.{Silence, Refused, Request, Exchange, Notice}
+use Rattle.tk_edge.specs.declared.hear.Arrival.TheVariants.{Silence, Refused, Request, Exchange}
+use Rattle.tk_edge.specs.declared.hear.Arrival.TheVariants.{Notice}
 use Rattle.tk_edge.specs.Notices.{health_of, metadata_of}
 use Rattle.tk_edge.specs.declared.notice.Notice.{Notice as AnyNotice}
 use Rattle.tk_edge.specs.declared.notice.Notice.TheVariants.{Discovery, Health, Metrics}
@@ -59,82 +63,27 @@ use Rattle.tokend.specs.Decisions.{Asking, Ending, IsDecision, IsDecisionBy, ask
 use Rattle.tokend.specs.Repeats.{Repetition}
 use Rattle.tokend.specs.Draw.{past_six, six}
 use Rattle.tokend.specs.KeptLog.{IsCalm}
-use Rattle.tokend.specs.Turns.{AreDecisions, AreTurns, Endings, IsKept, IsLost, IsTurn, Running, past_each}
-use Rattle.tokend.proofs.Turning.{sealed_stays}
-use Rattle.tokend.proofs.KeptSlots.{IsFrom, below_first, below_some, fit_lower, fits_lower, from_items, first_unchanged, items_below, items_from, items_lower, neither, unchanged}
-use Rattle.tokend.proofs.LogBundles.{IsNotLater, horizon_from, taken_slots}
+use Rattle.tokend.specs.Turns.{AreDecisions, AreTurns, Endings, IsKept, IsLost, IsTurn, Running}
+use Rattle.tokend.specs.Turns.{past_each}
+use Rattle.tokend.proofs.TurnGrowth.{sealed_stays}
+use Rattle.tokend.proofs.KeptSlots.{IsFrom, below_first, below_some, fit_lower, fits_lower}
+use Rattle.tokend.proofs.KeptSlots.{from_items, first_unchanged, items_below, items_from}
+use Rattle.tokend.proofs.KeptSlots.{items_lower, neither, unchanged}
+use Rattle.tokend.proofs.LogBundles.{horizon_from, taken_slots}
+use Rattle.tokend.proofs.LogGains.{IsSame, Brings, Grows, keeps_nothing, sealed_clash, ok_fault}
+use Rattle.tokend.proofs.LogGains.{write_log, write_memory, one, all_items, no_earlier, short_push}
+use Rattle.tokend.proofs.LogGains.{same_late}
 
 -- what is logged of a prepared reply is the record of its fact, before the horizon too
 logged_is : (r : RegionFields) (now : ℕ) (words : List ℕ) (request : RequestFields)
     → (prepared_of r now words request).logged ≡ option_map record_of (prepared_of r now words request).fact
 logged_is r now words request = by_time (nat_lt now r.facts.horizon)
   where
-    by_time : (t : Bool) → (cond t (early_in (place_in r)) (prepared_by r.settings.cap (place_in r) (decision_of r.facts (place_in r) now words request))).logged
+    by_time : (t : Bool)
+        → (cond t (early_in (place_in r)) (prepared_by r.settings.cap (place_in r) (decision_of r.facts (place_in r) now words request))).logged
         ≡ option_map record_of (cond t (early_in (place_in r)) (prepared_by r.settings.cap (place_in r) (decision_of r.facts (place_in r) now words request))).fact
     by_time true = refl
     by_time false = refl
-
--- the store is as it was
-pub record IsSame (F G : StoreFields) : Type 0 where
-  pub slots : (d : Dot) → map.get G.slots d ≡ map.get F.slots d
-  pub horizon : G.horizon ≡ F.horizon
-
--- A bundle in the log says how a store became another. If memory didn't run out, what is below the
--- store can take the bundle in, and stays below.
-pub record Brings (end : Result Served Fault) (F G : StoreFields) (b : BundleFields) : Type 0 where
-  pub fits : bundle.Fits b
-  pub from : (U : Slots) → AllBelow U b.items → (d : Dot) → IsFrom (map.get U d) (map.get F.slots d) (map.get G.slots d)
-  pub late : (u : ℕ) → IsNotLater b.horizon u → G.horizon ≤ max F.horizon u
-  pub loads : IsCalm end → (L : Slots) → SlotsBelow L F.slots → AllFit L b.items × SlotsBelow (with_slots L b.items) G.slots
-  pub known : IsCalm end → AllBelow G.slots b.items
-
--- the log gains nothing and the store is as it was, or the log gains a bundle
-abbrev pub Grows : Result Served Fault → Option (List ℕ) → Option (List ℕ) → StoreFields → StoreFields → Type 0
-Grows end before after F G = (Appends before after [] × IsSame F G)
-    ⊎ ((b : BundleFields) × Appends before after (bundle_bytes b) × Brings end F G b)
-
-keeps_nothing : (before after : Option (List ℕ)) → Keeps before after → Appends before after []
-keeps_nothing None after h = tt
-keeps_nothing (Some xs) None h = absurd h
-keeps_nothing (Some xs) (Some ys) h = h ∙ sym (append-nil xs)
-
-pub sealed_clash : false ≡ true → ⊥
-sealed_clash e = cc
-
-abbrev pub ended : StatusCode → Result StatusCode Fault
-ended status = Ok status
-
-abbrev fails : Fault → Result StatusCode Fault
-fails fault = Err fault
-
-ok_fault : (status : StatusCode) (fault : Fault) → ended status ≡ fails fault → ⊥
-ok_fault status fault e = cc
-
-write_log : fails Write ≡ fails Log → ⊥
-write_log e = cc
-
-write_memory : fails Write ≡ fails Memory → ⊥
-write_memory e = cc
-
--- the items of a record
-abbrev pub one : Dot × Body → Items
-one f = (f.0, Held f.1) ∷ []
-
-abbrev all_items : Dot × Slot → Bool
-all_items i = true
-
-no_earlier : (h m : ℕ) → nat_lt h m ≡ false → max h m ≡ h
-no_earlier h m e = grind (arith, nat_tests)
-
--- memory ran out while a pushed bundle was taken in
-abbrev short_push : Result ℕ PushError
-short_push = Err (push.Take Take.Memory)
-
-itself : (n u : ℕ) → n ≤ max n u
-itself n u = omega (arith)
-
-pub same_late : (m n u : ℕ) → m ≡ n → m ≤ max n u
-same_late m n u e = omega (arith, e)
 
 module _ (end : Result Served Fault) (before after : Option (List ℕ)) (old new : RegionFields) where
   abbrev F : StoreFields
@@ -153,7 +102,8 @@ module _ (end : Result Served Fault) (before after : Option (List ℕ)) (old new
   gains_none same gains = inl (same, same_store gains.facts)
 
   -- the record of the fact that was made, at a dot that was unknown
-  made : (f : Dot × Body) → map.get F.slots f.0 ≡ None → G ≡ with_fact F f.0 f.1 → bundle.Fits (of_facts (f ∷ [])) → Brings end F G (of_facts (f ∷ []))
+  made : (f : Dot × Body) → map.get F.slots f.0 ≡ None → G ≡ with_fact F f.0 f.1
+      → bundle.Fits (of_facts (f ∷ [])) → Brings end F G (of_facts (f ∷ []))
   made f free is fits = record {
     fits = fits;
     from = λ U all d. subst (λ S. IsFrom (map.get U d) (map.get F.slots d) (map.get S d)) (sym slots_is) (items_from U F.slots (one f) all d);
@@ -174,12 +124,15 @@ module _ (end : Result Served Fault) (before after : Option (List ℕ)) (old new
       no_mark : is_skipped_slot (map.get F.slots f.0) ≡ true → Held f.1 ≡ Skipped
       no_mark e = absurd (sealed_clash (sym (ap is_skipped_slot free) ∙ e))
 
-  recorded : (o : Option (Dot × Body)) → Appends before after (record_in (option_map record_of o)) → Gains old o new → IfSome o (IsNextFact old) → IfSome o IsRecorded
+  recorded : (o : Option (Dot × Body)) → Appends before after (record_in (option_map record_of o))
+      → Gains old o new → IfSome o (IsNextFact old) → IfSome o IsRecorded
       → Grows end before after F G
   recorded None same gains next fits = gains_none same gains
   recorded (Some f) more gains next fits = inr (of_facts (f ∷ []), more, made f (next_unknown old f next) gains.facts fits)
 
-  logged_as : (answer told : AnswerFields) → answer ≡ told → Appends before after (record_in answer.logged) → Appends before after (record_in told.logged)
+  logged_as : (answer told : AnswerFields) → answer ≡ told
+      → Appends before after (record_in answer.logged)
+      → Appends before after (record_in told.logged)
   logged_as answer told is more = subst (λ (a : AnswerFields). Appends before after (record_in a.logged)) is more
 
   reply_unlogged : (o : Option ReplyFields) → (answered_by o).logged ≡ None
@@ -190,12 +143,14 @@ module _ (end : Result Served Fault) (before after : Option (List ℕ)) (old new
   metrics_unlogged None = refl
   metrics_unlogged (Some text) = refl
 
-  notice_unlogged : (terms : TermsFields) (now : ℕ) (notice : AnyNotice) → (notice_by terms old now notice).logged ≡ None
+  notice_unlogged : (terms : TermsFields) (now : ℕ) (notice : AnyNotice)
+      → (notice_by terms old now notice).logged ≡ None
   notice_unlogged terms now Discovery = reply_unlogged (metadata_of terms.issuer old.settings.choices.challenge)
   notice_unlogged terms now Health = reply_unlogged (health_of terms.health old.facts.horizon now)
   notice_unlogged terms now Metrics = metrics_unlogged terms.metrics
 
-  answered : (terms : TermsFields) (now : ℕ) (words : List ℕ) (came : Arrival) (answer : AnswerFields) → bundle_to_log true came ≡ None → Answers terms old now words came (Ok answer) new
+  answered : (terms : TermsFields) (now : ℕ) (words : List ℕ) (came : Arrival) (answer : AnswerFields)
+      → bundle_to_log true came ≡ None → Answers terms old now words came (Ok answer) new
       → Appends before after (record_in answer.logged) → IfSome (fact_by old now words came) IsRecorded → Grows end before after F G
   answered terms now words (Exchange Vector) answer none h more fits = still (logged_as answer _ h.0.3 more) h.1
   answered terms now words (Exchange (Pull sent)) answer none h more fits = still (logged_as answer _ h.0 more) h.1
@@ -230,7 +185,8 @@ module _ (end : Result Served Fault) (before after : Option (List ℕ)) (old new
         slots_is : G.slots ≡ with_slots F.slots b.items
         slots_is = taken_slots F G b.horizon b.items is
 
-    part_brings : (k : ℕ) → (IsCalm end → ⊥) → IsWith (take k b.items) → Brings end F G (news_of F.slots b)
+    part_brings : (k : ℕ) → (IsCalm end → ⊥) → IsWith (take k b.items)
+        → Brings end F G (news_of F.slots b)
     part_brings k short is = record {
       fits = readable;
       from = λ U all d. subst (λ S. IsFrom (map.get U d) (map.get F.slots d) (map.get S d)) (sym (taken_slots F G b.horizon (take k b.items) is))
@@ -259,12 +215,14 @@ module _ (end : Result Served Fault) (before after : Option (List ℕ)) (old new
         each : (is_later F.horizon b.horizon ≡ false) × (changes_slots F.slots b.items ≡ false)
         each = neither (is_later F.horizon b.horizon) (changes_slots F.slots b.items) none
 
-        late : (h : Option ℕ) → G ≡ items_taken (raised F h) b.items → is_later F.horizon h ≡ false → G.horizon ≡ F.horizon
+        late : (h : Option ℕ) → G ≡ items_taken (raised F h) b.items → is_later F.horizon h ≡ false
+            → G.horizon ≡ F.horizon
         late None is e = ap (λ (P : StoreFields). P.horizon) is
         late (Some m) is e = ap (λ (P : StoreFields). P.horizon) is ∙ no_earlier F.horizon m e
 
     -- the record, by whether the bundle changes the store
-    by_record : (t : Bool) → changes F b ≡ t → Appends before after (logged_of (cond t (Some (bundle_bytes (news_of F.slots b))) None))
+    by_record : (t : Bool) → changes F b ≡ t
+        → Appends before after (logged_of (cond t (Some (bundle_bytes (news_of F.slots b))) None))
         → (changes F b ≡ false → IsSame F G) → Brings end F G (news_of F.slots b) → Grows end before after F G
     by_record true e more same brings = inr (news_of F.slots b, more, brings)
     by_record false e more same brings = inl (more, same e)
@@ -278,24 +236,29 @@ module _ (end : Result Served Fault) (before after : Option (List ℕ)) (old new
         each : (is_later F.horizon b.horizon ≡ false) × (changes_slots F.slots b.items ≡ false)
         each = neither (is_later F.horizon b.horizon) (changes_slots F.slots b.items) none
 
-        late : (h : Option ℕ) → G ≡ items_taken (raised F h) (take k b.items) → is_later F.horizon h ≡ false → G.horizon ≡ F.horizon
+        late : (h : Option ℕ) → G ≡ items_taken (raised F h) (take k b.items)
+            → is_later F.horizon h ≡ false → G.horizon ≡ F.horizon
         late None is e = ap (λ (P : StoreFields). P.horizon) is
         late (Some m) is e = ap (λ (P : StoreFields). P.horizon) is ∙ no_earlier F.horizon m e
 
-    taken_in : (taken : Result ℕ TakeError) → (lifted taken ≡ short_push → IsCalm end → ⊥) → Appends before after (logged_of (kept_of (lifted taken) (news_record F b)))
+    taken_in : (taken : Result ℕ TakeError) → (lifted taken ≡ short_push → IsCalm end → ⊥)
+        → Appends before after (logged_of (kept_of (lifted taken) (news_record F b)))
         → TakesIn F (next_in (place_in old)) (Some b) taken G → Grows end before after F G
     taken_in (Ok n) short more k = by_record (changes F b) refl more (nothing_brought k.2.0) (whole_brings k.2.0 k.1)
     taken_in (Err Take.Memory) short more (inl same) = by_record (changes F b) refl more (λ _. same_store same) (none_brings (short refl) same)
     taken_in (Err Take.Memory) short more (inr k) = by_part (changes F b) refl more
       where
-        by_part : (t : Bool) → changes F b ≡ t → Appends before after (logged_of (cond t (Some (bundle_bytes (news_of F.slots b))) None)) → Grows end before after F G
+        by_part : (t : Bool) → changes F b ≡ t
+            → Appends before after (logged_of (cond t (Some (bundle_bytes (news_of F.slots b))) None))
+            → Grows end before after F G
         by_part true e more = inr (news_of F.slots b, more, part_brings k.2.0 (short refl) k.2.1)
         by_part false e more = inl (more, part_same k.2.0 k.2.1 e)
     taken_in (Err OwnNumber) short same k = inl (same, same_store k.1)
     taken_in (Err Conflict) short same k = inl (same, same_store k.2)
     taken_in (Err Malformed) short same k = absurd k
 
-  pushed : (terms : TermsFields) (now : ℕ) (bytes : List ℕ) (taken : Result ℕ PushError) (logged : Option (List ℕ)) → (taken ≡ short_push → IsCalm end → ⊥) → Pushes terms now old bytes taken new
+  pushed : (terms : TermsFields) (now : ℕ) (bytes : List ℕ) (taken : Result ℕ PushError) (logged : Option (List ℕ))
+      → (taken ≡ short_push → IsCalm end → ⊥) → Pushes terms now old bytes taken new
       → IsNews old bytes taken logged new → Appends before after (logged_of logged) → Grows end before after F G
   pushed terms now bytes taken logged short takes (inl none) more = still (subst (λ o. Appends before after (logged_of o)) none.0 more) none.1
   pushed terms now bytes taken logged short takes (inr read) more =
@@ -307,12 +270,16 @@ module _ (end : Result Served Fault) (before after : Option (List ℕ)) (old new
       whole_is : whole bundle bytes ≡ Some b
       whole_is = ap (whole bundle) read.1.spelled ∙ whole_again bundle bundle_exact b read.1.fits
 
-      sent : (t : Result ℕ TakeError) → (lifted t ≡ short_push → IsCalm end → ⊥) → TakesBundle old bytes t new → Appends before after (logged_of (kept_of (lifted t) (news_record F b)))
+      sent : (t : Result ℕ TakeError) → (lifted t ≡ short_push → IsCalm end → ⊥)
+          → TakesBundle old bytes t new
+          → Appends before after (logged_of (kept_of (lifted t) (news_record F b)))
           → Grows end before after F G
       sent t short takes more =
           taken_in b read.1.fits read.1.readable t short more (subst (λ o. TakesIn F (next_in (place_in old)) o t G) whole_is takes.takes)
 
-      by : (r : Option PushError) (t : Result ℕ PushError) → (t ≡ short_push → IsCalm end → ⊥) → PushesBy r old bytes t new → Appends before after (logged_of (kept_of t (news_record F b)))
+      by : (r : Option PushError) (t : Result ℕ PushError) → (t ≡ short_push → IsCalm end → ⊥)
+          → PushesBy r old bytes t new
+          → Appends before after (logged_of (kept_of t (news_record F b)))
           → Grows end before after F G
       by (Some why) (Err push.HorizonAhead) short same more = still more same.1
       by (Some why) (Err push.OutOfRange) short same more = still more same.1
@@ -327,14 +294,16 @@ module _ (end : Result Served Fault) (before after : Option (List ℕ)) (old new
       by None (Err push.HorizonAhead) short takes more = absurd takes
       by None (Err push.OutOfRange) short takes more = absurd takes
 
-not_short : (end : Result Served Fault) (taken : Result ℕ PushError) (reply : ReplyFields) → IsTakenReply taken reply → taken ≡ short_push → IsCalm end → ⊥
+not_short : (end : Result Served Fault) (taken : Result ℕ PushError) (reply : ReplyFields)
+    → IsTakenReply taken reply → taken ≡ short_push → IsCalm end → ⊥
 not_short end taken reply told is calm = subst (λ t. IsTakenReply t reply) is told
 
 module _ (before after : Option (List ℕ)) (old new : RegionFields) (asked : Asked) (logs : asked.log_taken ≡ true) (quiet : Type 0) (writer : Change) where
   abbrev log : Change
   log = record { before = before; after = after }
 
-  replied : (end : Result Served Fault) (sent : Option (List ℕ)) (came : Arrival) (result : Result StatusCode Fault) → bundle_to_log true came ≡ sent → result ≢ Err Log → result ≢ Err Memory
+  replied : (end : Result Served Fault) (sent : Option (List ℕ)) (came : Arrival) (result : Result StatusCode Fault)
+      → bundle_to_log true came ≡ sent → result ≢ Err Log → result ≢ Err Memory
       → RepliesTo sent asked.terms asked.now asked.words came (record { before = old; after = new }) log quiet writer false result → Grows end before after old.facts new.facts
   replied end None came (Ok status) is not_log not_memory h = answered end before after old new asked.terms asked.now asked.words came h.0 is h.1 h.2.1 h.4
   replied end None came (Err Write) is not_log not_memory h = answered end before after old new asked.terms asked.now asked.words came h.0 is h.1 h.2.0 h.4
@@ -349,7 +318,9 @@ module _ (before after : Option (List ℕ)) (old new : RegionFields) (asked : As
   replied end (Some bytes) came (Err Log) is not_log not_memory h = absurd (not_log refl)
   replied end (Some bytes) came (Err Memory) is not_log not_memory h = absurd (not_memory refl)
 
-  ran_out : (b : Bool) → b ≡ true → RunsOut b asked (record { before = old; after = new }) log quiet writer false → Grows (Err Memory) before after old.facts new.facts
+  ran_out : (b : Bool) → b ≡ true
+      → RunsOut b asked (record { before = old; after = new }) log quiet writer false
+      → Grows (Err Memory) before after old.facts new.facts
   ran_out false is h = absurd (cc)
   ran_out true is (inl same) = still (Err Memory) before after old new (keeps_nothing before after same.1.0) same.0
   ran_out true is (inr h) = pushed (Err Memory) before after old new asked.terms asked.now h.0 h.2.0 h.2.2 (λ e calm. calm) h.2.1 h.2.3 h.2.4.0
@@ -365,7 +336,9 @@ module _ (before after : Option (List ℕ)) (old new : RegionFields) (asked : As
   as_logged came result h =
       subst (λ b. RepliesTo (bundle_to_log b came) asked.terms asked.now asked.words came (record { before = old; after = new }) log quiet writer false result) logs h
 
-  served : (result : Result Served Fault) → IsServed asked (record { before = old; after = new }) log quiet writer false result → Grows result before after old.facts new.facts
+  served : (result : Result Served Fault)
+      → IsServed asked (record { before = old; after = new }) log quiet writer false result
+      → Grows result before after old.facts new.facts
   served (Ok (Done status)) h = replied (Ok (Done status)) (bundle_to_log true h.0) h.0 (Ok status) refl (ok_fault status Log) (ok_fault status Memory) (as_logged h.0 (Ok status) h.3)
   served (Ok Nothing) h = still (Ok Nothing) before after old new (keeps_nothing before after h.1.1.0) h.1.0
   served (Err Log) h = absurd (unsealed_log (bundle_to_log asked.log_taken h.0) h.0 h.3)
@@ -374,32 +347,39 @@ module _ (before after : Option (List ℕ)) (old new : RegionFields) (asked : As
   served (Err Memory) h = ran_out asked.log_taken logs h
 
 -- an edge that is sealed stays sealed
-decision_stays_by : (again : Option Repetition) (words : List ℕ) (old : EdgeFields) (end : Ending) (logged : List ℕ) (new : EdgeFields) → IsDecisionBy again words true old end logged new
+decision_stays_by : (again : Option Repetition) (words : List ℕ) (old : EdgeFields) (end : Ending) (logged : List ℕ) (new : EdgeFields)
+    → IsDecisionBy again words true old end logged new
     → old.sealed ≡ true → new.sealed ≡ true
 decision_stays_by None words old end logged new h e = ap (λ (x : EdgeFields). x.sealed) (h.4.shut e).0 ∙ e
 decision_stays_by (Some it) words old end logged new h e = ap (λ (x : EdgeFields). x.sealed) h.0 ∙ e
 
-decision_stays : (words : List ℕ) (old : EdgeFields) (end : Ending) (logged : List ℕ) (new : EdgeFields) → IsDecision words true old end logged new → old.sealed ≡ true → new.sealed ≡ true
+decision_stays : (words : List ℕ) (old : EdgeFields) (end : Ending) (logged : List ℕ) (new : EdgeFields)
+    → IsDecision words true old end logged new → old.sealed ≡ true → new.sealed ≡ true
 decision_stays words old end logged new h e = decision_stays_by end.again words old end logged new h e
 
-pub decisions_stay : (words : ChaCha) (old : EdgeFields) (ends : Endings) (records : List ℕ) (new : EdgeFields) → AreDecisions words true old ends records new → old.sealed ≡ true → new.sealed ≡ true
+pub decisions_stay : (words : ChaCha) (old : EdgeFields) (ends : Endings) (records : List ℕ) (new : EdgeFields)
+    → AreDecisions words true old ends records new → old.sealed ≡ true → new.sealed ≡ true
 decisions_stay words old [] records new h e = ap (λ (x : EdgeFields). x.sealed) h.0 ∙ e
 decisions_stay words old (end ∷ ends) records new h e =
     decisions_stay (past_six words) h.0 ends h.2 new h.5 (decision_stays (six words) old end h.1 h.0 h.3 e)
 
-turn_stays : (words : ChaCha) (old : Running) (ends : Endings) (new : Running) → IsTurn words true old ends new → old.edge.sealed ≡ true → new.edge.sealed ≡ true
+turn_stays : (words : ChaCha) (old : Running) (ends : Endings) (new : Running)
+    → IsTurn words true old ends new → old.edge.sealed ≡ true → new.edge.sealed ≡ true
 turn_stays words old ends new h e = of h.log
   where
-    of : IsKept old h.edge h.records h.told new ⊎ IsLost old h.edge h.records h.told new → new.edge.sealed ≡ true
+    of : IsKept old h.edge h.records h.told new ⊎ IsLost old h.edge h.records h.told new
+        → new.edge.sealed ≡ true
     of (inl kept) = ap (λ (x : EdgeFields). x.sealed) kept.edge ∙ decisions_stay words old.edge ends h.records h.edge h.decided e
     of (inr lost) = ap (λ (x : EdgeFields). x.sealed) lost.edge
 
-pub turns_stay : (words : ChaCha) (old : Running) (turns : List Endings) (new : Running) → AreTurns words true old turns new → old.edge.sealed ≡ true → new.edge.sealed ≡ true
+pub turns_stay : (words : ChaCha) (old : Running) (turns : List Endings) (new : Running)
+    → AreTurns words true old turns new → old.edge.sealed ≡ true → new.edge.sealed ≡ true
 turns_stay words old [] new same e = ap (λ (r : Running). r.edge.sealed) same ∙ e
 turns_stay words old (ends ∷ turns) new h e =
     turns_stay (past_each words ends) h.1 turns new h.4 (sealed_stays h.0 h.1 h.3 ∙ turn_stays words old ends h.0 h.2 e)
 
-decision_adds_by : (again : Option Repetition) (words : List ℕ) (old : EdgeFields) (end : Ending) (logged : List ℕ) (new : EdgeFields) → IsDecisionBy again words true old end logged new
+decision_adds_by : (again : Option Repetition) (words : List ℕ) (old : EdgeFields) (end : Ending) (logged : List ℕ) (new : EdgeFields)
+    → IsDecisionBy again words true old end logged new
     → old.sealed ≡ false → new.sealed ≡ false → Grows end.end (Some []) (Some logged) old.region.facts new.region.facts
 decision_adds_by (Some it) words old end logged new h open_old open_new =
     still end.end (Some []) (Some logged) old.region new.region (keeps_nothing (Some []) (Some logged) h.1) (ap (λ (x : EdgeFields). x.region) h.0)
@@ -409,6 +389,7 @@ decision_adds_by None words old end logged new h open_old open_new =
     served (Some []) (Some logged) old.region new.region asked refl (logged ≡ []) (gains h.3) end.end
     (subst (λ b. IsServed asked (record { before = old.region; after = new.region }) (gains logged) (logged ≡ []) (gains h.3) b end.end) open_new (h.4.served open_old [] (λ _. refl)))
 
-pub decision_adds : (words : List ℕ) (old : EdgeFields) (end : Ending) (logged : List ℕ) (new : EdgeFields) → IsDecision words true old end logged new
+pub decision_adds : (words : List ℕ) (old : EdgeFields) (end : Ending) (logged : List ℕ) (new : EdgeFields)
+    → IsDecision words true old end logged new
     → old.sealed ≡ false → new.sealed ≡ false → Grows end.end (Some []) (Some logged) old.region.facts new.region.facts
 decision_adds words old end logged new h open_old open_new = decision_adds_by end.again words old end logged new h open_old open_new

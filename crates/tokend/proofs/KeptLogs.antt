@@ -2,7 +2,9 @@
 -- behind the old log. Key results:
 --   keeps_all    LogKeepsAll
 --   loads_all    LogLoads
-use Rattle.std.proofs.Common.{◌≡◌, ℕ, true, false, ◌||◌, ◌&&◌, ◌==◌, nat_le, List, [], ◌∷◌, ◌++◌, append-nil, append_assoc, Option, None, Some, Result, Ok, Err, inl, inr, refl, sym, ap, subst, arith, ◌∙◌}
+use Rattle.std.proofs.Common.{◌≡◌, ℕ, true, false, ◌||◌, ◌&&◌, ◌==◌, nat_le, List, [], ◌∷◌, ◌++◌}
+use Rattle.std.proofs.Common.{append-nil, append_assoc, Option, None, Some, Result, Ok, Err, inl}
+use Rattle.std.proofs.Common.{inr, refl, sym, ap, subst, arith, ◌∙◌}
 use Rattle.std.specs.Prelude.{◌⊎◌}
 use Rattle.std.specs.FinMap as map
 use Rattle.std.proofs.lemmas.Bool.Decides.{nat_tests}
@@ -24,23 +26,29 @@ use Rattle.tk_ledger.specs.Retention.{MaySkip}
 use Rattle.tk_message.specs.Place.{next_in}
 use Rattle.tk_region.specs.RegionFields.{RegionFields, place_in}
 use Rattle.tk_region.specs.Taking.{has_unmade}
-use Rattle.tokend.specs.KeptLog.{AreLogged, HasLogged, IsFresh, IsNotRefused, IsPrunedBefore, IsTorn, LogKeepsAll, LogLoads}
-use Rattle.tokend.specs.Loading.{AreBundles, BeginsWith, IsNoBundle, IsRefused, Loads, TakesEach, TakesFront, log_bytes}
+use Rattle.tokend.specs.KeptLog.{AreLogged, HasLogged, IsFresh, IsNotRefused, IsPrunedBefore}
+use Rattle.tokend.specs.KeptLog.{IsTorn, LogKeepsAll, LogLoads}
+use Rattle.tokend.specs.Loading.{AreBundles, BeginsWith, IsNoBundle, IsRefused, Loads, TakesEach}
+use Rattle.tokend.specs.Loading.{TakesFront, log_bytes}
 use Rattle.tokend.specs.Starting.{PrunesOld, edge_of}
 use Rattle.tokend.specs.Turns.{all_ends}
 use Rattle.tokend.specs.declared.load.LoadFault.{LoadFault}
 use Rattle.tokend.specs.declared.load.LoadFault.TheVariants as load
-use Rattle.tokend.proofs.Turning.{turns_grow}
+use Rattle.tokend.proofs.TurnGrowth.{turns_grow}
 use Rattle.tokend.proofs.KeptSlots.{IsFrom, IsLeft}
 use Rattle.tokend.proofs.SliceLaws.{held_at, none_is_some, passing_kept}
-use Rattle.tokend.proofs.LogBundles.{EachBelow, NoneLater, Parted, below_among, each_below, each_from, each_more, later_among, no_end, one_list, parted, taken_slots}
-use Rattle.tokend.proofs.KeptConnections.{sealed_clash}
-use Rattle.tokend.proofs.KeptTurns.{FitsEach, with_each, Through, each_both, fits_both, Grew, through}
+use Rattle.tokend.proofs.LogBundles.{EachBelow, NoneLater, Parted, below_among, each_below}
+use Rattle.tokend.proofs.LogBundles.{each_from, each_more, later_among, no_end, one_list, parted}
+use Rattle.tokend.proofs.LogBundles.{taken_slots}
+use Rattle.tokend.proofs.LogGains.{sealed_clash}
+use Rattle.tokend.proofs.KeptTurns.{FitsEach, with_each, Through, each_both, fits_both, Grew}
+use Rattle.tokend.proofs.KeptTurns.{through}
 
 -- ---- before the first connection
 
 -- a region that was pruned, or wasn't, knows what it knew, or has skipped it
-pruned_below : (moment count : Option ℕ) (full start : RegionFields) → PrunesOld moment full (Ok count) start → SlotsBelow full.facts.slots start.facts.slots
+pruned_below : (moment count : Option ℕ) (full start : RegionFields)
+    → PrunesOld moment full (Ok count) start → SlotsBelow full.facts.slots start.facts.slots
 pruned_below None count full start same d = subst (λ (r : RegionFields). SlotsBelow full.facts.slots r.facts.slots) (sym same.1) (slots_itself full.facts.slots) d
 pruned_below (Some moment) None full start none d = absurd none
 pruned_below (Some moment) (Some n) full start pruned d = of (pruned.facts.keeps d)
@@ -57,7 +65,8 @@ skipped_held : (b : Body) → Some Skipped ≡ Some (Held b) → ⊥
 skipped_held b e = absurd (cc)
 
 -- a region that was pruned, or wasn't, holds nothing that it didn't hold before
-pruned_less : (moment count : Option ℕ) (full start : RegionFields) → PrunesOld moment full (Ok count) start
+pruned_less : (moment count : Option ℕ) (full start : RegionFields)
+    → PrunesOld moment full (Ok count) start
     → (d : Dot) (b : Body) → map.get start.facts.slots d ≡ Some (Held b) → map.get full.facts.slots d ≡ Some (Held b)
 pruned_less None count full start same d b at = subst (λ (r : RegionFields). map.get r.facts.slots d ≡ Some (Held b)) same.1 at
 pruned_less (Some moment) None full start none d b at = absurd none
@@ -74,7 +83,8 @@ knows_none P d is = ap (λ (Q : StoreFields). map.get Q.slots d) is ∙ map.get-
 
 -- what is held after bundles were taken in, by a region that held nothing, is below what is above
 -- the bundles
-first_below : (u s t : Option Slot) (b : Body) → IsFrom u s t → s ≡ None → t ≡ Some (Held b) → SlotBelow (Some (Held b)) u
+first_below : (u s t : Option Slot) (b : Body) → IsFrom u s t → s ≡ None → t ≡ Some (Held b)
+    → SlotBelow (Some (Held b)) u
 first_below u s t b (inl same) none at = absurd (none_is_some (Held b) (sym none ∙ sym same ∙ at))
 first_below u s t b (inr below) none at = subst (λ o. SlotBelow o u) at below
 
@@ -89,12 +99,14 @@ skip_above None below = absurd below
 skip_above (Some (Held b)) below = absurd below
 skip_above (Some Skipped) below = refl
 
-log_from : (olds : List BundleFields) (region : RegionFields) (log : List ℕ) (h : HasLogged olds region log) → Grew h.prunes h.turns [] log h.start.facts region.facts
+log_from : (olds : List BundleFields) (region : RegionFields) (log : List ℕ) (h : HasLogged olds region log)
+    → Grew h.prunes h.turns [] log h.start.facts region.facts
 log_from olds region log h =
-    through h.words (record { edge = edge_of h.terms h.start; log = Some []; faults = h.faults; prunes = h.prunes }) h.turns (record { edge = edge_of h.terms region; log = Some log; faults = h.told; prunes = h.prunes }) [] log h.served refl refl refl refl
+    through h.words (record { edge = edge_of h.terms h.start; log = Some []; faults = h.faults; prunes = h.prunes }) h.turns (record { edge = edge_of h.shown region; log = Some log; faults = h.told; prunes = h.prunes }) [] log h.served refl refl refl refl
 
 -- the bundles of the log are those by which it grew
-log_is : (log : List ℕ) (news bundles : List BundleFields) → AreLogged log news → AreBundles bundles → log ≡ log_bytes bundles → bundles ≡ news
+log_is : (log : List ℕ) (news bundles : List BundleFields) → AreLogged log news → AreBundles bundles
+    → log ≡ log_bytes bundles → bundles ≡ news
 log_is log news bundles logged fit is =
     one_list log news bundles logged (record { fit = fit; rest = []; parts = is ∙ sym (append-nil (log_bytes bundles)); torn = inl refl })
 
@@ -117,27 +129,31 @@ keeps_all olds region log h news logged bytes all are among_olds among_news new 
     }
   where
     -- what a region held before its service, the other knows
-    started : (d : Dot) (b : Body) → map.get h.start.facts.slots d ≡ Some (Held b) → IsFrom (map.get loaded.facts.slots d) (map.get h.first.facts.slots d) (map.get h.full.facts.slots d)
+    started : (d : Dot) (b : Body) → map.get h.start.facts.slots d ≡ Some (Held b)
+        → IsFrom (map.get loaded.facts.slots d) (map.get h.first.facts.slots d) (map.get h.full.facts.slots d)
         → SlotBelow (Some (Held b)) (map.get loaded.facts.slots d)
     started d b at old =
         first_below (map.get loaded.facts.slots d) (map.get h.first.facts.slots d) (map.get h.full.facts.slots d) b old (knows_none h.first.facts d h.empty)
         (pruned_less h.moment h.count h.full h.start h.pruned d b at)
 
-    held_by : (d : Dot) (b : Body) → map.get region.facts.slots d ≡ Some (Held b) → IsLeft h.prunes (map.get loaded.facts.slots d) (map.get h.start.facts.slots d) (map.get region.facts.slots d)
+    held_by : (d : Dot) (b : Body) → map.get region.facts.slots d ≡ Some (Held b)
+        → IsLeft h.prunes (map.get loaded.facts.slots d) (map.get h.start.facts.slots d) (map.get region.facts.slots d)
         → IsFrom (map.get loaded.facts.slots d) (map.get h.first.facts.slots d) (map.get h.full.facts.slots d) → SlotBelow (Some (Held b)) (map.get loaded.facts.slots d)
     held_by d b at (inl (inr below)) old = subst (λ o. SlotBelow o (map.get loaded.facts.slots d)) at below
     held_by d b at (inl (inl same)) old = started d b (sym same ∙ at) old
     held_by d b at (inr gone) old = absurd (skipped_held b (sym gone.1 ∙ at))
 
     -- a region that prunes itself has skipped what its start knew
-    pruned_at : (d : Dot) → h.prunes ≡ true → (o : Option Slot) → map.get h.start.facts.slots d ≡ o → (o ≡ None → ⊥)
+    pruned_at : (d : Dot) → h.prunes ≡ true → (o : Option Slot) → map.get h.start.facts.slots d ≡ o
+        → (o ≡ None → ⊥)
         → IsFrom (map.get loaded.facts.slots d) (map.get h.first.facts.slots d) (map.get h.full.facts.slots d)
         → (map.get h.start.facts.slots d ≡ Some Skipped) ⊎ (map.get loaded.facts.slots d ≡ Some Skipped) ⊎ IsPrunedBefore h.prunes loaded d
     pruned_at d on None at some old = absurd (some refl)
     pruned_at d on (Some Skipped) at some old = inl at
     pruned_at d on (Some (Held b)) at some old = inr (inr (on, known_above (Held b) (map.get loaded.facts.slots d) (started d b at old)))
 
-    marked : (d : Dot) → map.get region.facts.slots d ≡ Some Skipped → IsLeft h.prunes (map.get loaded.facts.slots d) (map.get h.start.facts.slots d) (map.get region.facts.slots d)
+    marked : (d : Dot) → map.get region.facts.slots d ≡ Some Skipped
+        → IsLeft h.prunes (map.get loaded.facts.slots d) (map.get h.start.facts.slots d) (map.get region.facts.slots d)
         → IsFrom (map.get loaded.facts.slots d) (map.get h.first.facts.slots d) (map.get h.full.facts.slots d)
         → (map.get h.start.facts.slots d ≡ Some Skipped) ⊎ (map.get loaded.facts.slots d ≡ Some Skipped) ⊎ IsPrunedBefore h.prunes loaded d
     marked d at (inl (inl same)) old = inl (sym same ∙ at)
@@ -148,7 +164,8 @@ keeps_all olds region log h news logged bytes all are among_olds among_news new 
 -- ---- the log is loaded behind the old log
 
 -- bundles that were taken in fit, each what the bundles before it left
-taken_fit : (old : RegionFields) (bundles : List BundleFields) (new : RegionFields) → TakesEach old bundles new
+taken_fit : (old : RegionFields) (bundles : List BundleFields) (new : RegionFields)
+    → TakesEach old bundles new
     → FitsEach old.facts.slots bundles × (new.facts.slots ≡ with_each old.facts.slots bundles) × (new.number ≡ old.number)
 taken_fit old [] new same = (tt, ap (λ (r : RegionFields). r.facts.slots) same, ap (λ (r : RegionFields). r.number) same)
 taken_fit old (b ∷ more) new h =
@@ -156,11 +173,13 @@ taken_fit old (b ∷ more) new h =
     let rest = taken_fit h.0 more new h.2 in
     ((h.1.1.takes.1, subst (λ S. FitsEach S more) is rest.0), rest.1 ∙ ap (λ S. with_each S more) is, rest.2 ∙ h.1.1.number)
 
-fits_behind : (L : Slots) (xs : List BundleFields) (y : BundleFields) (ys : List BundleFields) → FitsEach L (xs ++ y ∷ ys) → AllFit (with_each L xs) y.items
+fits_behind : (L : Slots) (xs : List BundleFields) (y : BundleFields) (ys : List BundleFields)
+    → FitsEach L (xs ++ y ∷ ys) → AllFit (with_each L xs) y.items
 fits_behind L [] y ys h = h.0
 fits_behind L (x ∷ xs) y ys h = fits_behind (with_slots L x.items) xs y ys h.1
 
-each_behind : (U : Slots) (xs : List BundleFields) (y : BundleFields) (ys : List BundleFields) → EachBelow U (xs ++ y ∷ ys) → AllBelow U y.items
+each_behind : (U : Slots) (xs : List BundleFields) (y : BundleFields) (ys : List BundleFields)
+    → EachBelow U (xs ++ y ∷ ys) → AllBelow U y.items
 each_behind U [] y ys h = h.0
 each_behind U (x ∷ xs) y ys h = each_behind U xs y ys h.1
 
@@ -171,7 +190,9 @@ no_tie m n differ = elim (m == n) as (λ t. (m == n) ≡ t → t ≡ false) [
 ] refl
 
 -- items at known dots are under no fresh number
-none_unmade : (number : ℕ) (next : Dot) (region : RegionFields) (items : Items) → IsFresh number region → next.region ≡ number → AllBelow region.facts.slots items → has_unmade next items ≡ false
+none_unmade : (number : ℕ) (next : Dot) (region : RegionFields) (items : Items)
+    → IsFresh number region → next.region ≡ number → AllBelow region.facts.slots items
+    → has_unmade next items ≡ false
 none_unmade number next region [] fresh at all = refl
 none_unmade number next region (i ∷ more) fresh at all =
     ap (λ t. t || has_unmade next more) (ap (λ t. t && nat_le next.serial i.0.serial) (no_tie i.0.region next.region
@@ -185,10 +206,12 @@ torn_is_cut rest (inr cut) = cut
 -- the front of a rest that is these bundles and a torn end
 module _ (all back : List BundleFields) (rest cut : List ℕ) (torn : IsTorn cut) (p : Parted back all rest cut) where
   -- a bundle at the front is the next of all
-  next_is : (b : BundleFields) → BeginsWith rest b → (ys : List BundleFields) × (all ≡ back ++ b ∷ ys)
+  next_is : (b : BundleFields) → BeginsWith rest b
+      → (ys : List BundleFields) × (all ≡ back ++ b ∷ ys)
   next_is b begins = of p.more p.fit p.all p.left
     where
-      of : (more : List BundleFields) → AreBundles more → all ≡ back ++ more → rest ≡ log_bytes more ++ cut → (ys : List BundleFields) × (all ≡ back ++ b ∷ ys)
+      of : (more : List BundleFields) → AreBundles more → all ≡ back ++ more
+          → rest ≡ log_bytes more ++ cut → (ys : List BundleFields) × (all ≡ back ++ b ∷ ys)
       of [] fit is left = absurd (no_end b begins.1.0 cut begins.0 (sym left ∙ begins.1.1) torn)
       of (y ∷ ys) fit is left =
           let first = prefix_free bundle bundle_exact b y begins.1.0 (log_bytes ys ++ cut) begins.0 fit.0
@@ -230,19 +253,23 @@ loads_all olds region log h calm news logged bytes are new loaded empty fresh re
     known =
         let above = each_below h.first olds h.full h.fit h.loaded in
         let grown = slots_trans h.full.facts.slots h.start.facts.slots region.facts.slots (pruned_below h.moment h.count h.full h.start h.pruned)
-        (turns_grow h.words true (record { edge = edge_of h.terms h.start; log = Some []; faults = h.faults; prunes = h.prunes }) h.turns (record { edge = edge_of h.terms region; log = Some log; faults = h.told; prunes = h.prunes }) h.served).facts.slots in
+        (turns_grow h.words true (record { edge = edge_of h.terms h.start; log = Some []; faults = h.faults; prunes = h.prunes }) h.turns (record { edge = edge_of h.shown region; log = Some log; faults = h.told; prunes = h.prunes }) h.served).facts.slots in
         each_both region.facts.slots olds news (each_more h.full.facts.slots region.facts.slots olds grown above.each) (news_through.known calm)
 
-    behind : (rest : List ℕ) → (front : TakesFront new bytes rest loaded) → Parted front.bundles (olds ++ news) rest are.rest
+    behind : (rest : List ℕ) → (front : TakesFront new bytes rest loaded)
+        → Parted front.bundles (olds ++ news) rest are.rest
     behind rest front = parted front.bundles (olds ++ news) rest are.rest front.fit are.fit are.torn (sym front.parts ∙ are.parts)
 
-    refused : (rest : List ℕ) → (front : TakesFront new bytes rest loaded) → IsRefused loaded rest → ⊥
+    refused : (rest : List ℕ) → (front : TakesFront new bytes rest loaded) → IsRefused loaded rest
+        → ⊥
     refused rest front none =
         let next = next_is (olds ++ news) front.bundles rest are.rest are.torn (behind rest front) none.0 none.1 in
         let taken = taken_fit new front.bundles loaded front.each in
         why next.0 next.1 taken.1 taken.2 none.2
       where
-        why : (ys : List BundleFields) → (olds ++ news) ≡ front.bundles ++ none.0 ∷ ys → loaded.facts.slots ≡ with_each new.facts.slots front.bundles → loaded.number ≡ new.number
+        why : (ys : List BundleFields) → (olds ++ news) ≡ front.bundles ++ none.0 ∷ ys
+            → loaded.facts.slots ≡ with_each new.facts.slots front.bundles
+            → loaded.number ≡ new.number
             → (has_unmade (next_in (place_in loaded)) none.0.items ≡ true) ⊎ ¬ AllFit loaded.facts.slots none.0.items → ⊥
         why ys is slots number (inl unmade) =
             sealed_clash (sym (none_unmade new.number (next_in (place_in loaded)) region none.0.items fresh number

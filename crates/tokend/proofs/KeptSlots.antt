@@ -5,13 +5,15 @@
 --   fits_lower     items that fit, and weren't dropped, fit what is below
 --   items_lower    what is below stays below with the items
 --   items_below    items that fit are below the slots with them
-use Rattle.std.proofs.Common.{◌≡◌, ℕ, zero, suc, take, filter, Bool, true, false, ◌||◌, not, cond, [], ◌∷◌, Option, Some, None, inl, inr, refl, sym, ap, subst, ◌∙◌}
+use Rattle.std.proofs.Common.{◌≡◌, ℕ, zero, suc, take, filter, Bool, true, false, ◌||◌, not, cond}
+use Rattle.std.proofs.Common.{[], ◌∷◌, Option, Some, None, inl, inr, refl, sym, ap, subst, ◌∙◌}
 use Rattle.std.specs.Prelude.{◌⊎◌}
 use Rattle.std.specs.FinMap as map
 use Rattle.tk_handle.specs.declared.dot.Dot.{Dot}
 use Rattle.tk_fact.specs.declared.body.Body.{Body}
 use Rattle.tk_fact.specs.Keeping.{is_passing}
-use Rattle.tk_store.specs.Slots.{Slot, Slots, Held, Skipped, is_skipped, is_skipped_slot, joined_slot, with_slots}
+use Rattle.tk_store.specs.Slots.{Slot, Slots, Held, Skipped, is_skipped, is_skipped_slot}
+use Rattle.tk_store.specs.Slots.{joined_slot, with_slots}
 use Rattle.tk_store.specs.SlotOrder.{SlotBelow, SlotsBelow, SlotAgrees}
 use Rattle.tk_store.specs.SlotJoining.{AllBelow, AllFit}
 use Rattle.tk_store.proofs.FitLaws.{fit_below}
@@ -33,7 +35,8 @@ joined S i = map.insert S i.0 (joined_slot (map.get S i.0) i.1)
 abbrev pub IsFrom : Option Slot → Option Slot → Option Slot → Type 0
 IsFrom u s t = (t ≡ s) ⊎ SlotBelow t u
 
-joined_from : (u o : Option Slot) (s : Slot) → SlotBelow (Some s) u → IsFrom u o (Some (joined_slot o s))
+joined_from : (u o : Option Slot) (s : Slot) → SlotBelow (Some s) u
+    → IsFrom u o (Some (joined_slot o s))
 joined_from u None s below = inr below
 joined_from u (Some (Held x)) (Held y) below = inl refl
 joined_from u (Some (Held x)) Skipped below = inr below
@@ -60,13 +63,15 @@ below_known None u below some none = some refl
 below_known (Some x) None below some none = below
 below_known (Some x) (Some y) below some none = some_not_none y none
 
-known_before : (prunes : Bool) (u r s : Option Slot) → IsLeft prunes u r s → IsKnown u s → IsKnown u r
+known_before : (prunes : Bool) (u r s : Option Slot) → IsLeft prunes u r s → IsKnown u s
+    → IsKnown u r
 known_before prunes u r s h (inr some) = inr some
 known_before prunes u r s (inl (inl same)) (inl some) = inl (λ none. some (same ∙ none))
 known_before prunes u r s (inl (inr below)) (inl some) = inr (below_known s u below some)
 known_before prunes u r s (inr gone) (inl some) = gone.2
 
-pub left_twice : (prunes : Bool) (u r s t : Option Slot) → IsLeft prunes u r s → IsLeft prunes u s t → IsLeft prunes u r t
+pub left_twice : (prunes : Bool) (u r s t : Option Slot) → IsLeft prunes u r s → IsLeft prunes u s t
+    → IsLeft prunes u r t
 left_twice prunes u r s t h (inl (inr below)) = inl (inr below)
 left_twice prunes u r s t (inl h) (inl (inl same)) = inl (from_twice u r s t h (inl same))
 left_twice prunes u r s t (inr gone) (inl (inl same)) = inr (gone.0, same ∙ gone.1, gone.2)
@@ -76,7 +81,8 @@ left_twice prunes u r s t h (inr gone) = inr (gone.0, gone.1, known_before prune
 abbrev pub SkipsStay : Slots → Slots → Type 0
 SkipsStay B S = (d : Dot) → map.get B d ≡ Some skipped → map.get S d ≡ Some skipped
 
-joined_stays : (o : Option Slot) (s : Slot) → o ≡ Some skipped → Some (joined_slot o s) ≡ Some skipped
+joined_stays : (o : Option Slot) (s : Slot) → o ≡ Some skipped
+    → Some (joined_slot o s) ≡ Some skipped
 joined_stays o s e = ap (λ p. Some (joined_slot p s)) e
 
 stays_joined : (B S : Slots) (i : Dot × Slot) → SkipsStay B S → SkipsStay B (joined S i)
@@ -97,12 +103,14 @@ dropped_is B (d, Held b) e = is_mark_of (map.get B d) (of (is_skipped B d) e)
 dropped_is B (d, Skipped) e = absurd (cc)
 
 -- each slot is as it was, or below what is above the items that weren't dropped
-pub from_items : (B S U : Slots) (items : Items) → SkipsStay B S → AllBelow U (filter (counts B) items) → (d : Dot)
+pub from_items : (B S U : Slots) (items : Items) → SkipsStay B S
+    → AllBelow U (filter (counts B) items) → (d : Dot)
     → IsFrom (map.get U d) (map.get S d) (map.get (with_slots S items) d)
 from_items B S U [] stays all d = inl refl
 from_items B S U (i ∷ more) stays all d = by (λ a. from_items B (joined S i) U more (stays_joined B S i stays) a d) (counts B i) refl all
   where
-    step : IsFrom (map.get U i.0) (map.get S i.0) (Some (joined_slot (map.get S i.0) i.1)) → IsFrom (map.get U d) (map.get S d) (map.get (joined S i) d)
+    step : IsFrom (map.get U i.0) (map.get S i.0) (Some (joined_slot (map.get S i.0) i.1))
+        → IsFrom (map.get U d) (map.get S d) (map.get (joined S i) d)
     step here = by_dot (λ o. IsFrom (map.get U d) (map.get S d) o) S i.0 (joined_slot (map.get S i.0) i.1) d
         (λ same. subst (λ q. IsFrom (map.get U q) (map.get S q) (Some (joined_slot (map.get S i.0) i.1))) (sym same) here) (inl refl)
 
@@ -119,7 +127,8 @@ from_items B S U (i ∷ more) stays all d = by (λ a. from_items B (joined S i) 
         (step (inl here)) (after all)
 
 -- each slot is as it was, or below what is above all items
-pub items_from : (U S : Slots) (items : Items) → AllBelow U items → (d : Dot) → IsFrom (map.get U d) (map.get S d) (map.get (with_slots S items) d)
+pub items_from : (U S : Slots) (items : Items) → AllBelow U items → (d : Dot)
+    → IsFrom (map.get U d) (map.get S d) (map.get (with_slots S items) d)
 items_from U S [] all d = inl refl
 items_from U S (i ∷ more) all d =
     from_twice (map.get U d) (map.get S d) (map.get (joined S i) d) (map.get (with_slots (joined S i) more) d)
@@ -128,18 +137,22 @@ items_from U S (i ∷ more) all d =
     (items_from U (joined S i) more all.1 d)
 
 -- the first items of a list that are kept are among those that are
-pub below_first : (U : Slots) (p : Dot × Slot → Bool) (k : ℕ) (items : Items) → AllBelow U (filter p items) → AllBelow U (filter p (take k items))
+pub below_first : (U : Slots) (p : Dot × Slot → Bool) (k : ℕ) (items : Items)
+    → AllBelow U (filter p items) → AllBelow U (filter p (take k items))
 below_first U p zero items all = tt
 below_first U p (suc k) [] all = tt
 below_first U p (suc k) (i ∷ more) all = by (λ a. below_first U p k more a) (p i) all
   where
-    by : (AllBelow U (filter p more) → AllBelow U (filter p (take k more))) → (t : Bool) → AllBelow U (cond t (i ∷ filter p more) (filter p more)) → AllBelow U (cond t (i ∷ filter p (take k more)) (filter p (take k more)))
+    by : (AllBelow U (filter p more) → AllBelow U (filter p (take k more))) → (t : Bool)
+        → AllBelow U (cond t (i ∷ filter p more) (filter p more))
+        → AllBelow U (cond t (i ∷ filter p (take k more)) (filter p (take k more)))
     by after true all = (all.0, after all.1)
     by after false all = after all
 
 -- ---- items that change nothing
 
-unchanged_slot : (o : Option Slot) (s : Slot) → changes_slot o s ≡ false → Some (joined_slot o s) ≡ o
+unchanged_slot : (o : Option Slot) (s : Slot) → changes_slot o s ≡ false
+    → Some (joined_slot o s) ≡ o
 unchanged_slot None s e = absurd (cc)
 unchanged_slot (Some Skipped) s e = refl
 unchanged_slot (Some (Held b)) (Held c) e = refl
@@ -149,7 +162,8 @@ pub neither : (a b : Bool) → (a || b) ≡ false → (a ≡ false) × (b ≡ fa
 neither true b e = absurd (cc)
 neither false b e = (refl, e)
 
-same_items : (S T : Slots) (items : Items) → ((d : Dot) → map.get T d ≡ map.get S d) → changes_slots S items ≡ false → (d : Dot)
+same_items : (S T : Slots) (items : Items) → ((d : Dot) → map.get T d ≡ map.get S d)
+    → changes_slots S items ≡ false → (d : Dot)
     → map.get (with_slots T items) d ≡ map.get S d
 same_items S T [] same none d = same d
 same_items S T (i ∷ more) same none d =
@@ -160,11 +174,13 @@ same_items S T (i ∷ more) same none d =
     each.1 d
 
 -- items that change nothing leave each slot
-pub unchanged : (S : Slots) (items : Items) → changes_slots S items ≡ false → (d : Dot) → map.get (with_slots S items) d ≡ map.get S d
+pub unchanged : (S : Slots) (items : Items) → changes_slots S items ≡ false → (d : Dot)
+    → map.get (with_slots S items) d ≡ map.get S d
 unchanged S items none d = same_items S S items (λ q. refl) none d
 
 -- the first items of a list that changes nothing change nothing
-pub first_unchanged : (S : Slots) (k : ℕ) (items : Items) → changes_slots S items ≡ false → changes_slots S (take k items) ≡ false
+pub first_unchanged : (S : Slots) (k : ℕ) (items : Items) → changes_slots S items ≡ false
+    → changes_slots S (take k items) ≡ false
 first_unchanged S zero items e = refl
 first_unchanged S (suc k) [] e = refl
 first_unchanged S (suc k) (i ∷ more) e =
@@ -180,7 +196,8 @@ not_held b h = no (h refl)
     no e = cc
 
 -- a slot that agrees with what is known, and isn't dropped, agrees with what is below that
-pub fit_lower : (l s : Option Slot) (x : Slot) → SlotBelow l s → SlotAgrees s (Some x) → (is_skipped_slot s ≡ true → x ≡ skipped) → SlotAgrees l (Some x)
+pub fit_lower : (l s : Option Slot) (x : Slot) → SlotBelow l s → SlotAgrees s (Some x)
+    → (is_skipped_slot s ≡ true → x ≡ skipped) → SlotAgrees l (Some x)
 fit_lower None s x below agrees drop = tt
 fit_lower (Some (Held a)) None x below agrees drop = absurd below
 fit_lower (Some (Held a)) (Some (Held c)) (Held y) below agrees drop = below ∙ agrees
@@ -192,7 +209,8 @@ fit_lower (Some Skipped) (Some (Held c)) x below agrees drop = absurd below
 fit_lower (Some Skipped) (Some Skipped) (Held y) below agrees drop = absurd (not_held y drop)
 fit_lower (Some Skipped) (Some Skipped) Skipped below agrees drop = tt
 
-kept_drop : (S : Slots) (i : Dot × Slot) → counts S i ≡ true → is_skipped_slot (map.get S i.0) ≡ true → i.1 ≡ skipped
+kept_drop : (S : Slots) (i : Dot × Slot) → counts S i ≡ true
+    → is_skipped_slot (map.get S i.0) ≡ true → i.1 ≡ skipped
 kept_drop S (d, Held b) e mark = absurd (of (is_skipped S d) e mark)
   where
     of : (t : Bool) → not t ≡ true → t ≡ true → ⊥
@@ -201,15 +219,18 @@ kept_drop S (d, Held b) e mark = absurd (of (is_skipped S d) e mark)
 kept_drop S (d, Skipped) e mark = refl
 
 -- items that fit, and weren't dropped, fit what is below
-pub fits_lower : (L S : Slots) (items : Items) → SlotsBelow L S → AllFit S items → AllFit L (filter (counts S) items)
+pub fits_lower : (L S : Slots) (items : Items) → SlotsBelow L S → AllFit S items
+    → AllFit L (filter (counts S) items)
 fits_lower L S [] below fit = tt
 fits_lower L S (i ∷ more) below fit = by (fits_lower L S more below fit.1) (counts S i) refl
   where
-    by : AllFit L (filter (counts S) more) → (t : Bool) → counts S i ≡ t → AllFit L (cond t (i ∷ filter (counts S) more) (filter (counts S) more))
+    by : AllFit L (filter (counts S) more) → (t : Bool) → counts S i ≡ t
+        → AllFit L (cond t (i ∷ filter (counts S) more) (filter (counts S) more))
     by after true e = (fit_lower (map.get L i.0) (map.get S i.0) i.1 (below i.0) fit.0 (kept_drop S i e), after)
     by after false e = after
 
-both_joined : (l s : Option Slot) (x : Slot) → SlotBelow l s → SlotAgrees s (Some x) → SlotBelow (Some (joined_slot l x)) (Some (joined_slot s x))
+both_joined : (l s : Option Slot) (x : Slot) → SlotBelow l s → SlotAgrees s (Some x)
+    → SlotBelow (Some (joined_slot l x)) (Some (joined_slot s x))
 both_joined None None (Held y) below agrees = refl
 both_joined None None Skipped below agrees = tt
 both_joined None (Some (Held c)) (Held y) below agrees = sym agrees
@@ -225,7 +246,8 @@ both_joined (Some Skipped) None x below agrees = absurd below
 both_joined (Some Skipped) (Some (Held c)) x below agrees = absurd below
 both_joined (Some Skipped) (Some Skipped) x below agrees = tt
 
-one_joined : (l s : Option Slot) (x : Slot) → SlotBelow l s → SlotAgrees s (Some x) → SlotBelow l (Some (joined_slot s x))
+one_joined : (l s : Option Slot) (x : Slot) → SlotBelow l s → SlotAgrees s (Some x)
+    → SlotBelow l (Some (joined_slot s x))
 one_joined None s x below agrees = tt
 one_joined (Some (Held a)) None x below agrees = absurd below
 one_joined (Some (Held a)) (Some (Held c)) (Held y) below agrees = below
@@ -236,7 +258,8 @@ one_joined (Some Skipped) (Some (Held c)) x below agrees = absurd below
 one_joined (Some Skipped) (Some Skipped) x below agrees = tt
 
 -- a slot at one dot keeps the agreement at others
-fits_after : (S : Slots) (d : Dot) (s : Slot) (items : Items) → Avoids d items → AllFit S items → AllFit (map.insert S d s) items
+fits_after : (S : Slots) (d : Dot) (s : Slot) (items : Items) → Avoids d items → AllFit S items
+    → AllFit (map.insert S d s) items
 fits_after S d s [] v a = tt
 fits_after S d s (i ∷ items) v a = (
   by_dot (λ o. SlotAgrees o (Some i.1)) S d s i.0 (λ same. absurd (v.0 same)) a.0,
@@ -244,7 +267,8 @@ fits_after S d s (i ∷ items) v a = (
 )
 
 -- what is below stays below with the items, or with those of them that pass a test
-pub items_lower : (p : Dot × Slot → Bool) (L S : Slots) (items : Items) → Differs items → SlotsBelow L S → AllFit S items
+pub items_lower : (p : Dot × Slot → Bool) (L S : Slots) (items : Items) → Differs items
+    → SlotsBelow L S → AllFit S items
     → SlotsBelow (with_slots L (filter p items)) (with_slots S items)
 items_lower p L S [] differ below fit = below
 items_lower p L S (i ∷ more) differ below fit =
@@ -265,13 +289,15 @@ items_lower p L S (i ∷ more) differ below fit =
         (both_joined (map.get L i.0) (map.get S i.0) i.1 (below i.0) fit.0))
         (above q)
 
-    by : SlotsBelow (with_slots (joined L i) (filter p more)) (with_slots (joined S i) more) → SlotsBelow (with_slots L (filter p more)) (with_slots (joined S i) more)
+    by : SlotsBelow (with_slots (joined L i) (filter p more)) (with_slots (joined S i) more)
+        → SlotsBelow (with_slots L (filter p more)) (with_slots (joined S i) more)
         → (t : Bool) → SlotsBelow (with_slots L (cond t (i ∷ filter p more) (filter p more))) (with_slots (joined S i) more)
     by taken left true = taken
     by taken left false = left
 
 -- items that fit are below the slots with them
-pub items_below : (S : Slots) (items : Items) → Differs items → AllFit S items → AllBelow (with_slots S items) items
+pub items_below : (S : Slots) (items : Items) → Differs items → AllFit S items
+    → AllBelow (with_slots S items) items
 items_below S [] v a = tt
 items_below S (i ∷ more) v a =
     let T = joined S i in
@@ -281,15 +307,18 @@ items_below S (i ∷ more) v a =
     (below_trans (Some i.1) (map.get T i.0) (map.get (with_slots T more) i.0) here (fit_below T more fit i.0), items_below T more v.1 fit)
 
 -- items below slots are below what is above these
-pub below_more : (S T : Slots) (items : Items) → SlotsBelow S T → AllBelow S items → AllBelow T items
+pub below_more : (S T : Slots) (items : Items) → SlotsBelow S T → AllBelow S items
+    → AllBelow T items
 below_more S T [] h all = tt
 below_more S T (i ∷ more) h all = (below_trans (Some i.1) (map.get S i.0) (map.get T i.0) all.0 (h i.0), below_more S T more h all.1)
 
 -- of items below slots, those that pass a test are
-pub below_some : (U : Slots) (p : Dot × Slot → Bool) (items : Items) → AllBelow U items → AllBelow U (filter p items)
+pub below_some : (U : Slots) (p : Dot × Slot → Bool) (items : Items) → AllBelow U items
+    → AllBelow U (filter p items)
 below_some U p [] all = tt
 below_some U p (i ∷ more) all = by (below_some U p more all.1) (p i)
   where
-    by : AllBelow U (filter p more) → (t : Bool) → AllBelow U (cond t (i ∷ filter p more) (filter p more))
+    by : AllBelow U (filter p more) → (t : Bool)
+        → AllBelow U (cond t (i ∷ filter p more) (filter p more))
     by after true = (all.0, after)
     by after false = after

@@ -1,7 +1,9 @@
 -- What turns and connections, one after the other, add to a log and a store. Key results:
 --   through    each turn adds bundles that fit, one after the other
 --   fits_both, each_both   of two lists that follow one another
-use Rattle.std.proofs.Common.{◌≡◌, ℕ, ◌≤◌, max, Bool, true, false, List, [], ◌∷◌, ◌++◌, append-nil, append_assoc, Option, None, Some, inl, inr, refl, sym, ap, subst, arith, ◌∙◌}
+use Rattle.std.proofs.Common.{◌≡◌, ℕ, ◌≤◌, max, Bool, true, false, List, [], ◌∷◌, ◌++◌, append-nil}
+use Rattle.std.proofs.Common.{append_assoc, Option, None, Some, inl, inr, refl, sym, ap, subst}
+use Rattle.std.proofs.Common.{arith, ◌∙◌}
 use Rattle.std.specs.Prelude.{◌⊎◌}
 use Rattle.std.specs.FinMap as map
 use Rattle.std.specs.Io.KnownBytes.{Appends}
@@ -20,12 +22,15 @@ use Rattle.tokend.specs.Draw.{past_six, six}
 use Rattle.tokend.specs.KeptLog.{AreCalm}
 use Rattle.tokend.specs.Loading.{AreBundles, log_bytes}
 use Rattle.tokend.specs.Pruning.{slice_size}
-use Rattle.tokend.specs.Turns.{AreDecisions, AreTurns, Endings, IsKept, IsLost, IsPause, IsTurn, Running, all_ends, past_each}
-use Rattle.tokend.proofs.Turning.{decisions_grow, log_stays, pause_grows, prunes_stay, sealed_stays, turn_prunes, turns_grow}
+use Rattle.tokend.specs.Turns.{AreDecisions, AreTurns, Endings, IsKept, IsLost, IsPause, IsTurn}
+use Rattle.tokend.specs.Turns.{Running, all_ends, past_each}
+use Rattle.tokend.proofs.TurnGrowth.{decisions_grow, log_stays, pause_grows, prunes_stay}
+use Rattle.tokend.proofs.TurnGrowth.{sealed_stays, turn_prunes, turns_grow}
 use Rattle.tokend.proofs.KeptSlots.{IsLeft, below_more, left_twice}
 use Rattle.tokend.proofs.SliceLaws.{Leaves, slice_above, slice_leaves}
 use Rattle.tokend.proofs.LogBundles.{EachBelow, NoneLater, each_more}
-use Rattle.tokend.proofs.KeptConnections.{IsSame, Brings, Grows, sealed_clash, same_late, decisions_stay, turns_stay, decision_adds}
+use Rattle.tokend.proofs.KeptConnections.{decisions_stay, turns_stay, decision_adds}
+use Rattle.tokend.proofs.LogGains.{IsSame, Brings, Grows, sealed_clash, same_late}
 
 -- each bundle fits what the bundles before it left
 abbrev pub FitsEach : Slots → List BundleFields → Type 0
@@ -40,9 +45,11 @@ with_each L (b ∷ more) = with_each (with_slots L b.items) more
 -- pruned if the region prunes itself
 pub record Through (prunes : Bool) (ends : Endings) (F G : StoreFields) (bundles : List BundleFields) : Type 0 where
   pub fit : AreBundles bundles
-  pub from : (U : Slots) → EachBelow U bundles → (d : Dot) → IsLeft prunes (map.get U d) (map.get F.slots d) (map.get G.slots d)
+  pub from : (U : Slots) → EachBelow U bundles → (d : Dot)
+      → IsLeft prunes (map.get U d) (map.get F.slots d) (map.get G.slots d)
   pub late : prunes ≡ false → (u : ℕ) → NoneLater bundles u → G.horizon ≤ max F.horizon u
-  pub loads : AreCalm ends → (L : Slots) → SlotsBelow L F.slots → FitsEach L bundles × SlotsBelow (with_each L bundles) G.slots
+  pub loads : AreCalm ends → (L : Slots) → SlotsBelow L F.slots
+      → FitsEach L bundles × SlotsBelow (with_each L bundles) G.slots
   pub known : AreCalm ends → EachBelow G.slots bundles
 
 same_through : (prunes : Bool) (F G : StoreFields) → G ≡ F → Through prunes [] F G []
@@ -54,14 +61,16 @@ same_through prunes F G is = record {
   known = λ calm. tt;
 }
 
-below_same : (L : Slots) (F G : StoreFields) → IsSame F G → SlotsBelow L F.slots → SlotsBelow L G.slots
+below_same : (L : Slots) (F G : StoreFields) → IsSame F G → SlotsBelow L F.slots
+    → SlotsBelow L G.slots
 below_same L F G same below d = subst (λ o. SlotBelow (map.get L d) o) (sym (same.slots d)) (below d)
 
 late_twice : (f m g u : ℕ) → g ≤ max m u → m ≤ max f u → g ≤ max f u
 late_twice f m g u h k = omega (arith, h, k)
 
 -- a connection that left the store as it was, before others
-after_same : (prunes : Bool) (end : Ending) (ends : Endings) (F M G : StoreFields) (bundles : List BundleFields) → IsSame F M → Through prunes ends M G bundles → Through prunes (end ∷ ends) F G bundles
+after_same : (prunes : Bool) (end : Ending) (ends : Endings) (F M G : StoreFields) (bundles : List BundleFields)
+    → IsSame F M → Through prunes ends M G bundles → Through prunes (end ∷ ends) F G bundles
 after_same prunes end ends F M G bundles same rest = record {
   fit = rest.fit;
   from = λ U each d. subst (λ o. IsLeft prunes (map.get U d) o (map.get G.slots d)) (same.slots d) (rest.from U each d);
@@ -71,7 +80,8 @@ after_same prunes end ends F M G bundles same rest = record {
 }
 
 -- a connection whose bundle was logged, before others
-after_bundle : (prunes : Bool) (end : Ending) (ends : Endings) (F M G : StoreFields) (b : BundleFields) (bundles : List BundleFields) → Brings end.end F M b → Through prunes ends M G bundles
+after_bundle : (prunes : Bool) (end : Ending) (ends : Endings) (F M G : StoreFields) (b : BundleFields) (bundles : List BundleFields)
+    → Brings end.end F M b → Through prunes ends M G bundles
     → SlotsBelow M.slots G.slots → Through prunes (end ∷ ends) F G (b ∷ bundles)
 after_bundle prunes end ends F M G b bundles brings rest grown = record {
   fit = (brings.fits, rest.fit);
@@ -91,7 +101,8 @@ one_log l m e = cc
 abbrev Logs : Bool → Endings → List ℕ → StoreFields → StoreFields → Type 0
 Logs prunes ends records F G = (bundles : List BundleFields) × (records ≡ log_bytes bundles) × Through prunes ends F G bundles
 
-more_logged : (prunes : Bool) (end : Ending) (ends : Endings) (first rest : List ℕ) (F M G : StoreFields) → Grows end.end (Some []) (Some first) F M → SlotsBelow M.slots G.slots
+more_logged : (prunes : Bool) (end : Ending) (ends : Endings) (first rest : List ℕ) (F M G : StoreFields)
+    → Grows end.end (Some []) (Some first) F M → SlotsBelow M.slots G.slots
     → Logs prunes ends rest M G → Logs prunes (end ∷ ends) (first ++ rest) F G
 more_logged prunes end ends first rest F M G (inl h) grown more = (more.0, ap (λ x. x ++ rest) h.0 ∙ more.1, after_same prunes end ends F M G more.0 h.1 more.2)
 more_logged prunes end ends first rest F M G (inr h) grown more = (
@@ -100,7 +111,8 @@ more_logged prunes end ends first rest F M G (inr h) grown more = (
   after_bundle prunes end ends F M G h.0 more.0 h.2 more.2 grown,
 )
 
-decisions_logged : (prunes : Bool) (words : ChaCha) (old : EdgeFields) (ends : Endings) (records : List ℕ) (new : EdgeFields) → AreDecisions words true old ends records new
+decisions_logged : (prunes : Bool) (words : ChaCha) (old : EdgeFields) (ends : Endings) (records : List ℕ) (new : EdgeFields)
+    → AreDecisions words true old ends records new
     → old.sealed ≡ false → new.sealed ≡ false → Logs prunes ends records old.region.facts new.region.facts
 decisions_logged prunes words old [] records new h open_old open_new = ([], h.1, same_through prunes old.region.facts new.region.facts (ap (λ (e : EdgeFields). e.region.facts) h.0))
 decisions_logged prunes words old (end ∷ ends) records new h open_old open_new =
@@ -141,15 +153,18 @@ late_rest : (u : ℕ) (xs ys : List BundleFields) → NoneLater (xs ++ ys) u →
 late_rest u [] ys h = h
 late_rest u (x ∷ xs) ys h = late_rest u xs ys h.1
 
-pub each_both : (U : Slots) (xs ys : List BundleFields) → EachBelow U xs → EachBelow U ys → EachBelow U (xs ++ ys)
+pub each_both : (U : Slots) (xs ys : List BundleFields) → EachBelow U xs → EachBelow U ys
+    → EachBelow U (xs ++ ys)
 each_both U [] ys h k = k
 each_both U (x ∷ xs) ys h k = (h.0, each_both U xs ys h.1 k)
 
-with_both : (L : Slots) (xs ys : List BundleFields) → with_each L (xs ++ ys) ≡ with_each (with_each L xs) ys
+with_both : (L : Slots) (xs ys : List BundleFields)
+    → with_each L (xs ++ ys) ≡ with_each (with_each L xs) ys
 with_both L [] ys = refl
 with_both L (x ∷ xs) ys = with_both (with_slots L x.items) xs ys
 
-pub fits_both : (L : Slots) (xs ys : List BundleFields) → FitsEach L xs → FitsEach (with_each L xs) ys → FitsEach L (xs ++ ys)
+pub fits_both : (L : Slots) (xs ys : List BundleFields) → FitsEach L xs
+    → FitsEach (with_each L xs) ys → FitsEach L (xs ++ ys)
 fits_both L [] ys h k = k
 fits_both L (x ∷ xs) ys h k = (h.0, fits_both (with_slots L x.items) xs ys h.1 k)
 
@@ -158,7 +173,9 @@ log_both [] ys = refl
 log_both (x ∷ xs) ys = append_assoc (bundle_bytes x) (log_bytes xs) (log_bytes ys) ∙ ap (λ l. bundle_bytes x ++ l) (log_both xs ys)
 
 -- the bundles of connections, and of later ones
-through_both : (prunes : Bool) (xs ys : Endings) (F M G : StoreFields) (bs cs : List BundleFields) → Through prunes xs F M bs → Through prunes ys M G cs → SlotsBelow M.slots G.slots → Through prunes (xs ++ ys) F G (bs ++ cs)
+through_both : (prunes : Bool) (xs ys : Endings) (F M G : StoreFields) (bs cs : List BundleFields)
+    → Through prunes xs F M bs → Through prunes ys M G cs → SlotsBelow M.slots G.slots
+    → Through prunes (xs ++ ys) F G (bs ++ cs)
 through_both prunes xs ys F M G bs cs h k grown = record {
   fit = bundles_both bs cs h.fit k.fit;
   from = λ U each d. left_twice prunes (map.get U d) (map.get F.slots d) (map.get M.slots d) (map.get G.slots d) (h.from U (each_first U bs cs each) d) (k.from U (each_rest U bs cs each) d);
@@ -175,7 +192,9 @@ abbrev pub Grew : Bool → List Endings → List ℕ → List ℕ → StoreField
 Grew prunes turns l m F G = (bundles : List BundleFields) × (m ≡ l ++ log_bytes bundles) × Through prunes (all_ends turns) F G bundles
 
 -- a turn whose edge isn't sealed behind it has kept its records
-kept_turn : (prunes : Bool) (words : ChaCha) (old : Running) (ends : Endings) (new : Running) (l : List ℕ) → IsTurn words true old ends new → old.log ≡ Some l → old.edge.sealed ≡ false → new.edge.sealed ≡ false
+kept_turn : (prunes : Bool) (words : ChaCha) (old : Running) (ends : Endings) (new : Running) (l : List ℕ)
+    → IsTurn words true old ends new → old.log ≡ Some l → old.edge.sealed ≡ false
+    → new.edge.sealed ≡ false
     → (records : List ℕ) × (new.log ≡ Some (l ++ records)) × Logs prunes ends records old.edge.region.facts new.edge.region.facts
 kept_turn prunes words old ends new l h old_log open_old open_new = of h.log
   where
@@ -194,10 +213,12 @@ kept_turn prunes words old ends new l h old_log open_old open_new = of h.log
     of (inr lost) = absurd (sealed_clash (sym open_new ∙ ap (λ (e : EdgeFields). e.sealed) lost.edge))
 
 -- what a pause adds to a log, which is nothing
-paused : (old new : Running) → IsPause old new → Through old.prunes [] old.edge.region.facts new.edge.region.facts []
+paused : (old new : Running) → IsPause old new
+    → Through old.prunes [] old.edge.region.facts new.edge.region.facts []
 paused old new (inl same) = same_through old.prunes old.edge.region.facts new.edge.region.facts (ap (λ (r : Running). r.edge.region.facts) same)
 paused old new (inr (inl lacks)) = same_through old.prunes old.edge.region.facts new.edge.region.facts (ap (λ (r : Running). r.edge.region.facts) lacks.others)
-paused old new (inr (inr loses)) = record {
+paused old new (inr (inr (inr shows))) = same_through old.prunes old.edge.region.facts new.edge.region.facts (ap (λ (r : Running). r.edge.region.facts) shows.others)
+paused old new (inr (inr (inl loses))) = record {
   fit = tt;
   from = λ U each d. of U d (slice_leaves F loses.moment loses.after slice_size loses.slice G loses.region.facts d);
   late = λ off. absurd (sealed_clash (sym off ∙ loses.prunes));
@@ -211,11 +232,13 @@ paused old new (inr (inr loses)) = record {
     G : StoreFields
     G = new.edge.region.facts
 
-    of : (U : Slots) (d : Dot) → Leaves (map.get F.slots d) (map.get G.slots d) → IsLeft old.prunes (map.get U d) (map.get F.slots d) (map.get G.slots d)
+    of : (U : Slots) (d : Dot) → Leaves (map.get F.slots d) (map.get G.slots d)
+        → IsLeft old.prunes (map.get U d) (map.get F.slots d) (map.get G.slots d)
     of U d (inl same) = inl (inl same)
     of U d (inr gone) = inr (loses.prunes, gone.0, inl gone.1)
 
-pub through : (words : ChaCha) (old : Running) (turns : List Endings) (new : Running) (l m : List ℕ) → AreTurns words true old turns new
+pub through : (words : ChaCha) (old : Running) (turns : List Endings) (new : Running) (l m : List ℕ)
+    → AreTurns words true old turns new
     → old.log ≡ Some l → new.log ≡ Some m → old.edge.sealed ≡ false → new.edge.sealed ≡ false → Grew old.prunes turns l m old.edge.region.facts new.edge.region.facts
 through words old [] new l m h old_log new_log open_old open_new = (
   [],

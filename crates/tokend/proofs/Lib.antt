@@ -5,6 +5,7 @@ pub mod Connecting
 pub mod Deciding
 pub mod EventWords
 pub mod FactsLaws
+pub mod FrontDeciding
 pub mod Growing
 pub mod KeptConnections
 pub mod KeptLogs
@@ -12,7 +13,10 @@ pub mod KeptSlots
 pub mod KeptTurns
 pub mod LogBundles
 pub mod Loads
+pub mod LogGains
+pub mod MissingOptions
 pub mod OneSet
+pub mod PartLaws
 pub mod RepeatLaws
 pub mod Runs
 pub mod ServiceLogs
@@ -23,5 +27,7 @@ pub mod SliceLaws
 pub mod SocketLaws
 pub mod Tasks
 pub mod Tellings
+pub mod TurnGrowth
+pub mod TurnLaws
 pub mod Turning
 pub mod TypedNumber

@@ -3,7 +3,9 @@
 --   one_list      bytes are the bundles of one list alone
 --   each_below    bundles that were taken in are below what is known then
 --   each_from     each slot is as it was, or below what is above the bundles
-use Rattle.std.proofs.Common.{◌≡◌, ℕ, ◌≤◌, max, List, [], ◌∷◌, ◌++◌, append-nil, append_assoc, Option, None, Some, Ok, Err, inl, inr, refl, sym, ap, subst, arith, ◌∙◌}
+use Rattle.std.proofs.Common.{◌≡◌, ℕ, ◌≤◌, max, List, [], ◌∷◌, ◌++◌, append-nil, append_assoc}
+use Rattle.std.proofs.Common.{Option, None, Some, Ok, Err, inl, inr, refl, sym, ap, subst, arith}
+use Rattle.std.proofs.Common.{◌∙◌}
 use Rattle.std.specs.FinMap as map
 use Rattle.std.proofs.lemmas.Grind.{flat_map-append}
 use Rattle.tk_format.specs.Exact.{prefix_free}
@@ -29,7 +31,8 @@ use Rattle.tokend.proofs.KeptSlots.{IsFrom, below_more, from_twice, items_below,
 
 -- ---- bytes
 
-pub both_bundles : (xs ys : List BundleFields) → AreBundles xs → AreBundles ys → AreBundles (xs ++ ys)
+pub both_bundles : (xs ys : List BundleFields) → AreBundles xs → AreBundles ys
+    → AreBundles (xs ++ ys)
 both_bundles [] ys a b = b
 both_bundles (x ∷ xs) ys a b = (a.0, both_bundles xs ys a.1 b)
 
@@ -40,7 +43,8 @@ not_cut : (more : List ℕ) → Ok more ≡ Err front.Cut → ⊥
 not_cut more e = cc
 
 -- no bundle begins what is nothing, or is cut
-pub no_end : (b : BundleFields) (more rest : List ℕ) → bundle.Fits b → rest ≡ bundle_bytes b ++ more → IsTorn rest → ⊥
+pub no_end : (b : BundleFields) (more rest : List ℕ) → bundle.Fits b → rest ≡ bundle_bytes b ++ more
+    → IsTorn rest → ⊥
 no_end b more rest fits e (inl none) = no_bytes (sym none ∙ e)
   where
     no_bytes : [] ≡ bundle_bytes b ++ more → ⊥
@@ -54,7 +58,8 @@ pub record Parted (xs ys : List BundleFields) (rest cut : List ℕ) : Type 0 whe
   pub all : ys ≡ xs ++ more
   pub left : rest ≡ log_bytes more ++ cut
 
-pub parted : (xs ys : List BundleFields) (rest cut : List ℕ) → AreBundles xs → AreBundles ys → IsTorn cut → log_bytes xs ++ rest ≡ log_bytes ys ++ cut → Parted xs ys rest cut
+pub parted : (xs ys : List BundleFields) (rest cut : List ℕ) → AreBundles xs → AreBundles ys
+    → IsTorn cut → log_bytes xs ++ rest ≡ log_bytes ys ++ cut → Parted xs ys rest cut
 parted [] ys rest cut fx fy torn e = record { more = ys; fit = fy; all = refl; left = e }
 parted (x ∷ xs) [] rest cut fx fy torn e =
     absurd (no_end x (log_bytes xs ++ rest) cut fx.0 (sym e ∙ append_assoc (bundle_bytes x) (log_bytes xs) rest) torn)
@@ -65,12 +70,14 @@ parted (x ∷ xs) (y ∷ ys) rest cut fx fy torn e =
     record { more = tail.more; fit = tail.fit; all = ap (λ b. b ∷ ys) (sym first.0) ∙ ap (λ l. x ∷ l) tail.all; left = tail.left }
 
 -- bytes are the bundles of one list alone
-pub one_list : (bytes : List ℕ) (xs ys : List BundleFields) → AreLogged bytes xs → AreLogged bytes ys → ys ≡ xs
+pub one_list : (bytes : List ℕ) (xs ys : List BundleFields) → AreLogged bytes xs
+    → AreLogged bytes ys → ys ≡ xs
 one_list bytes xs ys a b =
     let p = parted xs ys a.rest b.rest a.fit b.fit b.torn (sym a.parts ∙ b.parts) in
     of p.more p.fit p.all p.left
   where
-    of : (more : List BundleFields) → AreBundles more → ys ≡ xs ++ more → a.rest ≡ log_bytes more ++ b.rest → ys ≡ xs
+    of : (more : List BundleFields) → AreBundles more → ys ≡ xs ++ more
+        → a.rest ≡ log_bytes more ++ b.rest → ys ≡ xs
     of [] fit all left = all ∙ append-nil xs
     of (m ∷ more) fit all left =
         absurd (no_end m (log_bytes more ++ b.rest) a.rest fit.0 (left ∙ append_assoc (bundle_bytes m) (log_bytes more) b.rest) a.torn)
@@ -91,7 +98,8 @@ abbrev pub NoneLater : List BundleFields → ℕ → Type 0
 NoneLater [] horizon = Unit {0}
 NoneLater (b ∷ more) horizon = IsNotLater b.horizon horizon × NoneLater more horizon
 
-pub taken_slots : (P Q : StoreFields) (horizon : Option ℕ) (items : Items) → Q ≡ items_taken (raised P horizon) items → Q.slots ≡ with_slots P.slots items
+pub taken_slots : (P Q : StoreFields) (horizon : Option ℕ) (items : Items)
+    → Q ≡ items_taken (raised P horizon) items → Q.slots ≡ with_slots P.slots items
 taken_slots P Q None items is = ap (λ (R : StoreFields). R.slots) is
 taken_slots P Q (Some moment) items is = ap (λ (R : StoreFields). R.slots) is
 
@@ -108,7 +116,9 @@ itself : (n k : ℕ) → n ≤ max n k
 itself n k = omega (arith)
 
 -- the horizon of a store with items is that of their bundle, or later
-pub taken_horizon : (P Q : StoreFields) (horizon : Option ℕ) (items : Items) → Q ≡ items_taken (raised P horizon) items → IsNotLater horizon Q.horizon × (P.horizon ≤ Q.horizon)
+pub taken_horizon : (P Q : StoreFields) (horizon : Option ℕ) (items : Items)
+    → Q ≡ items_taken (raised P horizon) items
+    → IsNotLater horizon Q.horizon × (P.horizon ≤ Q.horizon)
 taken_horizon P Q None items is = (tt, subst (λ n. P.horizon ≤ n) (sym (ap (λ (R : StoreFields). R.horizon) is)) (omega (arith)))
 taken_horizon P Q (Some moment) items is = (
   subst (λ n. moment ≤ n) (sym (ap (λ (R : StoreFields). R.horizon) is)) (at_least moment P.horizon),
@@ -117,7 +127,8 @@ taken_horizon P Q (Some moment) items is = (
 
 -- the horizon of a store with items isn't later than the old one, or than what is no earlier than
 -- that of their bundle
-pub horizon_from : (P Q : StoreFields) (horizon : Option ℕ) (items : Items) (u : ℕ) → Q ≡ items_taken (raised P horizon) items → IsNotLater horizon u → Q.horizon ≤ max P.horizon u
+pub horizon_from : (P Q : StoreFields) (horizon : Option ℕ) (items : Items) (u : ℕ)
+    → Q ≡ items_taken (raised P horizon) items → IsNotLater horizon u → Q.horizon ≤ max P.horizon u
 horizon_from P Q None items u is low = subst (λ n. n ≤ max P.horizon u) (sym (ap (λ (R : StoreFields). R.horizon) is)) (itself P.horizon u)
 horizon_from P Q (Some moment) items u is low =
     subst (λ n. n ≤ max P.horizon u) (sym (ap (λ (R : StoreFields). R.horizon) is)) (no_later moment P.horizon u low)
@@ -133,7 +144,8 @@ pub record IsAbove (old : RegionFields) (bundles : List BundleFields) (new : Reg
   pub late : NoneLater bundles new.facts.horizon
   pub horizon : old.facts.horizon ≤ new.facts.horizon
 
-pub each_below : (old : RegionFields) (bundles : List BundleFields) (new : RegionFields) → AreBundles bundles → TakesEach old bundles new → IsAbove old bundles new
+pub each_below : (old : RegionFields) (bundles : List BundleFields) (new : RegionFields)
+    → AreBundles bundles → TakesEach old bundles new → IsAbove old bundles new
 each_below old [] new fit same = record {
   slots = subst (λ r. SlotsBelow old.facts.slots r.facts.slots) (sym same) (slots_itself old.facts.slots);
   each = tt;
@@ -155,7 +167,8 @@ each_below old (b ∷ more) new fit h =
     }
 
 -- each slot is as it was, or below what is above the bundles
-pub each_from : (old : RegionFields) (bundles : List BundleFields) (new : RegionFields) (U : Slots) → TakesEach old bundles new → EachBelow U bundles → (d : Dot)
+pub each_from : (old : RegionFields) (bundles : List BundleFields) (new : RegionFields) (U : Slots)
+    → TakesEach old bundles new → EachBelow U bundles → (d : Dot)
     → IsFrom (map.get U d) (map.get old.facts.slots d) (map.get new.facts.slots d)
 each_from old [] new U same each d = inl (ap (λ (r : RegionFields). map.get r.facts.slots d) same)
 each_from old (b ∷ more) new U h each d =
@@ -165,24 +178,29 @@ each_from old (b ∷ more) new U h each d =
 
 -- ---- lists of bundles
 
-pub below_in : (U : Slots) (b : BundleFields) (all : List BundleFields) → IsIn b all → EachBelow U all → AllBelow U b.items
+pub below_in : (U : Slots) (b : BundleFields) (all : List BundleFields) → IsIn b all
+    → EachBelow U all → AllBelow U b.items
 below_in U b [] h each = absurd h
 below_in U b (x ∷ xs) (inl is) each = subst (λ (y : BundleFields). AllBelow U y.items) is each.0
 below_in U b (x ∷ xs) (inr more) each = below_in U b xs more each.1
 
-pub below_among : (U : Slots) (xs all : List BundleFields) → AreAmong xs all → EachBelow U all → EachBelow U xs
+pub below_among : (U : Slots) (xs all : List BundleFields) → AreAmong xs all → EachBelow U all
+    → EachBelow U xs
 below_among U [] all h each = tt
 below_among U (x ∷ xs) all h each = (below_in U x all h.0 each, below_among U xs all h.1 each)
 
-later_in : (horizon : ℕ) (b : BundleFields) (all : List BundleFields) → IsIn b all → NoneLater all horizon → IsNotLater b.horizon horizon
+later_in : (horizon : ℕ) (b : BundleFields) (all : List BundleFields) → IsIn b all
+    → NoneLater all horizon → IsNotLater b.horizon horizon
 later_in horizon b [] h late = absurd h
 later_in horizon b (x ∷ xs) (inl is) late = subst (λ (y : BundleFields). IsNotLater y.horizon horizon) is late.0
 later_in horizon b (x ∷ xs) (inr more) late = later_in horizon b xs more late.1
 
-pub later_among : (horizon : ℕ) (xs all : List BundleFields) → AreAmong xs all → NoneLater all horizon → NoneLater xs horizon
+pub later_among : (horizon : ℕ) (xs all : List BundleFields) → AreAmong xs all
+    → NoneLater all horizon → NoneLater xs horizon
 later_among horizon [] all h late = tt
 later_among horizon (x ∷ xs) all h late = (later_in horizon x all h.0 late, later_among horizon xs all h.1 late)
 
-pub each_more : (S T : Slots) (bundles : List BundleFields) → SlotsBelow S T → EachBelow S bundles → EachBelow T bundles
+pub each_more : (S T : Slots) (bundles : List BundleFields) → SlotsBelow S T → EachBelow S bundles
+    → EachBelow T bundles
 each_more S T [] h each = tt
 each_more S T (b ∷ more) h each = (below_more S T b.items h each.0, each_more S T more h each.1)

@@ -5,7 +5,9 @@
 --   found_parts      a refresh that was found is one that is kept, and is repeated
 --   granted_done     a request that was granted what it asked for
 --   forgets          what is left is of what was kept
-use Rattle.std.proofs.Common.{◌≡◌, ℕ, ◌&&◌, Bool, true, false, List, [], ◌∷◌, ◌++◌, length, drop, Option, Some, None, Result, Ok, inl, inr, refl, sym, ap, subst, ◌∙◌, arith}
+use Rattle.std.proofs.Common.{◌≡◌, ℕ, ◌&&◌, Bool, true, false, List, [], ◌∷◌, ◌++◌, length, drop}
+use Rattle.std.proofs.Common.{Option, Some, None, Result, Ok, inl, inr, refl, sym, ap, subst, ◌∙◌}
+use Rattle.std.proofs.Common.{arith}
 use Rattle.std.specs.Prelude.{◌<◌, find, nat_lt, slice_index_or}
 use Rattle.std.proofs.lemmas.Bool.{cases_Bool, cond-true, cond-false}
 use Rattle.tk_handle.specs.declared.dot.Dot.{Dot}
@@ -23,7 +25,8 @@ use Rattle.tk_turn.specs.Outcomes.{goes_on}
 use Rattle.tk_turn.specs.declared.service.Outcome.{Outcome}
 use Rattle.tokend.specs.Decisions.{kept_by, outcome_by}
 use Rattle.tokend.specs.Repeating.{is_granted, is_ok}
-use Rattle.tokend.specs.Repeats.{IsIn, MayRepeat, RepeatsFields, Repetition, forgotten, is_recent, is_repeat, most_kept, with_granted, with_room}
+use Rattle.tokend.specs.Repeats.{IsIn, MayRepeat, RepeatsFields, Repetition, forgotten, is_recent}
+use Rattle.tokend.specs.Repeats.{is_repeat, most_kept, with_granted, with_room}
 use Rattle.tokend.specs.Turns.{AreAmong, AreRepeated, AreRepeats, Endings, all_granted}
 use Rattle.tokend.specs.declared.repeats.Refreshed.{Refreshed}
 
@@ -40,19 +43,23 @@ and_second false b h = absurd (wrong h)
     wrong : false ≡ true → ⊥
     wrong e = cc
 
-pub recent_by : (seconds now : ℕ) (parent : Dot) (request : RequestFields) (it : Refreshed) → is_repeat seconds now parent request it ≡ true → is_recent seconds now it ≡ true
+pub recent_by : (seconds now : ℕ) (parent : Dot) (request : RequestFields) (it : Refreshed)
+    → is_repeat seconds now parent request it ≡ true → is_recent seconds now it ≡ true
 recent_by seconds now parent request it h =
     and_first (is_recent seconds now it) (is_again it.request request) (and_second (is_same_dot it.parent parent) (is_recent seconds now it && is_again it.request request) h)
 
-pub again_by : (seconds now : ℕ) (parent : Dot) (request : RequestFields) (it : Refreshed) → is_repeat seconds now parent request it ≡ true → is_again it.request request ≡ true
+pub again_by : (seconds now : ℕ) (parent : Dot) (request : RequestFields) (it : Refreshed)
+    → is_repeat seconds now parent request it ≡ true → is_again it.request request ≡ true
 again_by seconds now parent request it h =
     and_second (is_recent seconds now it) (is_again it.request request) (and_second (is_same_dot it.parent parent) (is_recent seconds now it && is_again it.request request) h)
 
 -- a connection stays behind a reply that is given again only if its request lets it
-pub stays_taken : (keeps : Bool) (taken : Taken) (outcome : Outcome) → outcome ≡ outcome_by keeps (Done code.Ok) taken → goes_on outcome ≡ true → taken.stays ≡ true
+pub stays_taken : (keeps : Bool) (taken : Taken) (outcome : Outcome)
+    → outcome ≡ outcome_by keeps (Done code.Ok) taken → goes_on outcome ≡ true → taken.stays ≡ true
 stays_taken keeps taken outcome is on = and_second keeps taken.stays (sym (ap goes_on is) ∙ on)
 
-pub closes_taken : (keeps : Bool) (taken : Taken) (outcome : Outcome) → outcome ≡ outcome_by keeps (Done code.Ok) taken → keeps ≡ false → goes_on outcome ≡ false
+pub closes_taken : (keeps : Bool) (taken : Taken) (outcome : Outcome)
+    → outcome ≡ outcome_by keeps (Done code.Ok) taken → keeps ≡ false → goes_on outcome ≡ false
 closes_taken keeps taken outcome is off = ap goes_on is ∙ ap (λ b. b && taken.stays) off
 
 -- ---- what was granted
@@ -79,16 +86,19 @@ granted_done (Done status) h = ap (λ (s : StatusCode). Done s) (ok_status statu
 
 -- ---- lists of refreshes
 
-among_more : (o : Option Refreshed) (k l : List Refreshed) → AreAmong k l → AreAmong (with_granted o k) (with_granted o l)
+among_more : (o : Option Refreshed) (k l : List Refreshed) → AreAmong k l
+    → AreAmong (with_granted o k) (with_granted o l)
 among_more None k l h it is = h it is
 among_more (Some x) k l h it (inl same) = inl same
 among_more (Some x) k l h it (inr rest) = inr (h it rest)
 
-granted_more : (k l : List Refreshed) (ends : Endings) → AreAmong k l → AreAmong (all_granted k ends) (all_granted l ends)
+granted_more : (k l : List Refreshed) (ends : Endings) → AreAmong k l
+    → AreAmong (all_granted k ends) (all_granted l ends)
 granted_more k l [] h = h
 granted_more k l (e ∷ es) h = granted_more (with_granted e.granted k) (with_granted e.granted l) es (among_more e.granted k l h)
 
-granted_both : (k : List Refreshed) (xs ys : Endings) → all_granted k (xs ++ ys) ≡ all_granted (all_granted k xs) ys
+granted_both : (k : List Refreshed) (xs ys : Endings)
+    → all_granted k (xs ++ ys) ≡ all_granted (all_granted k xs) ys
 granted_both k [] ys = refl
 granted_both k (x ∷ xs) ys = granted_both (with_granted x.granted k) xs ys
 
@@ -121,7 +131,8 @@ none_some it e = cc
 same_some : (x it : Refreshed) → Some x ≡ Some it → x ≡ it
 same_some x it e = cc
 
-pub found_parts : (p : Refreshed → Bool) (k : List Refreshed) (it : Refreshed) → find p k ≡ Some it → IsIn it k × (p it ≡ true)
+pub found_parts : (p : Refreshed → Bool) (k : List Refreshed) (it : Refreshed) → find p k ≡ Some it
+    → IsIn it k × (p it ≡ true)
 found_parts p [] it h = absurd (none_some it h)
 found_parts p (x ∷ xs) it h = elim (cases_Bool (p x)) [
   | inl holds ↦
@@ -140,35 +151,42 @@ forgets seconds now (x ∷ xs) it is = elim (cases_Bool (is_recent seconds now x
 ]
 
 -- the oldest one goes, if it wasn't granted lately
-pub forgotten_first : (seconds now : ℕ) (x : Refreshed) (k : List Refreshed) → x ≡ slice_index_or k 0 x → 0 < length k → is_recent seconds now x ≡ false
+pub forgotten_first : (seconds now : ℕ) (x : Refreshed) (k : List Refreshed)
+    → x ≡ slice_index_or k 0 x → 0 < length k → is_recent seconds now x ≡ false
     → forgotten seconds now (drop 1 k) ≡ forgotten seconds now k
 forgotten_first seconds now x [] at some old = absurd (omega (arith, some))
 forgotten_first seconds now x (y ∷ ys) at some old =
     sym (cond-false (is_recent seconds now y) (y ∷ ys) (forgotten seconds now ys) (sym (ap (is_recent seconds now) at) ∙ old))
 
 -- none goes, if the oldest one was granted lately
-pub forgotten_none : (seconds now : ℕ) (x : Refreshed) (k : List Refreshed) → x ≡ slice_index_or k 0 x → 0 < length k → is_recent seconds now x ≡ true
+pub forgotten_none : (seconds now : ℕ) (x : Refreshed) (k : List Refreshed)
+    → x ≡ slice_index_or k 0 x → 0 < length k → is_recent seconds now x ≡ true
     → forgotten seconds now k ≡ k
 forgotten_none seconds now x [] at some lately = absurd (omega (arith, some))
 forgotten_none seconds now x (y ∷ ys) at some lately =
     cond-true (is_recent seconds now y) (y ∷ ys) (forgotten seconds now ys) (sym (ap (is_recent seconds now) at) ∙ lately)
 
-pub forgotten_empty : (seconds now : ℕ) (k : List Refreshed) → length k ≡ 0 → forgotten seconds now k ≡ k
+pub forgotten_empty : (seconds now : ℕ) (k : List Refreshed) → length k ≡ 0
+    → forgotten seconds now k ≡ k
 forgotten_empty seconds now [] none = refl
 forgotten_empty seconds now (y ∷ ys) none = absurd (omega (arith, none))
 
 -- ---- requests
 
-may_more : (seconds : ℕ) (k l : List Refreshed) (o : Option Repetition) → AreAmong k l → MayRepeat seconds k o → MayRepeat seconds l o
+may_more : (seconds : ℕ) (k l : List Refreshed) (o : Option Repetition) → AreAmong k l
+    → MayRepeat seconds k o → MayRepeat seconds l o
 may_more seconds k l None h m = m
 may_more seconds k l (Some it) h m = (m.0, h it.refreshed m.1, m.2)
 
-repeats_more : (seconds : ℕ) (k l : List Refreshed) (ends : Endings) → AreAmong k l → AreRepeats seconds k ends → AreRepeats seconds l ends
+repeats_more : (seconds : ℕ) (k l : List Refreshed) (ends : Endings) → AreAmong k l
+    → AreRepeats seconds k ends → AreRepeats seconds l ends
 repeats_more seconds k l [] h r = r
 repeats_more seconds k l (e ∷ es) h r =
     (may_more seconds k l e.again h r.0, repeats_more seconds (with_granted e.granted k) (with_granted e.granted l) es (among_more e.granted k l h) r.1)
 
-repeats_both : (seconds : ℕ) (k m : List Refreshed) (xs ys : Endings) → AreAmong m (all_granted k xs) → AreRepeats seconds k xs → AreRepeats seconds m ys → AreRepeats seconds k (xs ++ ys)
+repeats_both : (seconds : ℕ) (k m : List Refreshed) (xs ys : Endings)
+    → AreAmong m (all_granted k xs) → AreRepeats seconds k xs → AreRepeats seconds m ys
+    → AreRepeats seconds k (xs ++ ys)
 repeats_both seconds k m [] ys among x y = repeats_more seconds m k ys among y
 repeats_both seconds k m (e ∷ es) ys among x y = (x.0, repeats_both seconds (with_granted e.granted k) m es ys among x.1 y)
 
@@ -184,7 +202,8 @@ one_granted end stays reach (Some it) repeats = record {
   kept = λ x is. in_kept x it repeats.kept (in_behind x it (with_room repeats.kept) is);
 }
 
-pub repeated_both : (old mid new : RepeatsFields) (xs ys : Endings) → AreRepeated old xs mid → AreRepeated mid ys new → AreRepeated old (xs ++ ys) new
+pub repeated_both : (old mid new : RepeatsFields) (xs ys : Endings) → AreRepeated old xs mid
+    → AreRepeated mid ys new → AreRepeated old (xs ++ ys) new
 repeated_both old mid new xs ys h k = record {
   seconds = k.seconds ∙ h.seconds;
   each = repeats_both old.seconds old.kept mid.kept xs ys h.kept h.each (subst (λ s. AreRepeats s mid.kept ys) h.seconds k.each);

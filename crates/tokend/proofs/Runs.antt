@@ -8,7 +8,8 @@
 --   service_done      the program has done what the service did
 --   ended_well        a run without a fault has done that
 --   ended_badly       a run with a fault has that fault's status and line
-use Rattle.std.proofs.Common.{◌≡◌, ◌⊎◌, ℕ, List, length, Option, Some, None, Result, Ok, Err, subst, sym, refl, inl, inr, arith, ◌<◌, ◌≤◌, ◌∙◌}
+use Rattle.std.proofs.Common.{◌≡◌, ◌⊎◌, ℕ, List, length, Option, Some, None, Result, Ok, Err, subst}
+use Rattle.std.proofs.Common.{sym, refl, inl, inr, arith, ◌<◌, ◌≤◌, ◌∙◌}
 use Rattle.std.specs.Prelude.{IfSome, IfErr, OnOk, OnErr, MatchResult}
 use Rattle.std.specs.Io.KnownBytes.{Appends}
 use Rattle.clap.specs.Words.{Text}
@@ -21,8 +22,10 @@ use Rattle.tokend.specs.ServiceRun.{IsServiceRun}
 use Rattle.tokend.specs.LoopbackRun.{by_loopback}
 use Rattle.tokend.specs.Task.{Asks, AsksToShow}
 use Rattle.tokend.specs.Script.{greatest_length, IsFaultOf, IsFirstBad}
-use Rattle.tokend.specs.ScriptRun.{in_world, IsReadFault, IsScript, IsScriptFault, IsScriptRun, LeavesScript, Mode, PrintsScript}
-use Rattle.tokend.specs.ProgramRun.{BeginsLines, BeginsToServe, FailsToRun, FailsToServe, IsDone, IsFaultFor, Leaves, PrintsLines, ReportsFault}
+use Rattle.tokend.specs.ScriptRun.{in_world, IsReadFault, IsScript, IsScriptFault, IsScriptRun}
+use Rattle.tokend.specs.ScriptRun.{LeavesScript, Mode, PrintsScript}
+use Rattle.tokend.specs.ProgramRun.{BeginsLines, BeginsToServe, FailsToRun, FailsToServe, IsDone}
+use Rattle.tokend.specs.ProgramRun.{IsFaultFor, Leaves, PrintsLines, ReportsFault}
 use Rattle.tokend.specs.Status.{status_of, LeavesBegun}
 use Rattle.tokend.specs.declared.options.Service.{Service}
 use Rattle.tokend.specs.declared.options.Task.TheVariants.{Serve}
@@ -33,11 +36,16 @@ use Rattle.tokend.specs.CheckRun.{BeginsCheck, ChecksFacts}
 use Rattle.tokend.specs.FactsRun.{BeginsFacts, PrintsFacts}
 use Rattle.tokend.specs.Telling.{Writer, Writing}
 use Rattle.tokend.specs.declared.fault.Fault.{Fault}
-use Rattle.tokend.specs.declared.fault.Fault.TheVariants.{BadLine, BadLogFile, BadSeedFile, CannotListen, CannotOpen, CannotRead, CannotReadFile, Facts, Memory, Output, PruneAhead, ScriptTooLong, SharedFolder, SocketFailed, SocketInUse, Words}
+use Rattle.tokend.specs.declared.fault.Fault.TheVariants.{BadLine, BadLogFile, BadSeedFile}
+use Rattle.tokend.specs.declared.fault.Fault.TheVariants.{CannotListen, CannotOpen, CannotRead}
+use Rattle.tokend.specs.declared.fault.Fault.TheVariants.{CannotReadFile, Facts, Memory, Output}
+use Rattle.tokend.specs.declared.fault.Fault.TheVariants.{PruneAhead, ScriptTooLong, SharedFolder}
+use Rattle.tokend.specs.declared.fault.Fault.TheVariants.{SocketFailed, SocketInUse, Words}
 use Rattle.tokend.specs.declared.fault.FactsFault.TheVariants as facts
 
 -- the run of a script that was read, if the input's bytes are known
-script_run : (mode : Mode) (input : Option (List ℕ)) (events : List Event) (outcomes : List Outcome) → IfSome input (λ script. IsScript mode.longest script events) → mode.Runs events outcomes
+script_run : (mode : Mode) (input : Option (List ℕ)) (events : List Event) (outcomes : List Outcome)
+    → IfSome input (λ script. IsScript mode.longest script events) → mode.Runs events outcomes
     → IfSome input (λ script. IsScriptRun mode script (lines_text events outcomes))
 script_run mode None events outcomes given run = tt
 script_run mode (Some script) events outcomes given run = record { events = events; outcomes = outcomes; given = given; run = run; printed = refl }
@@ -58,12 +66,14 @@ script_begun mode input events outcomes old new (Err fault) given run begun =
     subst (λ f. LeavesScript mode input f old new) (sym begun.0) (lines_text events outcomes, script_run mode input events outcomes given run, begun.1)
 
 -- a fault of a script is one of the input, whose bytes it is if these are known
-pub read_fault : {T : Type 0} (longest : Option ℕ) (input : Option (List ℕ)) (script : List ℕ) (r : Result T Fault) → length script ≤ greatest_length → IfSome input (λ bytes. script ≡ bytes)
+pub read_fault : {T : Type 0} (longest : Option ℕ) (input : Option (List ℕ)) (script : List ℕ) (r : Result T Fault)
+    → length script ≤ greatest_length → IfSome input (λ bytes. script ≡ bytes)
     → IfErr r (IsFaultOf longest script) → IfErr r (IsReadFault longest input)
 read_fault longest input script (Ok x) short whole h = tt
 read_fault longest input script (Err fault) short whole h = of fault h
   where
-    first : (number : ℕ) → IsFirstBad longest script number → (known : Option (List ℕ)) → IfSome known (λ bytes. script ≡ bytes)
+    first : (number : ℕ) → IsFirstBad longest script number → (known : Option (List ℕ))
+        → IfSome known (λ bytes. script ≡ bytes)
         → IfSome known (λ bytes. (length bytes ≤ greatest_length) × IsFirstBad longest bytes number)
     first number bad None same = tt
     first number bad (Some bytes) same = subst (λ s. (length s ≤ greatest_length) × IsFirstBad longest s number) same (short, bad)
@@ -87,7 +97,8 @@ read_fault longest input script (Err fault) short whole h = of fault h
     of Output h = absurd h
 
 -- the faults of a task are those of the program
-task_fault : (words : List Text) (input : Option (List ℕ)) (fault : Fault) → FailsToServe words fault ⊎ FailsToRun words input fault → IsFaultFor words input fault
+task_fault : (words : List Text) (input : Option (List ℕ)) (fault : Fault)
+    → FailsToServe words fault ⊎ FailsToRun words input fault → IsFaultFor words input fault
 task_fault words input (Words error) h = absurd (none h)
   where
     none : FailsToServe words (Words error) ⊎ FailsToRun words input (Words error) → ⊥
@@ -127,7 +138,8 @@ faults_of_task words input P (Ok x) f h = tt
 faults_of_task words input P (Err fault) f h = task_fault words input fault (f fault h)
 
 -- what a fault leaves, by less than all that was to be written
-pub begun_less : (A B : Type 0) (fault : Fault) (old new : Option (List ℕ)) → (A → B) → LeavesBegun A fault old new → LeavesBegun B fault old new
+pub begun_less : (A B : Type 0) (fault : Fault) (old new : Option (List ℕ)) → (A → B)
+    → LeavesBegun A fault old new → LeavesBegun B fault old new
 begun_less A B Output old new f h = f h
 begun_less A B (Words error) old new f h = h
 begun_less A B CannotRead old new f h = h
@@ -153,14 +165,16 @@ left_by_task kept words input old new A (Ok x) f h = tt
 left_by_task kept words input old new A (Err fault) f h = begun_less A _ fault old new (λ a. f a fault) h
 
 -- what a fault of facts leaves is what the program's leaves
-pub left_by_facts : {T : Type 0} (kept : List ℕ → Option (List ℕ)) (words : List Text) (input old new : Option (List ℕ)) (sources : Sources) (r : Result T Fault) → Asks words (PrintFacts sources)
+pub left_by_facts : {T : Type 0} (kept : List ℕ → Option (List ℕ)) (words : List Text) (input old new : Option (List ℕ)) (sources : Sources) (r : Result T Fault)
+    → Asks words (PrintFacts sources)
     → IfErr r (λ fault. LeavesBegun (BeginsFacts sources input fault old new) fault old new) → IfErr r (λ fault. Leaves kept words input fault old new)
 left_by_facts kept words input old new sources (Ok x) asks h = tt
 left_by_facts kept words input old new sources (Err fault) asks h =
     begun_less (BeginsFacts sources input fault old new) _ fault old new (λ begun. inl (inr (inr (inl (sources, asks, begun))))) h
 
 -- what a fault of a check leaves is what the program's leaves
-pub left_by_check : {T : Type 0} (kept : List ℕ → Option (List ℕ)) (words : List Text) (input old new : Option (List ℕ)) (check : CheckValue) (r : Result T Fault) → Asks words (Check check)
+pub left_by_check : {T : Type 0} (kept : List ℕ → Option (List ℕ)) (words : List Text) (input old new : Option (List ℕ)) (check : CheckValue) (r : Result T Fault)
+    → Asks words (Check check)
     → IfErr r (λ fault. LeavesBegun (BeginsCheck check input fault old new) fault old new) → IfErr r (λ fault. Leaves kept words input fault old new)
 left_by_check kept words input old new check (Ok x) asks h = tt
 left_by_check kept words input old new check (Err fault) asks h =
@@ -168,15 +182,17 @@ left_by_check kept words input old new check (Err fault) asks h =
 
 -- ---- what a run without a fault has done
 
-module _ {L : Type 0} (kept : List ℕ → Option (List ℕ)) (holds : L → Option (List ℕ)) (opens : List ℕ → L → Type 0) (words : List Text) (input : Option (List ℕ)) (output : Change) where
+module _ {L : Type 0} (kept : List ℕ → Option (List ℕ)) (holds : L → Option (List ℕ)) (opens : Option ℕ → List ℕ → L → Type 0) (words : List Text) (input : Option (List ℕ)) (output : Change) where
   -- the facts that were printed are the program's lines
-  pub facts_done : {T : Type 0} (faults : Writing) (sources : Sources) (r : Result T Fault) → Asks words (PrintFacts sources)
+  pub facts_done : {T : Type 0} (faults : Writing) (sources : Sources) (r : Result T Fault)
+      → Asks words (PrintFacts sources)
       → OnOk r (PrintsFacts sources input output faults) → OnOk r (IsDone kept holds opens words input output faults)
   facts_done faults sources (Ok x) asks h = inl (inl (sources, asks, h))
   facts_done faults sources (Err fault) asks h = tt
 
   -- the line of a check is the program's
-  pub check_done : {T : Type 0} (faults : Writing) (check : CheckValue) (r : Result T Fault) → Asks words (Check check)
+  pub check_done : {T : Type 0} (faults : Writing) (check : CheckValue) (r : Result T Fault)
+      → Asks words (Check check)
       → OnOk r (ChecksFacts check input output faults) → OnOk r (IsDone kept holds opens words input output faults)
   check_done faults check (Ok x) asks h = inl (inr (check, asks, h))
   check_done faults check (Err fault) asks h = tt
@@ -188,8 +204,9 @@ module _ {L : Type 0} (kept : List ℕ → Option (List ℕ)) (holds : L → Opt
   script_done writer P (Err fault) f h = tt
 
   -- a service that has run is the program's end, whatever faults its connections had
-  pub service_done : {T : Type 0} (faults : Writing) (service : Service) (r : Result T Fault) → Asks words (Serve service)
-      → OnOk r (IsServiceRun kept holds opens service output faults) → OnOk r (IsDone kept holds opens words input output faults)
+  pub service_done : {T : Type 0} (faults : Writing) (service : Service) (r : Result T Fault)
+      → Asks words (Serve service)
+      → OnOk r (IsServiceRun kept holds (opens service.files.log_part) service output faults) → OnOk r (IsDone kept holds opens words input output faults)
   service_done faults service (Ok x) asks h = inr (inl (service, asks, h))
   service_done faults service (Err fault) asks h = tt
 
@@ -220,12 +237,14 @@ abbrev pub Ends : {E T : Type 0} → (E → Writer) → Result T Fault → ℕ �
 Ends view ran status old new = MatchResult ran (λ _. (status ≡ 0) × (new ≡ old)) (λ fault. (status ≡ status_of fault) × ReportsFault fault (view old) (view new))
 
 -- what a run without a fault has done, if nothing is written afterwards
-pub ended_well : {E T : Type 0} (view : E → Writer) (P : E → Type 0) (ran : Result T Fault) (status : ℕ) (mid new : E) → Ends view ran status mid new → OnOk ran (P mid) → status ≡ 0 → P new
+pub ended_well : {E T : Type 0} (view : E → Writer) (P : E → Type 0) (ran : Result T Fault) (status : ℕ) (mid new : E)
+    → Ends view ran status mid new → OnOk ran (P mid) → status ≡ 0 → P new
 ended_well view P (Ok x) status mid new ends h e = subst P (sym ends.1) h
 ended_well view P (Err fault) status mid new ends h e = absurd (no_status fault (sym ends.0 ∙ e))
 
 module _ (kept : List ℕ → Option (List ℕ)) (words : List Text) (input output output_new : Option (List ℕ)) where
-  pub ended_badly : {E T : Type 0} (view : E → Writer) (ran : Result T Fault) (status k : ℕ) (old mid new : E) → Ends view ran status mid new → IfErr ran (IsFaultFor words input)
+  pub ended_badly : {E T : Type 0} (view : E → Writer) (ran : Result T Fault) (status k : ℕ) (old mid new : E)
+      → Ends view ran status mid new → IfErr ran (IsFaultFor words input)
       → IfErr ran (λ fault. Leaves kept words input fault output output_new) → OnErr ran (mid ≡ old) → status ≡ k → 0 < k
       → (fault : Fault) × (status_of fault ≡ k) × IsFaultFor words input fault × Leaves kept words input fault output output_new × ReportsFault fault (view old) (view new)
   ended_badly view (Ok x) status k old mid new ends faults left silent e some = absurd (omega (arith, ends.0, e, some))

@@ -1,5 +1,7 @@
 -- The events of a script's lines, as the lists of lines and of events grow, and its first bad line.
-use Rattle.std.proofs.Common.{◌≡◌, ◌≢◌, ℕ, ◌+◌, ◌<◌, true, cond, List, [], ◌∷◌, ◌++◌, length, get_or, map, take, drop, Option, Bor, refl, sym, ap, subst, ◌∙◌, arith}
+use Rattle.std.proofs.Common.{◌≡◌, ◌≢◌, ℕ, ◌+◌, ◌<◌, true, cond, List, [], ◌∷◌, ◌++◌, length}
+use Rattle.std.proofs.Common.{get_or, map, take, drop, Option, Bor, refl, sym, ap, subst, ◌∙◌}
+use Rattle.std.proofs.Common.{arith}
 use Rattle.std.specs.List.{AllZip, enumerate_from, filter}
 use Rattle.std.proofs.lemmas.Bool.Decides.{nat_tests}
 use Rattle.std.proofs.lemmas.Grind.{common_steps}
@@ -12,13 +14,16 @@ use Rattle.tokend.specs.Script.{lines_of, is_told, AreEvents, IsBadLine, IsFirst
 
 -- ---- one more line
 
-all_zip_pushed : {A B : Type 0} (R : A → B → Type 0) (xs : List A) (ys : List B) (x : A) (y : B) → AllZip R xs ys → R x y → AllZip R (xs ++ x ∷ []) (ys ++ y ∷ [])
+all_zip_pushed : {A B : Type 0} (R : A → B → Type 0) (xs : List A) (ys : List B) (x : A) (y : B)
+    → AllZip R xs ys → R x y → AllZip R (xs ++ x ∷ []) (ys ++ y ∷ [])
 all_zip_pushed R [] [] x y all one = (one, tt)
 all_zip_pushed R [] (z ∷ ys) x y all one = absurd all
 all_zip_pushed R (w ∷ xs) [] x y all one = absurd all
 all_zip_pushed R (w ∷ xs) (z ∷ ys) x y all one = (all.0, all_zip_pushed R xs ys x y all.1 one)
 
-pub told_pushed : (lines : List (List ℕ)) (events : List Event) (line : List ℕ) (event : Event) → AreEvents lines events → is_told line ≡ true → IsEventLine line event → AreEvents (lines ++ line ∷ []) (events ++ event ∷ [])
+pub told_pushed : (lines : List (List ℕ)) (events : List Event) (line : List ℕ) (event : Event)
+    → AreEvents lines events → is_told line ≡ true → IsEventLine line event
+    → AreEvents (lines ++ line ∷ []) (events ++ event ∷ [])
 told_pushed lines events line event all told one =
     let grown : filter is_told (lines ++ line ∷ []) ≡ filter is_told lines ++ line ∷ [] = filter-append is_told lines (line ∷ []) ∙ ap (λ b. filter is_told lines ++ cond b (line ∷ []) []) told in
     subst (λ ls. AllZip IsEventLine ls (events ++ event ∷ [])) (sym grown) (all_zip_pushed IsEventLine (filter is_told lines) events line event all one)
@@ -49,14 +54,17 @@ both_maps : (items : List Item) → map (λ p. p.1) (map numbered items) ≡ lin
 both_maps [] = refl
 both_maps (i ∷ items) = ap (λ t. i.1.now ∷ t) (both_maps items)
 
-pub all_lines : (ls : List (List ℕ)) (items : List Item) → map numbered items ≡ enumerate_from 0 ls → lines_in items ≡ ls
+pub all_lines : (ls : List (List ℕ)) (items : List Item) → map numbered items ≡ enumerate_from 0 ls
+    → lines_in items ≡ ls
 all_lines ls items all = sym (both_maps items) ∙ ap (map (λ (p : ℕ × List ℕ). p.1)) all ∙ unnumbered 0 ls
 
-first_lines : (ls : List (List ℕ)) (items : List Item) (n : ℕ) → map numbered items ≡ take n (enumerate_from 0 ls) → lines_in items ≡ take n ls
+first_lines : (ls : List (List ℕ)) (items : List Item) (n : ℕ)
+    → map numbered items ≡ take n (enumerate_from 0 ls) → lines_in items ≡ take n ls
 first_lines ls items n some =
     sym (both_maps items) ∙ ap (map (λ (p : ℕ × List ℕ). p.1)) some ∙ sym (take-map (λ (p : ℕ × List ℕ). p.1) n (enumerate_from 0 ls)) ∙ ap (take n) (unnumbered 0 ls)
 
-cut_at : (ls : List (List ℕ)) (i : ℕ) (d : List ℕ) → i < length ls → take i ls ++ get_or ls i d ∷ drop (i + 1) ls ≡ ls
+cut_at : (ls : List (List ℕ)) (i : ℕ) (d : List ℕ) → i < length ls
+    → take i ls ++ get_or ls i d ∷ drop (i + 1) ls ≡ ls
 cut_at ls i d lt = grind (arith, common_steps)
 
 -- the line after those that have their events is the first bad one, if it is bad
@@ -85,7 +93,9 @@ first_bad longest script items item events some turn earlier told bad =
 
 -- ---- a turn of the loop
 
-pub grown_told : (items : List Item) (item : Item) (events grown : List Event) (event : Event) → grown ≡ events ++ event ∷ [] → AreEvents (lines_in items) events → is_told item.1.now ≡ true → IsEventLine item.1.now event → AreEvents (lines_in (items ++ item ∷ [])) grown
+pub grown_told : (items : List Item) (item : Item) (events grown : List Event) (event : Event)
+    → grown ≡ events ++ event ∷ [] → AreEvents (lines_in items) events → is_told item.1.now ≡ true
+    → IsEventLine item.1.now event → AreEvents (lines_in (items ++ item ∷ [])) grown
 grown_told items item events grown event pushed all told one =
     subst (λ ls. AreEvents ls grown) (sym (map_push (λ (i : Item). i.1.now) items item))
     (subst (AreEvents (lines_in items ++ item.1.now ∷ [])) (sym pushed) (told_pushed (lines_in items) events item.1.now event all told one))

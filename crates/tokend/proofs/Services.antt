@@ -16,18 +16,24 @@ use Rattle.tk_edge.specs.EdgeFields.{EdgeFields}
 use Rattle.tk_edge.specs.Told.{Change}
 use Rattle.tk_region.specs.RegionFields.{RegionFields}
 use Rattle.tokend.specs.ServiceRun.{HasOpened, HasRun, IsServiceRun, with_region}
-use Rattle.tokend.specs.Serving.{Announces, IsBindFault, IsListenFault, IsStartFault, LeavesAnnouncement, LeavesOpening, LeavesService}
+use Rattle.tokend.specs.Serving.{Announces, IsBindFault, IsListenFault, IsStartFault}
+use Rattle.tokend.specs.Serving.{LeavesAnnouncement, LeavesOpening, LeavesService}
 use Rattle.tokend.specs.Starting.{IsStart, LoadsOld, PrunesOld}
 use Rattle.tokend.specs.Telling.{Writing}
 use Rattle.tokend.proofs.Runs.{begun_less}
 use Rattle.tokend.specs.declared.fault.Fault.{Fault}
-use Rattle.tokend.specs.declared.fault.Fault.TheVariants.{BadLine, BadLogFile, BadSeedFile, CannotListen, CannotOpen, CannotRead, CannotReadFile, Facts, Memory, Output, PruneAhead, ScriptTooLong, SharedFolder, SocketFailed, SocketInUse, Words}
+use Rattle.tokend.specs.declared.fault.Fault.TheVariants.{BadLine, BadLogFile, BadSeedFile}
+use Rattle.tokend.specs.declared.fault.Fault.TheVariants.{CannotListen, CannotOpen, CannotRead}
+use Rattle.tokend.specs.declared.fault.Fault.TheVariants.{CannotReadFile, Facts, Memory, Output}
+use Rattle.tokend.specs.declared.fault.Fault.TheVariants.{PruneAhead, ScriptTooLong, SharedFolder}
+use Rattle.tokend.specs.declared.fault.Fault.TheVariants.{SocketFailed, SocketInUse, Words}
 use Rattle.tokend.specs.Turns.{Course, ServesLogged, ServesWith, keeps_in}
 use Rattle.tokend.specs.declared.address.Addresses.{Addresses}
 use Rattle.tokend.specs.declared.listen.Opening.{Opening}
 use Rattle.tokend.specs.declared.options.Service.{Service}
 
-listen_fault : (service : Service) (fault : Fault) → IsListenFault fault → IsStartFault service fault
+listen_fault : (service : Service) (fault : Fault) → IsListenFault fault
+    → IsStartFault service fault
 listen_fault service CannotListen h = tt
 listen_fault service SharedFolder h = tt
 listen_fault service SocketInUse h = tt
@@ -45,7 +51,8 @@ listen_fault service ScriptTooLong h = absurd h
 listen_fault service (Facts why) h = absurd h
 listen_fault service (BadLine number) h = absurd h
 
-pub listen_faults : {T : Type 0} (service : Service) (r : Result T Fault) → IfErr r IsListenFault → IfErr r (IsStartFault service)
+pub listen_faults : {T : Type 0} (service : Service) (r : Result T Fault) → IfErr r IsListenFault
+    → IfErr r (IsStartFault service)
 listen_faults service (Ok x) h = tt
 listen_faults service (Err fault) h = listen_fault service fault h
 
@@ -68,7 +75,8 @@ bind_fault ScriptTooLong h = absurd h
 bind_fault (Facts why) h = absurd h
 bind_fault (BadLine number) h = absurd h
 
-pub bind_left : (opening : Opening) (at : Addresses) (fault : Fault) (output : Option (List ℕ)) → IsBindFault fault → LeavesAnnouncement opening at fault output output
+pub bind_left : (opening : Opening) (at : Addresses) (fault : Fault) (output : Option (List ℕ))
+    → IsBindFault fault → LeavesAnnouncement opening at fault output output
 bind_left opening at CannotListen output h = Keeps-refl output
 bind_left opening at SharedFolder output h = Keeps-refl output
 bind_left opening at SocketInUse output h = Keeps-refl output
@@ -88,7 +96,8 @@ bind_left opening at (BadLine number) output h = absurd h
 
 module _ {L : Type 0} (kept : List ℕ → Option (List ℕ)) (holds : L → Option (List ℕ)) (opens : List ℕ → L → Type 0) where
   -- connections that were served without a log
-  pub without_log : {A T : Type 0} (name : Option (String A)) (words : ChaCha) (requests : Option ℕ) (keeps : Bool) (repeat : ℕ) (has_inner log_taken : Bool) (s : Course) (r : Result T Fault) → name ≡ None
+  pub without_log : {A T : Type 0} (name : Option (String A)) (words : ChaCha) (requests : Option ℕ) (keeps : Bool) (repeat : ℕ) (has_inner log_taken : Bool) (s : Course) (r : Result T Fault)
+      → name ≡ None
       → OnOk r (ServesWith words requests keeps repeat has_inner log_taken s (record { before = None; after = None })) → OnOk r (ServesLogged holds opens name words requests keeps repeat has_inner log_taken s)
   without_log None words requests keeps repeat has_inner log_taken s (Ok x) none h = h
   without_log (Some name) words requests keeps repeat has_inner log_taken s (Ok x) none h = absurd (cc)

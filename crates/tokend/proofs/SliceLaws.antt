@@ -1,7 +1,8 @@
 -- What a slice of a prune leaves of a store. Key results:
 --   slice_above    what the store knew it knows, or has skipped since
 --   slice_leaves   each slot is as it was, or its fact was skipped
-use Rattle.std.proofs.Common.{◌≡◌, ℕ, true, List, [], ◌∷◌, Option, Some, None, inl, inr, refl, sym, ap, subst, ◌∙◌, arith}
+use Rattle.std.proofs.Common.{◌≡◌, ℕ, true, List, [], ◌∷◌, Option, Some, None, inl, inr, refl, sym}
+use Rattle.std.proofs.Common.{ap, subst, ◌∙◌, arith}
 use Rattle.std.specs.Prelude.{◌⊎◌}
 use Rattle.std.specs.FinMap as map
 use Rattle.tk_handle.specs.declared.dot.Dot.{Dot}
@@ -37,7 +38,7 @@ passing_kept d (bodies.ConsentWithdrawn f) k e = absurd (cc)
 passing_kept d (bodies.CodeIssued f) k e = refl
 passing_kept d (bodies.CodeRedeemed f) k e = refl
 passing_kept d (bodies.RefreshRotated f) k e = refl
-passing_kept d (bodies.TokenRevoked f) k e = absurd (cc)
+passing_kept d (bodies.TokenRevoked f) k e = refl
 passing_kept d (bodies.ReuseSeen f) k e = refl
 passing_kept d (bodies.SubjectOut f) k e = absurd (cc)
 
@@ -50,7 +51,7 @@ passing_named (bodies.ConsentWithdrawn f) q e = absurd (cc)
 passing_named (bodies.CodeIssued f) q e = absurd (cc)
 passing_named (bodies.CodeRedeemed f) q e = refl
 passing_named (bodies.RefreshRotated f) q e = refl
-passing_named (bodies.TokenRevoked f) q e = absurd (cc)
+passing_named (bodies.TokenRevoked f) q e = refl
 passing_named (bodies.ReuseSeen f) q e = refl
 passing_named (bodies.SubjectOut f) q e = absurd (cc)
 
@@ -65,7 +66,8 @@ goes_passing P d (inr named) =
     (named.fact, held_at (map.get P.slots d) named.fact (sym (get_held P.slots d) ∙ named.here), passing_named named.fact named.named named.names)
 
 -- a store is below itself with a fact skipped that may be
-skipped_above : (P : StoreFields) (d : Dot) → IsPassing P d → SlotsBelow P.slots (with_skipped P d).slots
+skipped_above : (P : StoreFields) (d : Dot) → IsPassing P d
+    → SlotsBelow P.slots (with_skipped P d).slots
 skipped_above P d passing q = by_dot (λ o. SlotBelow (map.get P.slots q) o) P.slots d Skipped q
     (λ same. subst (λ o. SlotBelow o (Some Skipped)) (sym (ap (map.get P.slots) same ∙ passing.1)) passing.2)
     (below_itself (map.get P.slots q))
@@ -79,7 +81,8 @@ steps_above P (d ∷ ds) Q h =
       horizon = rest.horizon;
     }
 
-pub slice_above : (P : StoreFields) (moment : ℕ) (after : Option Dot) (count : ℕ) (slice : Slice) (Q : StoreFields) → PrunesSome P moment after count slice Q → StoreBelow P Q
+pub slice_above : (P : StoreFields) (moment : ℕ) (after : Option Dot) (count : ℕ) (slice : Slice) (Q : StoreFields)
+    → PrunesSome P moment after count slice Q → StoreBelow P Q
 slice_above P moment after count slice Q h =
     let up = steps_above (with_horizon P moment) h.went.dots Q h.went.steps in
     record { slots = up.slots; horizon = omega (arith, up.horizon) }
@@ -88,7 +91,8 @@ slice_above P moment after count slice Q h =
 abbrev pub Leaves : Option Slot → Option Slot → Type 0
 Leaves s t = (t ≡ s) ⊎ ((t ≡ Some Skipped) × (s ≡ None → ⊥))
 
-steps_leave : (P : StoreFields) (ds : List Dot) (Q : StoreFields) → Steps P ds Q → (d : Dot) → Leaves (map.get P.slots d) (map.get Q.slots d)
+steps_leave : (P : StoreFields) (ds : List Dot) (Q : StoreFields) → Steps P ds Q → (d : Dot)
+    → Leaves (map.get P.slots d) (map.get Q.slots d)
 steps_leave P [] Q same d = inl (ap (λ (R : StoreFields). map.get R.slots d) same)
 steps_leave P (x ∷ xs) Q h d = of (steps_leave (with_skipped P x) xs Q h.1 d)
   where
@@ -104,10 +108,12 @@ steps_leave P (x ∷ xs) Q h d = of (steps_leave (with_skipped P x) xs Q h.1 d)
     before : (map.get (with_skipped P x).slots d ≡ None → ⊥) → map.get P.slots d ≡ None → ⊥
     before = by_dot (λ o. (o ≡ None → ⊥) → map.get P.slots d ≡ None → ⊥) P.slots x Skipped d (λ same some. known same) (λ some. some)
 
-    of : Leaves (map.get (with_skipped P x).slots d) (map.get Q.slots d) → Leaves (map.get P.slots d) (map.get Q.slots d)
+    of : Leaves (map.get (with_skipped P x).slots d) (map.get Q.slots d)
+        → Leaves (map.get P.slots d) (map.get Q.slots d)
     of (inl same) = subst (Leaves (map.get P.slots d)) (sym same) step
     of (inr gone) = inr (gone.0, before gone.1)
 
-pub slice_leaves : (P : StoreFields) (moment : ℕ) (after : Option Dot) (count : ℕ) (slice : Slice) (Q : StoreFields) → PrunesSome P moment after count slice Q
+pub slice_leaves : (P : StoreFields) (moment : ℕ) (after : Option Dot) (count : ℕ) (slice : Slice) (Q : StoreFields)
+    → PrunesSome P moment after count slice Q
     → (d : Dot) → Leaves (map.get P.slots d) (map.get Q.slots d)
 slice_leaves P moment after count slice Q h = steps_leave (with_horizon P moment) h.went.dots Q h.went.steps

@@ -3,7 +3,8 @@
 --   front_connection     what came over a connection was served as one
 --   connection_answers   a connection that was answered has made the answer to some request
 use Rattle.std.specs.Prelude.{⊤}
-use Rattle.std.proofs.Common.{◌≡◌, ◌≢◌, Bool, true, false, List, ℕ, [], Option, None, Some, Result, Ok, Err, sym, subst, ◌∙◌, refl, append-nil}
+use Rattle.std.proofs.Common.{◌≡◌, ◌≢◌, Bool, true, false, List, ℕ, [], Option, None, Some, Result}
+use Rattle.std.proofs.Common.{Ok, Err, sym, subst, ◌∙◌, refl, append-nil}
 use Rattle.tk_edge.specs.Answers.{answer_at}
 use Rattle.tk_edge.specs.Arrivals.{Answers}
 use Rattle.tk_edge.specs.EdgeFields.{EdgeFields}
@@ -56,7 +57,8 @@ module _ (now : ℕ) (words bytes : List ℕ) (old new : EdgeFields) (still : Ty
   clash : true ≡ false → ⊥
   clash e = absurd (cc)
 
-  connection : (end : Result Served Fault) → (old.sealed ≡ false → IsServedBy (asked_at now words old) bytes true (record { before = old.region; after = new.region }) unlogged still writer new.sealed end)
+  connection : (end : Result Served Fault)
+      → (old.sealed ≡ false → IsServedBy (asked_at now words old) bytes true (record { before = old.region; after = new.region }) unlogged still writer new.sealed end)
       → IsConnection now words bytes old new end
   connection end by = record {
     served = λ unsealed. (writer, served_bytes (asked_at now words old) bytes (record { before = old.region; after = new.region }) still writer new.sealed end (by unsealed));
@@ -64,7 +66,8 @@ module _ (now : ℕ) (words bytes : List ℕ) (old new : EdgeFields) (still : Ty
     terms = terms;
   }
 
-  of : (r : Result (Option (Served × Taken)) Fault) → (old.sealed ≡ false → Fronts r) → IsConnection now words bytes old new (end_of r)
+  of : (r : Result (Option (Served × Taken)) Fault) → (old.sealed ≡ false → Fronts r)
+      → IsConnection now words bytes old new (end_of r)
   of (Ok (Some end)) f = connection (Ok end.0) (λ unsealed. (f unsealed).1)
   of (Ok None) f = record {
     served = λ unsealed. absurd (clash (f unsealed).0.unended);
@@ -82,7 +85,8 @@ module _ (asked : AskedFields) (old new : EdgeFields) (unsealed : old.sealed ≡
   IsMade P = (heard : Arrival) × (heard ≢ Silence) × P (answer_at old.terms old.region asked.now asked.words heard) × Makes old asked heard new
 
   -- what arrives at an edge that exchanges no facts is heard, and its answer was made
-  made : (P : AnswerFields → Type 0) (known : Option (List ℕ)) (came : Arrival) → Arrives (plain Admin) known came → came ≢ Silence → (answer : AnswerFields)
+  made : (P : AnswerFields → Type 0) (known : Option (List ℕ)) (came : Arrival)
+      → Arrives (plain Admin) known came → came ≢ Silence → (answer : AnswerFields)
       → Answers old.terms old.region asked.now asked.words came (Ok answer) new.region → P answer → new.sealed ≡ false → new.terms ≡ old.terms → IsMade P
   made P known came may spoke answer answers holds sealed ahead =
       let by = answers_alone old.terms old.region asked.now asked.words came (Ok answer) new.region may.0 answers in (
@@ -92,7 +96,9 @@ module _ (asked : AskedFields) (old new : EdgeFields) (unsealed : old.sealed ≡
         record { gains = by.1; next = by.2; sealed = sealed ∙ sym unsealed; terms = ahead },
       )
 
-  pub connection_answers : (bytes : List ℕ) (status : StatusCode) → IsConnection asked.now asked.words bytes old new (Ok (Done status)) → IsMade (λ answer. status ≡ answer.status)
+  pub connection_answers : (bytes : List ℕ) (status : StatusCode)
+      → IsConnection asked.now asked.words bytes old new (Ok (Done status))
+      → IsMade (λ answer. status ≡ answer.status)
   connection_answers bytes status h =
       let a = (h.served unsealed).1 in
       made (λ answer. status ≡ answer.status) (Some bytes) a.0 a.1 a.2 a.3.0 a.3.1 a.3.2.0 a.3.2.3 h.terms

@@ -5,12 +5,17 @@
 --   fails_by        clap names its fault in the arguments
 --   refused_by      the reason why clap refused the arguments
 --   asked_by        the matches' task is that of the arguments
-use Rattle.std.proofs.Common.{◌≡◌, ℕ, Bool, true, false, List, [], Option, Some, None, option_map, Result, Ok, Err, inl, inr, refl, sym, ap, subst, ◌∙◌, codes, get_or, arith}
-use Rattle.std.specs.Prelude.{◌&&◌, IsSome, String, find, if◌then◌else◌, is_some, not, option_and_then, slice_get, string_bytes}
+use Rattle.std.proofs.Common.{◌≡◌, ℕ, Bool, true, false, List, [], Option, Some, None, option_map}
+use Rattle.std.proofs.Common.{Result, Ok, Err, inl, inr, refl, sym, ap, subst, ◌∙◌, codes, get_or}
+use Rattle.std.proofs.Common.{arith}
+use Rattle.std.specs.Prelude.{◌&&◌, find, if◌then◌else◌, is_some, not, option_and_then, slice_get}
+use Rattle.std.specs.Prelude.{string_bytes}
 use Rattle.std.specs.Borrow.{Bor}
 use Rattle.std.specs.Str.{bytes_eq}
 use Rattle.std.specs.Prelude.{◌⊎◌, IfErr, IfNone, IfOk, IfSome}
-use Rattle.clap.specs.Words.{App, HasMatchesOf, Row, Text, FailsBy, fault_of, first_of, first_value, is_simple_and_free, kind_of, one_of, rows_of, subcommand_of, subcommand_rows_of}
+use Rattle.clap.specs.Words.{App, HasMatchesOf, Row, Text, FailsBy, fault_of, first_of, first_value}
+use Rattle.clap.specs.Words.{is_simple_and_free, kind_of, one_of, rows_of, subcommand_of}
+use Rattle.clap.specs.Words.{subcommand_rows_of}
 use Rattle.clap.specs.Walk.{row_text}
 use Rattle.clap.specs.Values.{read_as}
 use Rattle.clap.proofs.WalkLemmas.{first_value-rows}
@@ -19,13 +24,14 @@ use Rattle.clap.specs.declared.parser.matches.ArgMatches.{ArgMatches}
 use Rattle.clap.specs.declared.error.Error.{Error}
 use Rattle.clap.specs.declared.error.kind.ErrorKind.TheVariants as kind
 use Rattle.tk_handle.specs.Ranges.{greatest_region}
-use Rattle.tk_region.specs.SettingsFields.{greatest_code, greatest_access, greatest_refresh, greatest_family, greatest_cap}
-use Rattle.tokend.specs.Notices.{issuer_named}
-use Rattle.tokend.specs.CommandLine.{IsNoNotices, HasAddress, HasCheck, HasFlag, HasNumber, HasNumbers, HasService, IsNoAddress, IsNoFiles, IsNoPushes, is_given, refusal_named, tokend_app}
-use Rattle.tokend.specs.Choices.{IsNoChoice}
-use Rattle.tokend.specs.Ranges.{accepted_named, range_named}
-use Rattle.tokend.specs.Rules.{greatest_connections, greatest_port}
-use Rattle.tokend.specs.Task.{Asks, IsFactsTask, IsNoCheck, IsNoService, IsNoTask, IsRefusalOf, IsTask, has_misnamed, is_unplaced, is_unplaced_in, lacks_log, misnames_word, missing_kind}
+use Rattle.tk_region.specs.SettingsFields.{greatest_code, greatest_access, greatest_refresh}
+use Rattle.tk_region.specs.SettingsFields.{greatest_family, greatest_cap}
+use Rattle.tokend.specs.CommandLine.{HasAddress, HasCheck, HasFlag, HasNumber, HasNumbers}
+use Rattle.tokend.specs.CommandLine.{HasService, IsNoAddress, is_given, tokend_app}
+use Rattle.tokend.specs.Rules.{greatest_port}
+use Rattle.tokend.specs.Task.{Asks, IsFactsTask, IsNoCheck, IsNoService, IsNoTask, IsRefusalOf}
+use Rattle.tokend.specs.Task.{IsTask, has_misnamed, is_unplaced, is_unplaced_in, lacks_log}
+use Rattle.tokend.specs.Task.{misnames_word, missing_kind, wants_log}
 use Rattle.tokend.specs.declared.address.Address.{Address}
 use Rattle.tokend.specs.declared.address.Address.TheVariants.{Port, Socket}
 use Rattle.tokend.specs.declared.options.Numbers.{Numbers}
@@ -303,79 +309,12 @@ module _ (f : Found) (address : Address) (port : Option (Bor Text)) (result : Op
       subst (λ r. IfNone r (IsNoAddress (rows_of f))) (sym is) (two_addresses (rows_of f) text socket (sym (text_found f (codes "port") port found) ∙ sym has))
   socket_unread false text has socket is = subst (λ r. IfNone r (IsNoAddress (rows_of f))) (sym is) tt
 
-pub without_address : (rows : List Row) → IsNoAddress rows → IsNoService rows
-without_address rows none service h = none service.at.outer h.at.outer
-
-pub without_connections : (rows : List Row) → ((n : ℕ) → ¬ (HasNumber rows (codes "connections") 1 greatest_connections n)) → IsNoService rows
-without_connections rows none service h = none service.connections h.connections
-
-pub without_files : (rows : List Row) → IsNoFiles rows → IsNoService rows
-without_files rows none service h = none service.files h.files
-
-pub without_seed : (rows : List Row) → first_of (codes "seed") rows ≡ None → IsNoFiles rows
-without_seed rows none files h =
-    let both : None ≡ Some (string_bytes files.seed) = sym none ∙ h.seed in
-    absurd (cc)
-
-pub without_pushes : (rows : List Row) → IsNoPushes rows → IsNoService rows
-without_pushes rows none service h = none service.pushes h.pushes
-
-pub without_refusal : (rows : List Row) → None ≡ refusal_named (first_of (codes "ahead") rows) → IsNoPushes rows
-without_refusal rows none pushes h =
-    let both : None ≡ Some pushes.refuses_ahead = none ∙ h.ahead in
-    absurd (cc)
-
-pub without_range : (rows : List Row) → None ≡ range_named (first_of (codes "region") rows) (first_of (codes "range") rows) → IsNoPushes rows
-without_range rows none pushes h =
-    let both : None ≡ Some pushes.range = none ∙ h.range in
-    absurd (cc)
-
-pub without_accepted : (rows : List Row) → None ≡ accepted_named (first_of (codes "accept") rows) → IsNoPushes rows
-without_accepted rows none pushes h =
-    let both : None ≡ Some pushes.accepted.items = none ∙ h.accepted in
-    absurd (cc)
-
-pub without_notices : (rows : List Row) → IsNoNotices rows → IsNoService rows
-without_notices rows none service h = none service.notices h.notices
-
-pub without_issuer : (rows : List Row) → None ≡ issuer_named (first_of (codes "issuer") rows) → IsNoNotices rows
-without_issuer rows none notices h =
-    let both : None ≡ Some notices.issuer = none ∙ h.issuer in
-    absurd (cc)
-
-pub without_choices : (rows : List Row) → IsNoChoice rows → IsNoService rows
-without_choices rows (inl none) service h =
-    let both : None ≡ Some service.choices.unseen = sym none ∙ h.choices.unseen in
-    absurd (cc)
-without_choices rows (inr (inl none)) service h =
-    let both : None ≡ Some service.choices.consent = sym none ∙ h.choices.consent in
-    absurd (cc)
-without_choices rows (inr (inr (inl none))) service h =
-    let both : None ≡ Some service.choices.redirects = sym none ∙ h.choices.redirects in
-    absurd (cc)
-without_choices rows (inr (inr (inr (inl none)))) service h =
-    let both : None ≡ Some service.choices.refresh_seen = sym none ∙ h.choices.refresh_seen in
-    absurd (cc)
-without_choices rows (inr (inr (inr (inr none)))) service h =
-    let both : None ≡ Some service.choices.challenge = sym none ∙ h.choices.challenge in
-    absurd (cc)
-
--- bundles taken in are to be logged without a log
-pub without_log : (rows : List Row) (flag : Bool) (log : Option (List ℕ)) → HasFlag rows (codes "log-taken") flag → flag ≡ true
-    → first_of (codes "log") rows ≡ log → log ≡ None → IsNoFiles rows
-without_log rows flag log given is text none files h = no_log files.log (h.logged (h.log_taken ∙ sym given ∙ is)) (sym (text ∙ none) ∙ h.log)
-  where
-    no_log : {A : Type 0} (l : Option (String A)) → IsSome l → None ≡ option_map string_bytes l → ⊥
-    no_log None some e = cc
-    no_log (Some file) some e = cc
-
--- the subcommand has the flag, and its log is the one found
 pub lacks_given : (found : Option (Text × List Row)) (rows : List Row) (none : Bool) → option_map (λ p. p.1) found ≡ Some rows
-    → true ≡ is_given (first_of (codes "log-taken") rows) → none ≡ not (is_some (first_of (codes "log") rows)) → none ≡ lacks_log found
+    → true ≡ wants_log rows → none ≡ not (is_some (first_of (codes "log") rows)) → none ≡ lacks_log found
 lacks_given None rows none at given is = absurd (cc)
 lacks_given (Some (name, others)) rows none at given is =
     is ∙ ap (λ b. b && not (is_some (first_of (codes "log") rows))) given
-    ∙ ap (λ r. is_given (first_of (codes "log-taken") r) && not (is_some (first_of (codes "log") r))) (one_rows (Some (name, others)) rows others name at refl)
+    ∙ ap (λ r. wants_log r && not (is_some (first_of (codes "log") r))) (one_rows (Some (name, others)) rows others name at refl)
 
 -- whether a text was found, by the rows
 pub text_missing : (f : Found) (id : Text) (text : Option (Bor Text)) → option_map (λ s. s.now) text ≡ first_value f id → not (is_some text) ≡ not (is_some (first_of id (rows_of f)))

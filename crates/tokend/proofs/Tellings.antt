@@ -2,7 +2,9 @@
 --   say_writes    what pieces that were written, or not, come to
 --   pieces_then   the first piece was written, then the rest
 --   after_none    nothing was written, then some bytes
-use Rattle.std.proofs.Common.{◌≡◌, ◌<◌, ◌≤◌, ◌-◌, ℕ, suc, Bool, true, false, List, [], ◌∷◌, ◌++◌, length, take, drop, get_or, Option, None, Some, Bor, Result, Ok, Err, inl, inr, refl, sym, ap, subst, ◌∙◌, arith}
+use Rattle.std.proofs.Common.{◌≡◌, ◌<◌, ◌≤◌, ◌-◌, ℕ, suc, Bool, true, false, List, [], ◌∷◌, ◌++◌}
+use Rattle.std.proofs.Common.{length, take, drop, get_or, Option, None, Some, Bor, Result, Ok, Err}
+use Rattle.std.proofs.Common.{inl, inr, refl, sym, ap, subst, ◌∙◌, arith}
 use Rattle.std.specs.Prelude.{nat_lt}
 use Rattle.std.proofs.lemmas.Bool.Decides.{nat_tests}
 use Rattle.std.specs.Io.KnownBytes.{Appends, Keeps}
@@ -39,7 +41,8 @@ one_less : (n : ℕ) → suc n - 1 ≡ n
 one_less n = omega arith
 
 -- the first piece was written, then the rest
-pub pieces_then : {A E : Type 0} (r : Result A E) (old mid new : Option (List ℕ)) (pieces : List (Bor (List ℕ))) (other : Bor (List ℕ)) → 1 ≤ length pieces
+pub pieces_then : {A E : Type 0} (r : Result A E) (old mid new : Option (List ℕ)) (pieces : List (Bor (List ℕ))) (other : Bor (List ℕ))
+    → 1 ≤ length pieces
     → Appends old mid (get_or pieces 0 other).now → Prints r mid new (joined_text (take (length pieces - 1) (drop 1 pieces))) → Prints r old new (joined_text pieces)
 pieces_then r old mid new [] other some done prints = absurd (omega (arith, some))
 pieces_then r old mid new (piece ∷ pieces) other some done prints =
@@ -47,7 +50,8 @@ pieces_then r old mid new (piece ∷ pieces) other some done prints =
     (subst (λ ps. Prints r mid new (joined_text ps)) (ap (λ n. take n pieces) (one_less (length pieces)) ∙ take_all pieces) prints)
 
 -- nothing was written, then some bytes
-pub after_none : (old mid new : Option (List ℕ)) (bytes : List ℕ) → Keeps old mid → Appends mid new bytes → Appends old new bytes
+pub after_none : (old mid new : Option (List ℕ)) (bytes : List ℕ) → Keeps old mid
+    → Appends mid new bytes → Appends old new bytes
 after_none None mid new bytes kept done = tt
 after_none (Some x) None new bytes kept done = absurd kept
 after_none (Some x) (Some y) None bytes kept done = absurd done

@@ -1,5 +1,6 @@
 -- A number that a typed getter read, or didn't read. Key result: none_between.
-use Rattle.std.proofs.Common.{◌≡◌, ◌<◌, ◌^◌, ℕ, List, Option, Some, None, Result, Ok, Err, refl, sym, ◌∙◌, arith}
+use Rattle.std.proofs.Common.{◌≡◌, ◌<◌, ◌^◌, ℕ, List, Option, Some, None, Result, Ok, Err, refl}
+use Rattle.std.proofs.Common.{sym, ◌∙◌, arith}
 use Rattle.std.specs.Prelude.{IfSome, IfNone}
 use Rattle.clap.specs.Words.{Row, one_text, rows_of}
 use Rattle.clap.specs.Matches.{ReadsOne}
@@ -21,7 +22,8 @@ number_read gives f id r digits none value =
     absent None e = tt
     absent (Some n) e = absurd (cc)
 
-    present : (r : Option ℕ) (t : List ℕ) → one_text f id ≡ Some t → ReadsOne gives t r → IfSome r (ReadsNumber (rows_of f) id)
+    present : (r : Option ℕ) (t : List ℕ) → one_text f id ≡ Some t → ReadsOne gives t r
+        → IfSome r (ReadsNumber (rows_of f) id)
     present None t e h = tt
     present (Some n) t e h = (t, sym (one_text-rows f id) ∙ e, digits t n h)
 
@@ -35,7 +37,8 @@ number_unread gives f id None digits value = λ n lt h.
     digits h.0 failed.0 n failed.1 lt h.2
 
 -- no number between the ends is under the id, if no number is
-pub none_between : (rows : List Row) (id : List ℕ) (least greatest : ℕ) (r : Option ℕ) → greatest < 2 ^ 64
+pub none_between : (rows : List Row) (id : List ℕ) (least greatest : ℕ) (r : Option ℕ)
+    → greatest < 2 ^ 64
     → ((n : ℕ) → n < 2 ^ 64 → ¬ (ReadsNumber rows id n)) → IfNone r ((n : ℕ) → ¬ (HasNumber rows id least greatest n))
 none_between rows id least greatest (Some x) fits none = tt
 none_between rows id least greatest None fits none = λ n h. none n (omega (h.2, fits, arith)) h.0

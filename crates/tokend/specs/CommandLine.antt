@@ -70,10 +70,12 @@ use Rattle.tokend.specs.Rules.{
   greatest_connections,
   greatest_keep,
   greatest_margin,
+  greatest_part,
   greatest_port,
   greatest_repeat,
   greatest_requests,
   least_margin,
+  least_part,
   names_rule,
   service_rules,
   setting_rules,
@@ -199,18 +201,19 @@ pub record HasPushes (rows : List Row) (p : PushOptions) : Type 0 where
 abbrev pub IsNoPushes : List Row → Type 0
 IsNoPushes rows = (pushes : PushOptions) → ¬ (HasPushes rows pushes)
 
--- the rows have these options of what a service says of itself: the issuer, and whether health is
--- given
+-- the rows have these options of what a service says of itself: the issuer, and whether health and
+-- metrics are given
 pub record HasNotices (rows : List Row) (n : NoticeOptions) : Type 0 where
   pub issuer : issuer_named (first_of (codes "issuer") rows) ≡ Some n.issuer
   pub health : HasFlag rows (codes "health") n.health
+  pub metrics : HasFlag rows (codes "metrics") n.metrics
 
 -- the value of `--issuer` is no issuer
 abbrev pub IsNoNotices : List Row → Type 0
 IsNoNotices rows = (notices : NoticeOptions) → ¬ (HasNotices rows notices)
 
--- the rows have these files of a service: the seed, the log, whether it gets bundles taken in, for
--- which there is a log, the old log, and the moment of its prune
+-- the rows have these files of a service: the seed, the log, whether it gets bundles taken in and
+-- the bytes of its parts, for which there is a log, the old log, and the moment of its prune
 pub record HasFiles (rows : List Row) (f : FileOptions) : Type 0 where
   pub seed : HasText rows (codes "seed") (Some f.seed)
   pub log : HasText rows (codes "log") f.log
@@ -220,8 +223,12 @@ pub record HasFiles (rows : List Row) (f : FileOptions) : Type 0 where
       → ¬ (HasNumber rows (codes "prune") 0 greatest_moment n))
   pub log_taken : HasFlag rows (codes "log-taken") f.log_taken
   pub logged : f.log_taken ≡ true → IsSome f.log
+  pub log_part : IfSome f.log_part (HasNumber rows (codes "log-part") least_part greatest_part)
+  pub unparted : IfNone f.log_part ((n : ℕ)
+      → ¬ (HasNumber rows (codes "log-part") least_part greatest_part n))
+  pub parted : IsSome f.log_part → IsSome f.log
 
--- the seed is missing, or the log for bundles taken in
+-- the seed is missing, or the log for bundles taken in or for parts
 abbrev pub IsNoFiles : List Row → Type 0
 IsNoFiles rows = (files : FileOptions) → ¬ (HasFiles rows files)
 

@@ -5,6 +5,7 @@
 --   FrontDecides   what serving the front of bytes decides
 --   paths_by       which paths the requests of a socket reach
 --   reach_by       the same, with the notices that the terms of an edge give
+--   tally_with     what a server has counted, with one more request
 --   Repeats        a server gives the reply to a refresh again
 --   Decides        what a server decides of the bytes of a connection
 --   Seals          a server whose log has failed is sealed
@@ -34,9 +35,11 @@ use Rattle.tk_region.specs.RegionFields.{place_in}
 use Rattle.tk_turn.specs.Outcomes.{goes_on}
 use Rattle.tk_turn.specs.declared.service.Outcome.{Outcome}
 use Rattle.tk_turn.specs.declared.service.Outcome.TheVariants.{More, Decided, Ended}
+use Rattle.tokend.specs.Counting.{with_end}
 use Rattle.tokend.specs.Draw.{six, past_six}
 use Rattle.tokend.specs.Repeats.{IsRefresh, IsRepeated, Repetition, RepeatsFields, granted_at}
 use Rattle.tokend.specs.Repeats.{is_repeat, kept_with}
+use Rattle.tokend.specs.declared.metrics.Tally.{Tally}
 use Rattle.tokend.specs.declared.repeats.Refreshed.{Refreshed}
 use Rattle.tokend.specs.declared.repeating.Refresh.{Refresh}
 use Rattle.tokend.specs.declared.server.Server.{Server}
@@ -210,8 +213,19 @@ abbrev pub kept_by : Option Refreshed → RepeatsFields → RepeatsFields
 kept_by None repeats = repeats
 kept_by (Some it) repeats = kept_with it repeats
 
+-- which paths the requests of a socket reach: those of clients alone over an outer socket beside an
+-- inner one, otherwise all
+abbrev pub paths_by : Bool → Bool → PathSet
+paths_by has_inner is_inner = if has_inner && not is_inner then Clients else All
+
+-- what a server has counted, with one more request that ended so
+abbrev pub tally_with : Server → Result Served Fault → Tally
+tally_with old end = record old.tally {
+  counts = with_end end (paths_by old.has_inner old.is_inner) old.tally.counts;
+}
+
 -- a server after a request with this end, and this refresh that is kept of it: this many
--- connections are left, and the next request has the next words
+-- connections are left, the request is counted, and the next one has the next words
 abbrev pub moved_on : Server → Result Served Fault → EdgeFields → Option Refreshed → ℕ → Server
 moved_on old end edge granted left = record old {
   edge = edge;
@@ -219,12 +233,8 @@ moved_on old end edge granted left = record old {
   left = left;
   fault = fault_of end;
   repeats = kept_by granted old.repeats;
+  tally = tally_with old end;
 }
-
--- which paths the requests of a socket reach: those of clients alone over an outer socket beside an
--- inner one, otherwise all
-abbrev pub paths_by : Bool → Bool → PathSet
-paths_by has_inner is_inner = if has_inner && not is_inner then Clients else All
 
 -- what the requests of a socket reach, with the notices that the terms give
 abbrev pub reach_by : TermsFields → Bool → Bool → Reach

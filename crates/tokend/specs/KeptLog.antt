@@ -31,7 +31,7 @@ use Rattle.tk_edge.specs.Told.{Change}
 use Rattle.tokend.specs.ServiceRun.{IsServiceRun}
 use Rattle.tokend.specs.Starting.{PrunesOld, edge_of}
 use Rattle.tokend.specs.Telling.{Writer, Writing}
-use Rattle.tokend.specs.Turns.{AreTurns, Endings, all_ends}
+use Rattle.tokend.specs.Turns.{AreTurns, Endings, KeepTerms, all_ends}
 use Rattle.tokend.specs.declared.load.LoadFault.{LoadFault}
 use Rattle.tokend.specs.declared.load.LoadFault.TheVariants as load
 use Rattle.tokend.specs.declared.options.Service.{Service}
@@ -65,7 +65,8 @@ AreAmong (b ∷ more) all = IsIn b all × AreAmong more all
 
 -- A region without facts took in the bundles of an old log, was pruned if that was requested, and
 -- has served connections over an edge whose log gets the bundles taken in. The edge isn't sealed,
--- and the log, which was empty, has these bytes. The region may have been pruned between turns.
+-- and the log, which was empty, has these bytes. The region may have been pruned between turns, and
+-- the text of the metrics made anew.
 pub record HasLogged (olds : List BundleFields) (region : RegionFields) (log : List ℕ) : Type 0
   where
     pub first : RegionFields
@@ -78,6 +79,8 @@ pub record HasLogged (olds : List BundleFields) (region : RegionFields) (log : L
     pub start : RegionFields
     pub pruned : PrunesOld moment full (Ok count) start
     pub terms : TermsFields
+    pub shown : TermsFields
+    pub same : KeepTerms terms shown
     pub words : ChaCha
     pub faults : Writer
     pub turns : List Endings
@@ -92,7 +95,7 @@ pub record HasLogged (olds : List BundleFields) (region : RegionFields) (log : L
         })
         turns
         (record {
-          edge = edge_of terms region;
+          edge = edge_of shown region;
           log = Some log;
           faults = told;
           prunes = prunes;

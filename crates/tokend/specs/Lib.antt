@@ -16,11 +16,16 @@
 --   Serving       Announces, the lines before a service's first connection; IsServiceFault, what
 --                 may prevent it
 --   Repeats       is_repeat, a refresh that is repeated
+--   Counting      with_end, what a server counts of a request
 --   Decisions     Decides, what a server decides of the bytes that have come
 --   Repeating     IsAsked, what a request asks if refreshes may be repeated
 --   Pruning       IsPruned, what a server prunes behind a turn
+--   Exposition    exposition, the text of the metrics
 --   Turns         AreTurns, what turns do to an edge, its log and the lines about faults
+--   Showing       shown_by, a server that makes that text anew
 --   Connection    IsConnection, what a connection of `loopback` does to an edge and its log
+--   LogParts      part_name, the name of a log's part; joined, the bytes of parts
+--   Parted        GoesOn, how a log goes on in its next part; BeginsAs, how it begins
 --   ServiceRun    IsServiceRun, what a service that ended well has done
 --   Growing       Grows, what serving leaves of a region
 --   KeptLog       LogKeepsAll, a log of bundles has all that its region holds
@@ -46,11 +51,16 @@ pub mod Loading
 pub mod Starting
 pub mod Serving
 pub mod Repeats
+pub mod Counting
 pub mod Decisions
 pub mod Repeating
 pub mod Pruning
+pub mod Exposition
 pub mod Turns
+pub mod Showing
 pub mod Connection
+pub mod LogParts
+pub mod Parted
 pub mod ServiceRun
 pub mod Growing
 pub mod KeptLog

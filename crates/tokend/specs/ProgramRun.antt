@@ -83,12 +83,12 @@ BeginsLines words input fault old new =
 
 -- The arguments request a service, and it has run: it was announced, and its connections were
 -- served. `kept` has the bytes of the file of a name, if they are known, `holds` those of a log,
--- and `opens` says which log a name opens.
+-- and `opens` says which log a name opens, in parts of so many bytes or in one file.
 abbrev pub ServesAsked : {L : Type 0} → (List ℕ → Option (List ℕ)) → (L → Option (List ℕ))
-    → (List ℕ → L → Type 0) → List Text → Change → Writing → Type 0
+    → (Option ℕ → List ℕ → L → Type 0) → List Text → Change → Writing → Type 0
 ServesAsked kept holds opens words output faults =
     (service : Service) × Asks words (Serve service)
-    × IsServiceRun kept holds opens service output faults
+    × IsServiceRun kept holds (opens service.files.log_part) service output faults
 
 -- the arguments request a service, and a beginning of its announcement was written
 abbrev pub BeginsToServe : (List ℕ → Option (List ℕ)) → List Text → Option (List ℕ)
@@ -116,7 +116,7 @@ FailsToRun words input fault =
 -- script were written, or the arguments request help or the version: then nothing is written of
 -- faults.
 abbrev pub IsDone : {L : Type 0} → (List ℕ → Option (List ℕ)) → (L → Option (List ℕ))
-    → (List ℕ → L → Type 0) → List Text → Option (List ℕ) → Change → Writing → Type 0
+    → (Option ℕ → List ℕ → L → Type 0) → List Text → Option (List ℕ) → Change → Writing → Type 0
 IsDone kept holds opens words input output faults =
     TellsFacts words input output faults
     ⊎ (ServesAsked kept holds opens words output faults

@@ -14,6 +14,7 @@ use Rattle.tk_handle.specs.declared.dot.Dot.{Dot}
 use Rattle.tk_ledger.specs.Slices.{PrunesSome}
 use Rattle.tk_ledger.specs.declared.slices.Slice.{Slice}
 use Rattle.tk_region.specs.RegionFields.{RegionFields}
+use Rattle.tokend.specs.Counting.{sum_of}
 use Rattle.tokend.specs.declared.pruning.Pruning.{Pruning}
 use Rattle.tokend.specs.declared.server.Server.{Server}
 
@@ -90,13 +91,15 @@ pub record SlicesRegion
     pub settings : new.settings ≡ old.settings
     pub facts : PrunesSome old.facts moment after slice_size slice new.facts
 
--- a server has pruned the next slice of a pass up to a moment, and nothing else changed
+-- a server has pruned the next slice of a pass up to a moment and counted the facts that went, and
+-- nothing else changed
 pub record Slices (old : Server) (pass : Pruning) (moment millis : ℕ) (new : Server) : Type 0 where
   pub slice : Slice
   pub region : SlicesRegion old.edge.region moment pass.after slice new.edge.region
   pub others : new ≡ record old {
     edge = record old.edge { region = new.edge.region };
     pruning = gone_on pass slice.at millis;
+    tally = record old.tally { pruned = sum_of old.tally.pruned slice.gone };
   }
 
 -- a server has pruned the next slice of the pass, if it is under way

@@ -93,6 +93,10 @@ above own None = None
 above own (Some range) =
     if nat_lt own range.last then Some (record { first = own + 1; last = range.last }) else None
 
+-- the text of the metrics before it is made for the first time, if the service shows metrics
+abbrev pub first_text : Bool → Option (List ℕ)
+first_text shows = if shows then Some [] else None
+
 -- the terms of the service: facts under the numbers of its site above its own aren't accepted
 abbrev pub terms_of : Service → TermsFields
 terms_of service =
@@ -102,5 +106,5 @@ terms_of service =
       barred = above service.region service.pushes.range;
       issuer = service.notices.issuer;
       health = service.notices.health;
-      metrics = None;
+      metrics = first_text service.notices.metrics;
     }

@@ -54,6 +54,14 @@ least_margin = 86400
 abbrev pub greatest_margin : ℕ
 greatest_margin = 999999999
 
+-- the least number of bytes of a log's part
+abbrev pub least_part : ℕ
+least_part = 65536
+
+-- the greatest such number
+abbrev pub greatest_part : ℕ
+greatest_part = 1099511627776
+
 -- the option `--id N`, with a number from 1 to the greatest and a default
 abbrev pub number_rule : Text → Text → ℕ → Rule
 number_rule id default greatest =
@@ -125,12 +133,13 @@ place_rules =
     ∷ []
 
 -- the options of a service's files: the seed, which is required, the log, whether it gets bundles
--- taken in, the old log, and the moment of a prune
+-- taken in, the bytes of its parts, the old log, and the moment of a prune
 abbrev pub file_rules : List Rule
 file_rules =
     file_rule (codes "seed") true
     ∷ file_rule (codes "log") false
     ∷ flag_rule (codes "log-taken")
+    ∷ range_rule (codes "log-part") least_part greatest_part false
     ∷ file_rule (codes "load") false
     ∷ range_rule (codes "prune") 0 greatest_moment false
     ∷ []
@@ -162,9 +171,14 @@ limit_rules =
     ∷ range_rule (codes "prune-margin") least_margin greatest_margin false
     ∷ []
 
--- the options of what a service says of itself: the issuer, and whether health is given
+-- the options of what a service says of itself: the issuer, and whether health and metrics are
+-- given
 abbrev pub notice_rules : List Rule
-notice_rules = file_rule (codes "issuer") false ∷ flag_rule (codes "health") ∷ []
+notice_rules =
+    file_rule (codes "issuer") false
+    ∷ flag_rule (codes "health")
+    ∷ flag_rule (codes "metrics")
+    ∷ []
 
 -- the options of a service
 abbrev pub service_rules : List Rule

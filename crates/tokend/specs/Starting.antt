@@ -12,8 +12,6 @@ use Rattle.std.specs.Prelude.{
   ◌⊎◌,
   ⊤,
   ℕ,
-  Bool,
-  true,
   false,
   List,
   [],

@@ -6,7 +6,7 @@
 --   IsNoService     the values are no service's
 --   IsFactsTask     the values of `facts` are those of this task
 --   IsNoCheck       a check is requested, and the values are no check's
---   lacks_log       bundles taken in are to be logged without a log
+--   lacks_log       bundles taken in are to be logged, or parts are wanted, without a log
 --   is_unplaced     not exactly one of a port and a socket is given
 --   misnames_word   an option has none of its words
 --   missing_kind    the kind of the fault of arguments that name no task
@@ -96,12 +96,16 @@ IsTask found (Check check) =
 abbrev pub IsNoTask : Option (Text × List Row) → Type 0
 IsNoTask found = (task : Task) → ¬ (IsTask found task)
 
--- the subcommand has `--log-taken` without `--log`
+-- `--log-taken` or `--log-part` is among the rows
+abbrev pub wants_log : List Row → Bool
+wants_log rows =
+    is_given (first_of (codes "log-taken") rows) || is_some (first_of (codes "log-part") rows)
+
+-- the subcommand has `--log-taken` or `--log-part` without `--log`
 abbrev pub lacks_log : Option (Text × List Row) → Bool
 lacks_log None = false
 lacks_log (Some found) =
-    is_given (first_of (codes "log-taken") found.1)
-    && not (is_some (first_of (codes "log") found.1))
+    wants_log found.1 && not (is_some (first_of (codes "log") found.1))
 
 -- not exactly one of `--port` and `--socket` is among the rows
 abbrev pub is_unplaced_in : List Row → Bool

@@ -1,9 +1,11 @@
 -- What the turns of a service do to its edge, its log and the lines about faults (own).
 --   past_each      the generator after the words of requests
+--   all_counted    what a server has counted, with requests that ended so
 --   AreDecisions   requests are decided, one after the other
 --   AreReported    the lines about their faults
 --   IsTurn         the requests of a turn are decided, and their records are written at once
 --   IsPause        what may happen between two turns
+--   KeepTerms      what turns leave of the terms of an edge
 --   AreTurns       turns, one after the other
 --   connections_in   how many connections ended
 --   ReachEach      each request reached no more than its socket lets it
@@ -47,12 +49,14 @@ use Rattle.tk_handle.specs.declared.dot.Dot.{Dot}
 use Rattle.tk_ledger.specs.declared.slices.Slice.{Slice}
 use Rattle.tk_put.specs.Put.{AppendsFront}
 use Rattle.tk_edge.specs.EdgeFields.{EdgeFields}
+use Rattle.tk_edge.specs.Terms.{TermsFields}
 use Rattle.tk_edge.specs.Told.{Change}
 use Rattle.tk_edge.specs.declared.edge.Served.{Served}
 use Rattle.tk_edge.specs.declared.reach.PathSet.{PathSet}
 use Rattle.tk_edge.specs.declared.reach.PathSet.TheVariants.{Admin, All, Clients}
 use Rattle.tk_edge.specs.declared.tell.Fault.{Fault}
 use Rattle.tk_edge.specs.declared.tell.Fault.TheVariants.{Log, Write}
+use Rattle.tokend.specs.Counting.{with_end}
 use Rattle.tokend.specs.Decisions.{Ending, IsDecision, ended_if}
 use Rattle.tokend.specs.Draw.{six, past_six}
 use Rattle.tokend.specs.Pruning.{SlicesRegion}
@@ -60,6 +64,7 @@ use Rattle.tokend.specs.Repeats.{IsIn, MayRepeat, RepeatsFields, with_granted}
 use Rattle.tokend.specs.Serving.{connection_fault}
 use Rattle.tokend.specs.Starting.{IsEmptyLog}
 use Rattle.tokend.specs.Telling.{Writer, Writes, Writing}
+use Rattle.tokend.specs.declared.metrics.Counts.{Counts}
 use Rattle.tokend.specs.declared.repeats.Refreshed.{Refreshed}
 use Rattle.tokend.specs.declared.server.Server.{Server}
 
@@ -117,6 +122,11 @@ pub record AreRepeated (old : RepeatsFields) (endings : Endings) (new : RepeatsF
 abbrev pub past_each : ChaCha → Endings → ChaCha
 past_each words [] = words
 past_each words (end ∷ ends) = past_each (past_six words) ends
+
+-- the counts with these requests
+abbrev pub all_counted : Endings → Counts → Counts
+all_counted [] counts = counts
+all_counted (end ∷ ends) counts = all_counted ends (with_end end.end end.reach.paths counts)
 
 -- requests are decided, one after the other, each with the next six random words; their records are
 -- one behind the other
@@ -196,9 +206,25 @@ pub record LosesSlice (old new : Running) : Type 0 where
   pub region : SlicesRegion old.edge.region moment after slice new.edge.region
   pub others : new ≡ record old { edge = record old.edge { region = new.edge.region } }
 
--- between two turns: nothing happened, or a reply was lost, or a slice of the region was pruned
+-- the edge with this text of its metrics
+abbrev pub with_text : EdgeFields → List ℕ → EdgeFields
+with_text edge text = record edge { terms = record edge.terms { metrics = Some text } }
+
+-- The text of the metrics was made anew, and nothing else changed. The edge had such a text.
+pub record ShowsAnew (old new : Running) : Type 0 where
+  pub has : is_some old.edge.terms.metrics ≡ true
+  pub text : List ℕ
+  pub others : new ≡ record old { edge = with_text old.edge text }
+
+-- between two turns: nothing happened, or a reply was lost, or a slice of the region was pruned, or
+-- the text of the metrics was made anew
 abbrev pub IsPause : Running → Running → Type 0
-IsPause old new = (new ≡ old) ⊎ LacksReply old new ⊎ LosesSlice old new
+IsPause old new = (new ≡ old) ⊎ LacksReply old new ⊎ LosesSlice old new ⊎ ShowsAnew old new
+
+-- The terms are unchanged but for the text of the metrics. There is one exactly if there was one.
+pub record KeepTerms (old new : TermsFields) : Type 0 where
+  pub has : is_some new.metrics ≡ is_some old.metrics
+  pub others : new ≡ record old { metrics = new.metrics }
 
 -- turns, one after the other, with a pause behind each
 abbrev pub AreTurns : ChaCha → Bool → Running → List Endings → Running → Type 0
@@ -276,8 +302,8 @@ running site = record {
   prunes = is_some site.server.pruning.margin;
 }
 
--- A server takes turns: each request has the next random words, and each connection that ended is
--- one less to be served.
+-- A server takes turns: each request has the next random words and is counted, and each connection
+-- that ended is one less to be served.
 pub record Goes (old new : Site) : Type 0 where
   pub turns : List Endings
   pub served : AreTurns old.server.words old.server.log_taken (running old) turns (running new)
@@ -289,5 +315,6 @@ pub record Goes (old new : Site) : Type 0 where
   pub reaches : ReachEach old.server.has_inner (all_ends turns)
   pub has_inner : new.server.has_inner ≡ old.server.has_inner
   pub margin : new.server.pruning.margin ≡ old.server.pruning.margin
+  pub counts : new.server.tally.counts ≡ all_counted (all_ends turns) old.server.tally.counts
   pub log_taken : new.server.log_taken ≡ old.server.log_taken
   pub fault : new.server.fault ≡ old.server.fault

@@ -172,9 +172,10 @@ fn serve_command<'a>(alloc: Global) -> Result<Command<'a>, AllocError>
 
 // The options of a service alone.
 #[rattlefmt::skip]
-const SERVICE_CHOICES: [Choice<'static>; 24] = [
+const SERVICE_CHOICES: [Choice<'static>; 26] = [
     ("region", Takes::Range(1, Service::GREATEST_REGION, true),
-        "The number of the region that is served, 1 to 65535, like no other's and never used again [required]"),
+        "The number of the region that is served, 1 to 65535, like no other's and never used again \
+        [required]"),
     ("port", Takes::Range(0, Address::GREATEST_PORT, false),
         "The port that is listened on, 0 to 65535, 0 for a free one [required, or --socket]"),
     ("socket", Takes::File(false),
@@ -182,45 +183,61 @@ const SERVICE_CHOICES: [Choice<'static>; 24] = [
     ("inner", Takes::File(false),
         "The Unix socket that alone answers /admin/ and /sync/ [default: none]"),
     ("seed", Takes::File(true),
-        "The file of 32 secret random bytes that handles are made from, another for each start [required]"),
+        "The file of 32 secret random bytes that handles are made from, another for each start \
+        [required]"),
     ("log", Takes::File(false),
         "A new file that each fact made is appended to before its reply [default: none]"),
     ("log-taken", Takes::Nothing,
         "Appends each bundle taken in to the log too, before its reply; requires --log"),
+    ("log-part", Takes::Range(Service::LEAST_PART, Service::GREATEST_PART, false),
+        "Goes on in a next file once the log has this number of bytes, 65536 to 1099511627776; \
+        requires --log [default: one file]"),
     ("load", Takes::File(false),
         "The log of an earlier run, whose facts are taken in first [default: none]"),
     ("prune", Takes::Range(0, Moment::GREATEST, false),
-        "Skips all facts of families that are over at this moment, in seconds since 1970, 0 to 253402300799 [default: none]"),
+        "Skips all facts of families that are over at this moment, in seconds since 1970, 0 to \
+        253402300799 [default: none]"),
     ("ahead", Takes::Word("taken"),
         "Whether a pushed bundle whose horizon is later than the clock is taken or refused"),
     ("range", Takes::List,
-        "The numbers of this site, FIRST-LAST; a push of facts under those above its own is refused [default: none]"),
+        "The numbers of this site, FIRST-LAST; a push of facts under those above its own is \
+        refused [default: none]"),
     ("accept", Takes::List,
-        "The numbers of all sites, FIRST-LAST with commas between; a push of facts under others is refused [default: 1-65535]"),
+        "The numbers of all sites, FIRST-LAST with commas between; a push of facts under others is \
+        refused [default: 1-65535]"),
     ("revoke-unseen", Takes::Word("any"),
-        "Who may revoke a token of another region before it is known here: any, authenticated or none"),
+        "Who may revoke a token of another region before it is known here: any, authenticated or \
+        none"),
     ("consent", Takes::Word("new"),
         "What is given if a good consent is held: a new one, or the held one without a fact"),
     ("redirects", Takes::List,
-        "The kinds of redirection URIs that a new client may have: https, loopback (at any port too), app [default: every absolute URL]"),
+        "The kinds of redirection URIs that a new client may have: https, loopback (at any port \
+        too), app [default: every absolute URL]"),
     ("refresh-seen", Takes::Word("all"),
-        "Who sees a refresh token at /introspect: all, its client and resource servers; or client, its client alone"),
+        "Who sees a refresh token at /introspect: all, its client and resource servers; or client, \
+        its client alone"),
     ("challenge", Takes::List,
-        "What is required of PKCE: all, a challenge of every client; S256, that method [default: a challenge of public clients]"),
+        "What is required of PKCE: all, a challenge of every client; S256, that method [default: a \
+        challenge of public clients]"),
     ("connections", Takes::Number(Service::GREATEST_CONNECTIONS, "1024"),
         "How many connections are open at once at most, 1 to 65536"),
     ("requests", Takes::Range(0, Service::GREATEST_REQUESTS, false),
         "How many connections are served, 0 to 4294967295 [default: without end]"),
     ("keep", Takes::Range(0, Service::GREATEST_KEEP, false),
-        "How many seconds a connection stays open between its requests, 0 to 3600, 0 for one request each [default: 0]"),
+        "How many seconds a connection stays open between its requests, 0 to 3600, 0 for one \
+        request each [default: 0]"),
     ("repeat", Takes::Range(0, Service::GREATEST_REPEAT, false),
-        "For how many seconds a refresh that is repeated gets its reply again, 0 to 60 [default: 0]"),
+        "For how many seconds a refresh that is repeated gets its reply again, 0 to 60 [default: \
+        0]"),
     ("prune-margin", Takes::Range(Service::LEAST_MARGIN, Service::GREATEST_MARGIN, false),
-        "Skips the facts of families that have been over for this many seconds, between requests, 86400 to 999999999 [default: none]"),
+        "Skips the facts of families that have been over for this many seconds, between requests, \
+        86400 to 999999999 [default: none]"),
     ("issuer", Takes::Url,
         "The URL of this server, for its metadata and the iss of its redirects [default: none]"),
     ("health", Takes::Nothing,
         "Answers GET /health: whether requests of clients are answered"),
+    ("metrics", Takes::Nothing,
+        "Answers GET /metrics where /admin/ is answered: what the server counts, for Prometheus"),
 ];
 
 // Adds the five settings of a region to a command, each with its default.

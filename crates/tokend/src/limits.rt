@@ -31,6 +31,12 @@ impl Service {
     /// The greatest number of connections that are open at once.
     pub const GREATEST_CONNECTIONS: u64 = 65_536;
 
+    /// The least number of bytes of a log's part.
+    pub const LEAST_PART: u64 = 65_536;
+
+    /// The greatest such number.
+    pub const GREATEST_PART: u64 = 1_099_511_627_776;
+
     /// The greatest number of connections to serve.
     pub const GREATEST_REQUESTS: u64 = 4_294_967_295;
 

@@ -1,5 +1,4 @@
-//! The program `tokend`: an authorisation server that runs in several regions, whose sets of facts
-//! merge.
+//! The program `tokend`: an authorisation server in several regions, whose sets of facts merge.
 //!
 //! `tokend serve` replies to the HTTP requests of one region and writes the log before each reply.
 //! `tokend script` runs events in a world of regions, `tokend loopback` the same with each request
@@ -12,10 +11,10 @@
 //! In reading order:
 //!
 //! - `command_line`, what clap knows; `words`, `options`: the arguments, and their task.
-//! - `draw`, random words; `address`, where a service listens; `folder`, `log_file`, `load`: logs.
-//! - `start`, a service before its first connection; `bind`, `listen`, its sockets; `serve`, its
-//!   connections; `turns`, a turn at a time; `server`, what is decided of each; `connections`;
-//!   `pruning`, what goes between turns.
+//! - `draw`, random words; `address`, where a service listens; `folder`, `log_file`, `parted`,
+//!   `part_name`, `load`: logs. `start`, a service before its first connection; `bind`, `listen`,
+//!   its sockets; `serve`, its connections; `turns`, a turn at a time; `server`, what is decided of
+//!   each; `pruning`, what goes between turns; `metrics`, `exposition`, `showing`: what is counted.
 //! - `script`, `loopback`; `sources`, `facts`, `check`: the files that are printed or checked.
 //! - `fault`, `telling`: what may go wrong, with its line and status; `program`, all in order.
 //! - `promises`: the promises about regions. The definitions are in `specs/`, listed in `Lib`.
@@ -33,6 +32,7 @@ mod connection;
 mod connections;
 mod door;
 mod draw;
+mod exposition;
 mod facts;
 mod fault;
 mod files;
@@ -45,8 +45,11 @@ mod load;
 mod log_file;
 mod loopback;
 mod losses;
+mod metrics;
 mod notices;
 mod options;
+mod part_name;
+mod parted;
 mod program;
 pub mod promises;
 mod pruning;
@@ -58,6 +61,7 @@ mod repeats;
 mod script;
 mod serve;
 mod server;
+mod showing;
 mod socket;
 mod sources;
 mod start;

@@ -1,4 +1,4 @@
-//! The options `--issuer` and `--health`: what a service says of itself.
+//! The options `--issuer`, `--health` and `--metrics`: what a service says of itself.
 
 ghost use Rattle.std.specs.Prelude.{◌≡◌, IfOk, IfNone, IfSome, Some, codes};
 ghost use Rattle.clap.specs.Words.{first_of, found_of, rows_of};
@@ -10,13 +10,15 @@ use clap::ArgMatches;
 use std::alloc::{AllocError, Global};
 use tk_edge::{Issuer, is_issuer};
 
-/// What a service says of itself, by `--issuer` and `--health`.
+/// What a service says of itself, by `--issuer`, `--health` and `--metrics`.
 #[derive(Drop)]
 pub struct NoticeOptions {
     /// The issuer, if it is given. Without one there are no metadata.
     pub issuer: Option<Issuer>,
     /// Whether the server says its health.
     pub health: bool,
+    /// Whether the server shows its metrics.
+    pub metrics: bool,
 }
 
 // Returns whether there is an `--issuer` that is no issuer.
@@ -46,6 +48,7 @@ pub(crate) fn read_notices(
     Ok(Some(NoticeOptions {
         issuer,
         health: flag(matches, "health"),
+        metrics: flag(matches, "metrics"),
     }))
 }
 

@@ -18,7 +18,7 @@ ghost use Rattle.tokend.specs.CommandLine.{
 };
 ghost use Rattle.tokend.specs.Task.{lacks_option};
 ghost use Rattle.tokend.specs.Task.{Asks, IsTask, IsNoService, IsNoTask, IsRefusalOf};
-ghost use Rattle.tokend.specs.Task.{kind_missing, lacks_log, missing_kind};
+ghost use Rattle.tokend.specs.Task.{kind_missing, lacks_log, missing_kind, wants_log};
 ghost use Rattle.tokend.specs.declared.options.Numbers.{Numbers as NumbersValue};
 
 use crate::address::{Addresses, is_unplaced, read_addresses};
@@ -182,7 +182,7 @@ fn lacking(matches: &ArgMatches<'_>) -> Option<&'static str>
     ensures { is_some result ≡ lacks_option (subcommand_rows_of matches.now) }
 {
     if lacks_log(matches) {
-        return Some("--log-taken requires --log");
+        return Some("--log-taken and --log-part require --log");
     }
     if is_unplaced(matches) {
         return Some("one of --port and --socket is required, and not both");
@@ -190,14 +190,21 @@ fn lacking(matches: &ArgMatches<'_>) -> Option<&'static str>
     None
 }
 
-// Returns whether the subcommand has `--log-taken` without `--log`.
+// Returns whether the subcommand has `--log-taken` or `--log-part` without `--log`.
 fn lacks_log(matches: &ArgMatches<'_>) -> bool
     ensures { result ≡ lacks_log (subcommand_rows_of matches.now) }
 {
     match matches.subcommand() {
-        Some((_, values)) => flag(values, "log-taken") && values.get_str("log").is_none(),
+        Some((_, values)) => wants_log(values) && values.get_str("log").is_none(),
         None => false,
     }
+}
+
+// Returns whether `--log-taken` or `--log-part` is among these options.
+fn wants_log(matches: &ArgMatches<'_>) -> bool
+    ensures { result ≡ wants_log (rows_of (found_of matches.now)) }
+{
+    flag(matches, "log-taken") || matches.get_str("log-part").is_some()
 }
 
 impl Numbers {

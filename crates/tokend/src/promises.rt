@@ -10,7 +10,7 @@
 //! it. Four hold of any world, whatever brought it about: that regions agree, that pruning changes
 //! no answer, and the two about inactive tokens.
 
-ghost use Rattle.std.specs.Prelude.{◌≡◌, ℕ, IfOk, MatchResult};
+ghost use Rattle.std.specs.Prelude.{◌≡◌, ℕ, IfOk, MatchResult, Option};
 ghost use Rattle.tk_store.specs.FactSet.{Agree, AllIn, FactSet, IsSubset};
 ghost use Rattle.tk_store.specs.Joining.{SameFacts};
 ghost use Rattle.tk_store.specs.StoreFields.{held_facts};
@@ -105,6 +105,11 @@ pub fn equal_facts_introspect_alike(
 /// The world stands for a state with all facts made. From its horizon on, each region answers each
 /// request as a region of its number and settings that holds all the facts for which it stands and
 /// never pruned: the reply is equal, and so is the fact that is made.
+///
+/// There is one exception. The request revokes a token of another region of which the region knows
+/// no fact, and by the facts for which it stands the sender revoked that token before. The region
+/// may have skipped that revocation, and then decides as if there was none: it makes the fact once
+/// more, or a client that may not revoke such a token gets 503.
 pub fn pruning_changes_no_answer(world: &World)
     ensures stands { IsStanding world.now }
     ensures answers { (made : FactSet) (state : State) → WorldStands world.now made state
@@ -179,11 +184,13 @@ pub fn a_log_of_bundles_is_loaded_again()
 /// A service writes such a log: one that has run with `--log-taken`, and whose edge isn't sealed at
 /// its end.
 ///
-/// The log is the one that it opened by the name in its arguments, which was empty. The bundles of
-/// the old log are those of the file of that name, if its bytes are known. The bytes of logs must
-/// be known, as those of the machine's files aren't: what a file keeps is tested.
+/// The log is the one that it opened by the name in its arguments, which was empty: one file, or
+/// parts of any number of bytes. The bundles of the old log are those of the file of that name, if
+/// its bytes are known. The bytes of logs must be known, as those of the machine's files aren't:
+/// what a file keeps is tested.
 pub fn a_service_writes_such_a_log<I: Read, L: Sink, D: Folder<I, L>>(folder: &D)
-    ensures { ServiceLogs (D.kept folder.now) L.holds (D.opens folder.now) }
+    ensures { (part : Option ℕ)
+        → ServiceLogs (D.kept folder.now) L.holds (D.opens folder.now part) }
 {
     let _folder = folder;
 }

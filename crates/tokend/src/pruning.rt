@@ -122,8 +122,9 @@ impl Pruning {
 }
 
 impl Server {
-    /// Prunes a slice of the region if a pass is under way, or one begins. `millis` is the time of
-    /// the monotonic clock, and the server's moment that of the clock.
+    /// Prunes a slice of the region if a pass is under way, or one begins, and counts the facts
+    /// that went. `millis` is the time of the monotonic clock, and the server's moment that of the
+    /// clock.
     pub(crate) fn prune(&mut self, millis: u64)
         ensures sliced { spec.IsPruned self.old millis self.new }
         ensures goes { (log : Option (List ℕ)) (faults : Writer) → Goes
@@ -141,5 +142,6 @@ impl Server {
         let slice = self.edge.region_mut().prune_some(moment, pass.after, SLICE);
         pass.go_on(slice.at, millis);
         self.pruning = pass;
+        self.tally.pruned = self.tally.pruned.saturating_add(slice.gone);
     }
 }

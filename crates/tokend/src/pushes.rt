@@ -1,5 +1,6 @@
 //! What a service takes of a push: `PushOptions`, and the terms of the service.
 
+ghost use Rattle.std.specs.Option.{option_map};
 ghost use Rattle.std.specs.Prelude.{◌≡◌, IfOk, IfSome, IfNone};
 ghost use Rattle.clap.specs.Words.{found_of, rows_of};
 ghost use Rattle.tokend.specs.CommandLine.{HasPushes, IsNoPushes};
@@ -63,9 +64,16 @@ impl Service {
             barred: above(self.region, self.pushes.range),
             issuer,
             health: self.notices.health,
-            metrics: None,
+            metrics: first_text(alloc, self.notices.metrics),
         })
     }
+}
+
+// Returns the text of the metrics before it is made for the first time, if metrics are shown.
+fn first_text(alloc: Global, shows: bool) -> Option<Vec<u8>>
+    ensures { option_map (λ v. v.items) result ≡ spec.first_text shows }
+{
+    if shows { Some(Vec::new(alloc)) } else { None }
 }
 
 // Returns the numbers of a range above a number, if there is one.

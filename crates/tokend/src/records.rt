@@ -26,11 +26,11 @@ impl<L> Records<L> {
     }
 }
 
-/// A flush counts as having kept all that was written: what a device keeps is its own matter.
+/// What a flush of the device has written out counts as kept.
 impl<L: Sink> Log for Records<L> {
     ghost written = { λ r. L.holds r.log };
 
-    ghost kept = { λ r. L.holds r.log };
+    ghost kept = { λ r. L.flushed r.log };
 
     ghost has_failed = { λ r. r.has_failed };
 

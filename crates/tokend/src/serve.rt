@@ -23,6 +23,7 @@ ghost use Rattle.tokend.specs.Turns.{ServesLogged, ServesWith, keeps_in};
 use crate::fault::Fault;
 use crate::folder::Folder;
 use crate::listen::{Opening, listen};
+use crate::metrics::Tally;
 use crate::options::Service;
 use crate::pruning::Pruning;
 use crate::records::Records;
@@ -53,7 +54,8 @@ where
     requires region { IsRegion service.now.region }
     requires prune { IfSome service.now.files.prune IsMoment }
     ensures done { OnOk result
-        (IsServiceRun (D.kept folder.now) L.holds (D.opens folder.now) service.now
+        (IsServiceRun (D.kept folder.now) L.holds (D.opens folder.now service.now.files.log_part)
+        service.now
         (record { before = O.contents output.old; after = O.contents output.new })
         (record {
           before = writer_of F.holds F.failed faults.old;
@@ -102,7 +104,8 @@ where
     R: AllocGlobal + Files + Clock + Net,
     requires { IfSome service.now.files.prune IsMoment }
     ensures done { OnOk result
-        (HasRun (D.kept folder.now) L.holds (D.opens folder.now) service.now
+        (HasRun (D.kept folder.now) L.holds (D.opens folder.now service.now.files.log_part)
+        service.now
         start.old.edge start.old.words
         (record { before = O.contents output.old; after = O.contents output.new })
         (record {
@@ -137,7 +140,8 @@ where
     R: AllocGlobal + Files + Clock + Net,
     requires { IfSome service.now.files.prune IsMoment }
     ensures done { OnOk result
-        (HasOpened L.holds (D.opens folder.now) service.now dropped start.old.edge
+        (HasOpened L.holds (D.opens folder.now service.now.files.log_part) service.now dropped
+        start.old.edge
         start.old.words
         (record { before = O.contents output.old; after = O.contents output.new })
         (record {
@@ -174,7 +178,8 @@ where
     ensures done { OnOk result
         (Announces opening service.now.at (O.contents output.old) (O.contents output.new)) }
     ensures served { OnOk result
-        (ServesLogged L.holds (D.opens folder.now) service.now.files.log start.old.words
+        (ServesLogged L.holds (D.opens folder.now service.now.files.log_part)
+        service.now.files.log start.old.words
         service.now.limits.requests (keeps_in service.now.limits.keep)
         (unwrap_or service.now.limits.repeat 0) (is_some service.now.at.inner)
         service.now.files.log_taken
@@ -197,7 +202,7 @@ where
         let mut none = Records::new(Discard);
         return announce_and_serve(rt, service, opening, start, &mut none, output, faults);
     };
-    match folder.open_new(rt.alloc(), path) {
+    match folder.open_new(rt.alloc(), path, service.files.log_part) {
         Ok(log) => {
             let mut log = Records::new(log);
             let served = announce_and_serve(rt, service, opening, start, &mut log, output, faults);
@@ -253,6 +258,7 @@ where
             start.has_inner = service.at.inner.is_some();
             start.log_taken = service.files.log_taken;
             start.left = service.limits.requests.unwrap_or(u64::MAX);
+            start.tally = Tally::new(start.left);
             start.fault = None;
             serve_on(rt, &mut connections, start, log, faults);
             Ok(())

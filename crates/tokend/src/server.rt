@@ -1,5 +1,6 @@
 //! What decides the requests of a service: `Server`.
 
+use crate::metrics::Tally;
 use crate::pruning::Pruning;
 use crate::repeats::Repeats;
 use rand_chacha::ChaCha20Rng;
@@ -34,23 +35,24 @@ pub(crate) struct Server {
     pub repeats: Repeats,
     /// How far its passes over the region are that prune.
     pub pruning: Pruning,
+    /// What it has counted.
+    pub tally: Tally,
 }
 
 ghost use Rattle.std.specs.Prelude.{◌≡◌, ◌+◌, ◌-◌, ◌<◌, ◌≤◌, ◌++◌, ℕ, List, Option, None, Ok};
 ghost use Rattle.std.specs.Prelude.{IfSome, length, true};
 ghost use Rattle.tk_turn.specs.Outcomes.{goes_on, taken_of};
-ghost use Rattle.tokend.specs.Decisions.{ended_if, outcome_by, paths_by, reach_by};
+ghost use Rattle.tokend.specs.Decisions.{ended_if, fault_of, outcome_by, paths_by};
+ghost use Rattle.tokend.specs.Decisions.{reach_by, tally_with};
 ghost use Rattle.tokend.specs.Decisions.{Decides, FrontDecides, IsReplied};
 ghost use Rattle.tokend.specs.Decisions.{IsUnread, Seals};
 ghost use Rattle.tokend.specs.Repeating.{IsCome};
-ghost use Rattle.tokend.specs.Serving.{connection_fault};
 ghost use Rattle.tokend.specs.Telling.{Writer, Writes, writer_of};
 ghost use Rattle.tokend.specs.Turns.{Goes, ReportsOf};
-ghost use Rattle.tokend.specs.declared.server.Server.{Server as AnyServer};
 
 use crate::draw::draw;
+use crate::losses::tell_fault;
 use crate::repeating::{Asked, Refresh};
-use crate::telling::say;
 use std::mem::replace;
 use tk_edge::{Counted, PathSet, Served, Sink, Taken, keep_open};
 use tk_turn::{Outcome, Service};
@@ -134,6 +136,16 @@ pub(crate) fn outcome_of(keeps: bool, served: Served, taken: Taken) -> Outcome
     }
 }
 
+// Returns the fault that a connection ended in, if it did.
+fn fault_of(end: Result<Served, EdgeFault>) -> Option<EdgeFault>
+    ensures { result ≡ fault_of end }
+{
+    match end {
+        Ok(_) => None,
+        Err(fault) => Some(fault),
+    }
+}
+
 // Returns how many connections end.
 fn ended_if(stays: bool) -> u64
     ensures value { result ≡ ended_if stays }
@@ -172,6 +184,7 @@ impl Server {
             fault: None,
             repeats: Repeats::new(alloc, 0),
             pruning: Pruning::new(None, 0, 0),
+            tally: Tally::new(0),
         }
     }
 
@@ -208,12 +221,12 @@ impl Server {
                 let stays = outcome.goes_on();
                 reply_over(stays, replies, mark);
                 self.keep(refresh, served, dot, &words);
-                self.move_on(next, None, stays);
+                self.move_on(next, Ok(served), stays);
                 outcome
             }
             Err(fault) => {
                 replies.truncate(mark);
-                self.move_on(next, Some(fault), false);
+                self.move_on(next, Err(fault), false);
                 Outcome::Ended
             }
         }
@@ -264,13 +277,20 @@ impl Server {
         served
     }
 
-    // Notes that a request has ended: the next one has the next words. `stays` is whether its
-    // connection stays open.
-    pub(crate) fn move_on(&mut self, next: ChaCha20Rng, fault: Option<EdgeFault>, stays: bool)
+    // Notes that a request has ended so, and counts it: the next one has the next words. `stays` is
+    // whether its connection stays open.
+    pub(crate) fn move_on(&mut self, next: ChaCha20Rng, end: Result<Served, EdgeFault>, stays: bool)
         requires { 0 < self.old.left }
         ensures { (left : ℕ) × (self.old.left ≡ left + ended_if stays)
-            × (self.new ≡ record self.old { words = next; left = left; fault = fault }) }
+            × (self.new ≡ record self.old {
+              words = next;
+              left = left;
+              fault = fault_of end;
+              tally = tally_with self.old end;
+            }) }
     {
+        let (paths, fault) = (paths(self.has_inner, self.is_inner), fault_of(end));
+        self.tally.counts.count(end, paths);
         self.words = next;
         self.left -= ended_if(stays);
         self.fault = fault;
@@ -296,6 +316,7 @@ impl Server {
         if self.left > 0 {
             draw(&mut self.words);
             self.left -= 1;
+            self.tally.counts.count(Err(fault), PathSet::All);
             tell_fault(faults, fault);
         }
     }
@@ -363,37 +384,5 @@ impl Server {
             }
             None => false,
         }
-    }
-}
-
-/// Writes the line of a lost reply `count` times.
-pub(crate) fn tell_each_unsent<F: Sink>(count: u64, faults: &mut F)
-    ensures { (server : AnyServer) (log : Option (List ℕ)) → Goes
-        (record {
-          server = server;
-          log = log;
-          faults = writer_of F.holds F.failed faults.old;
-        })
-        (record {
-          server = server;
-          log = log;
-          faults = writer_of F.holds F.failed faults.new;
-        }) }
-{
-    for _ in 0..count {
-        tell_fault(faults, EdgeFault::Write);
-    }
-}
-
-/// Writes the line of a connection's fault. If the writer fails, it has the beginning of the line.
-pub(crate) fn tell_fault<F: Sink>(faults: &mut F, fault: EdgeFault)
-    ensures { Writes (writer_of F.holds F.failed faults.old) (writer_of F.holds F.failed faults.new)
-        (connection_fault fault) }
-{
-    match fault {
-        EdgeFault::Read => say(faults, &[b"fault read\n"]),
-        EdgeFault::Write => say(faults, &[b"fault write\n"]),
-        EdgeFault::Log => say(faults, &[b"fault log\n"]),
-        EdgeFault::Memory => say(faults, &[b"fault memory\n"]),
     }
 }

@@ -9,8 +9,9 @@ ghost use Rattle.tokend.specs.Telling.{writer_of};
 ghost use Rattle.tokend.specs.Turns.{Goes};
 
 use crate::connections::{Connections, are_within};
+use crate::losses::{tell_each_unsent, tell_fault};
 use crate::records::Records;
-use crate::server::{Server, tell_each_unsent, tell_fault};
+use crate::server::Server;
 use std::io;
 use std::time::Clock;
 use tk_edge::{Fault as EdgeFault, Sink};
@@ -149,6 +150,8 @@ fn turn<R: AllocGlobal + Clock, L: Sink, F: Sink>(
     }
     server.now = at.unwrap_or(server.now);
     server.repeats.forget(server.now);
+    // Out of memory leaves the old text of the metrics.
+    let _ = server.show(now, u64::try_from(connections.open).unwrap_or(u64::MAX));
     let is_stopped = decide(connections, server, log, faults);
     // The log may have taken long.
     let now = millis(rt).unwrap_or(now);
@@ -181,6 +184,7 @@ fn tell_losses<L: Sink, F: Sink>(
     server.miss_each(losses.unread, EdgeFault::Read, faults);
     server.miss_each(losses.short, EdgeFault::Memory, faults);
     server.part_each(losses.parted);
+    server.tally.untaken = server.tally.untaken.saturating_add(losses.unsent);
     tell_each_unsent(losses.unsent, faults);
 }
 

@@ -1,4 +1,4 @@
-use Rattle.std.proofs.Common.{◌≡◌, IfOk, ℕ, List, Option, None, Some, codes, subst, rules}
+use Rattle.std.proofs.Common.{◌≡◌, IfOk, None, Some, codes, subst, rules}
 use Rattle.clap.specs.Words.{found_of}
 use Rattle.tokend.specs.Notices.{issuer_named}
 use Rattle.tokend.proofs.Tasks.{by_text}

@@ -1,6 +1,6 @@
 use Rattle.std.proofs.Common.{rules}
 use Rattle.clap.specs.Words.{found_of, rows_of}
-use Rattle.tokend.proofs.Tasks.{without_issuer}
+use Rattle.tokend.proofs.MissingOptions.{without_issuer}
 use Rattle.tokend.proofs.notices.read_notices.Goals as goal
 
 pub returns-in_default-clause-none : goal.returns-in_default-clause-none

@@ -1,5 +1,6 @@
 use Rattle.clap.specs.Words.{found_of, rows_of}
-use Rattle.tokend.proofs.Tasks.{without_code, without_access, without_refresh, without_family, without_cap}
+use Rattle.tokend.proofs.Tasks.{without_code, without_access, without_refresh, without_family}
+use Rattle.tokend.proofs.Tasks.{without_cap}
 use Rattle.tokend.proofs.options.read_numbers.Goals as goal
 
 pub returns-in_err-number-clause-none : goal.returns-in_err-number-clause-none

@@ -1,6 +1,8 @@
 use Rattle.std.proofs.Common.{rules}
 use Rattle.clap.specs.Words.{found_of, rows_of}
-use Rattle.tokend.proofs.Tasks.{without_address, without_choices, without_connections, without_notices, without_pushes, without_region, without_settings}
+use Rattle.tokend.proofs.Tasks.{without_region, without_settings}
+use Rattle.tokend.proofs.MissingOptions.{without_choices, without_connections, without_notices}
+use Rattle.tokend.proofs.MissingOptions.{without_pushes}
 use Rattle.tokend.proofs.options.read_service.Goals as goal
 
 pub returns-clause-service : goal.returns-clause-service

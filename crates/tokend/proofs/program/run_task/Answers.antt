@@ -1,6 +1,7 @@
 use Rattle.std.proofs.Common.{subst, sym, inl, inr}
 use Rattle.tokend.specs.Task.{script_task, loopback_task, Asks}
-use Rattle.tokend.proofs.Runs.{check_done, facts_done, faults_of_task, left_by_check, left_by_facts, left_by_task, script_done, service_done}
+use Rattle.tokend.proofs.Runs.{check_done, facts_done, faults_of_task, left_by_check, left_by_facts}
+use Rattle.tokend.proofs.Runs.{left_by_task, script_done, service_done}
 use Rattle.tokend.proofs.program.run_task.Goals as goal
 
 pub returns-in-Script-clause-done : goal.returns-in-Script-clause-done

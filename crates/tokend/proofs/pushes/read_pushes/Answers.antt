@@ -1,6 +1,6 @@
 use Rattle.std.proofs.Common.{rules}
 use Rattle.clap.specs.Words.{found_of, rows_of}
-use Rattle.tokend.proofs.Tasks.{without_range, without_refusal}
+use Rattle.tokend.proofs.MissingOptions.{without_range, without_refusal}
 use Rattle.tokend.proofs.pushes.read_pushes.Goals as goal
 
 pub returns-in_default-clause-none : goal.returns-in_default-clause-none

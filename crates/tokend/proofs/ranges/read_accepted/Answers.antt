@@ -1,4 +1,5 @@
-use Rattle.std.proofs.Common.{◌≡◌, IfOk, List, None, Some, Vec, Global, codes, ap, subst, rules, ◌∙◌}
+use Rattle.std.proofs.Common.{◌≡◌, IfOk, List, None, Some, Vec, Global, codes, ap, subst, rules}
+use Rattle.std.proofs.Common.{◌∙◌}
 use Rattle.std.specs.Option.{option_map}
 use Rattle.clap.specs.Words.{found_of}
 use Rattle.tk_edge.specs.declared.terms.RegionRange.{RegionRange}

@@ -8,7 +8,7 @@ use Rattle.tokend.proofs.serve.serve.Goals as goal
 
 pub returns-in-Ok-clause-done : goal.returns-in-Ok-clause-done
 returns-in-Ok-clause-done g c =
-    service_run (g.D.Folder.kept c.args.folder.now) g.L.Sink.holds (g.D.Folder.opens c.args.folder.now) c.args.service.now c.in-Ok.start.edge c.in-Ok.start.words
+    service_run (g.D.Folder.kept c.args.folder.now) g.L.Sink.holds (g.D.Folder.opens c.args.folder.now c.args.service.now.files.log_part) c.args.service.now c.in-Ok.start.edge c.in-Ok.start.words
     (record { before = g.O.Write.contents c.args.output.now; after = g.O.Write.contents c.load_and_serve-served.new.output })
     (record { before = writer_of g.F.Sink.holds g.F.Sink.failed c.args.faults.now; after = writer_of g.F.Sink.holds g.F.Sink.failed c.load_and_serve-served.new.faults })
     c.load_and_serve-served.result c.in-Ok.ensures.start c.load_and_serve-served.ensures.done

@@ -2,7 +2,8 @@ use Rattle.std.proofs.Common.{refl, subst, sym}
 use Rattle.tokend.specs.Telling.{writer_of}
 use Rattle.tokend.specs.Turns.{Goes}
 use Rattle.tokend.specs.declared.server.Server.{Server}
-use Rattle.tokend.proofs.Turning.{goes_both, goes_kept, goes_lost, goes_over}
+use Rattle.tokend.proofs.Turning.{goes_both, goes_over}
+use Rattle.tokend.proofs.TurnLaws.{goes_kept, goes_lost}
 use Rattle.tokend.proofs.turns.decide_at.Goals as goal
 
 pub returns-in-Ok : goal.returns-in-Ok

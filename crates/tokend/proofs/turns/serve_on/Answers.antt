@@ -1,5 +1,6 @@
 use Rattle.std.proofs.Common.{◌∙◌}
-use Rattle.tokend.proofs.Turning.{goes_both, goes_nowhere, server_grows}
+use Rattle.tokend.proofs.Turning.{goes_both, goes_nowhere}
+use Rattle.tokend.proofs.TurnGrowth.{server_grows}
 use Rattle.tokend.proofs.turns.serve_on.Goals as goal
 
 pub connections-init : goal.connections-init

@@ -1,6 +1,7 @@
 use Rattle.std.proofs.Common.{◌≡◌, [], ◌++◌, append-nil, ap, sym, ◌∙◌, rules}
 use Rattle.tokend.specs.Decisions.{reach_by}
-use Rattle.tokend.proofs.Deciding.{front_decides, short}
+use Rattle.tokend.proofs.Deciding.{short}
+use Rattle.tokend.proofs.FrontDeciding.{front_decides}
 use Rattle.tokend.proofs.server.Server.serve_front.Goals as goal
 
 pub returns-then-not-make_room-clause-decides : goal.returns-then-not-make_room-clause-decides

@@ -2,7 +2,7 @@ use Rattle.std.proofs.Common.{ℕ, List, Option}
 use Rattle.tokend.specs.Telling.{writer_of}
 use Rattle.tokend.specs.Turns.{Goes}
 use Rattle.tokend.specs.declared.server.Server.{Server}
-use Rattle.tokend.proofs.server.tell_each_unsent.Given as goal
+use Rattle.tokend.proofs.losses.tell_each_unsent.Given as goal
 
 -- the lines so far are written
 abbrev pub invariant-loop : goal.invariant-loop

@@ -1,5 +1,5 @@
 use Rattle.tokend.proofs.Turning.{goes_both, goes_nowhere, goes_unsent}
-use Rattle.tokend.proofs.server.tell_each_unsent.Goals as goal
+use Rattle.tokend.proofs.losses.tell_each_unsent.Goals as goal
 
 pub loop-init : goal.loop-init
 loop-init g c = λ server log. goes_nowhere _
