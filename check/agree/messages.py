@@ -6,7 +6,7 @@ import re
 
 from texts import OPERATING, PAGE, coded, rows, same, text_of
 
-FAULT, SERVER = "crates/tokend/src/fault.rt", "crates/tokend/src/server.rt"
+FAULT, LOSSES = "crates/tokend/src/fault.rt", "crates/tokend/src/losses.rt"
 LISTEN, FACTS = "crates/tokend/src/listen.rt", "crates/tokend/src/facts.rt"
 CHECK = "crates/tokend/src/check.rt"
 START_PAGE = "docs/tokend-start.1"
@@ -25,7 +25,7 @@ def statuses_of_sources(fault):
 
 def of_sources():
     """Returns the lines on standard output, and those of errors with their statuses."""
-    fault, server, listen = text_of(FAULT), text_of(SERVER), text_of(LISTEN)
+    fault, losses, listen = text_of(FAULT), text_of(LOSSES), text_of(LISTEN)
     statuses = statuses_of_sources(fault)
     errors = {}
     for name, line in re.findall(LINE, fault):
@@ -38,7 +38,7 @@ def of_sources():
         errors[place + "N of FILE"] = bad
     errors[re.search(r'b"(tokend: dropped )"', text_of(FACTS))[1] + "N bytes"] = None
     same(FAULT, "faults without a line of their own", {"Words": 2, "Output": 1}, statuses)
-    for name in re.findall(r'EdgeFault::\w+ => say\(faults, &\[b"([^"\\]*)\\n"\]\)', server):
+    for name in re.findall(r'EdgeFault::\w+ => say\(faults, &\[b"([^"\\]*)\\n"\]\)', losses):
         errors[name] = None
     names = re.findall(r"fn put_(dropped_bytes|pruned_facts|inner|port|path)<", listen)
     output = {line_of(listen, name) for name in names}

@@ -154,7 +154,8 @@ def try_one(program, command, given, name, option):
 def try_all(program, serve, script, seed):
     base = {"region": "1", "port": "0", "seed": seed, "requests": "0"}
     for name, option in serve.items():
-        try_one(program, "serve", base, name, option)
+        log = {"log": seed + ".log"} if name == "log-part" else {}
+        try_one(program, "serve", {**base, **log}, name, option)
     for name, option in script.items():
         try_one(program, "script", {}, name, option)
 

@@ -166,7 +166,7 @@ def compare(program):
     compare_examples(program)
     compare_exchange(program)
     before, behind = text_of(HTTP).split("## Who asks")
-    with Server(program, "--health") as server:
+    with Server(program, "--health", "--metrics") as server:
         compare_methods(server)
         compare_cases(server, before, BEFORE)
         compare_cases(server, behind.split("\n## ")[0], ASKS)

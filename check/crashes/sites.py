@@ -8,6 +8,8 @@ from lib.facts import MARK, end_of_bundle, facts_of, whole_records
 from lib.server import Server, push
 
 CUT = 0.5  # how often a log gets a cut end
+PARTED = 0.7  # how often a log has parts
+PARTS = "--log-part", "65536"  # of as few bytes as may be
 LOOKS = b'{"active":', b"\r\nContent-Type: application/octet-stream"  # in replies of look-ups
 VECTOR = request("GET", "/sync/vector")
 
@@ -37,6 +39,7 @@ class Runs:
     def __init__(self, program, number, options):
         self.program, self.number, self.options = program, number, options
         self.answers, self.server, self.enrolled = Answers(), None, None
+        self.parts = 0  # that the logs had
         self.whole = self.last = b""  # the logs without cut ends, and the last one as it was left
 
     def start(self):
@@ -45,14 +48,16 @@ class Runs:
         self.whole += self.last[:whole_records(self.last)]
         self.last = b""
         self.number += 1
-        self.server = Region(self.program, *self.options, region=self.number, load=load)
+        options = self.options + (list(PARTS) if random.random() < PARTED else [])
+        self.server = Region(self.program, *options, region=self.number, load=load)
         if self.enrolled:
             self.server.enrol_as(self.enrolled)
 
     def end(self):
         """Ends the run by SIGKILL, and takes its log away. The end of the log may be cut."""
         self.server.stop()
-        self.last = self.server.logged()
+        self.last, parts = self.server.logged(), self.server.parts()
+        self.parts += len(parts)
         self.server.end()
         if random.random() < CUT:
             self.last += cut_bundle(self.last)

@@ -220,7 +220,7 @@ class Checks(unittest.TestCase):
     def test_a_refused_bundle_behind_bundles(self):
         fault = "tokend: refused bundle at %d of -\n" % len(self.LOG)
         for data in (BUNDLES["a confidential client"], BUNDLES["a sign-out"], self.OWN,
-                     marks(7, (1, 6)), marks(7, (65535, 1)),
+                     marks(7, (1, 2)), marks(7, (65535, 1)),
                      bundle([fact(2, dot(1, 1), 9), sign_out(b"ann", 7, 10),
                              sign_out(b"bob", 8, 1, 3)], b"OTB2")):
             with self.subTest(data):

@@ -11,7 +11,7 @@ KINDS = ["client_added", "client_retired", "consent_given", "consent_withdrawn",
 TOKENS = {1: "code", 2: "access_token", 3: "refresh_token"}
 MARK = "mark"
 # The kinds of facts that may be skipped: each mints a code or a refresh token, or is of a reuse.
-PASSING = {"code_issued", "code_redeemed", "refresh_rotated", "reuse_seen"}
+PASSING = {"code_issued", "code_redeemed", "refresh_rotated", "token_revoked", "reuse_seen"}
 EPOCH = datetime.datetime(1970, 1, 1)
 
 

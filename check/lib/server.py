@@ -208,8 +208,13 @@ class Server(Process, Tokend):
     def __exit__(self, *_):
         self.end()
 
+    def parts(self):
+        """The names of the parts of its log, in order; none of a log of one file."""
+        return sorted(it for it in os.listdir(self.folder) if re.fullmatch(r"log[.]\d{4}", it))
+
     def logged(self):
-        return self.content("log")
+        """The bytes of its log, or of the log's parts one behind the other."""
+        return b"".join(map(self.content, self.parts() or ["log"]))
 
     def enrol(self):
         """Adds a client, a resource server, and ann's consent to the client."""

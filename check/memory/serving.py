@@ -16,8 +16,9 @@ from lib.facts import MARK, facts_of
 from many import written_out
 from server import NOTHING, PULL, VECTOR, Server, http, push, request_of, run_story
 
+PARTS = " --log-part 65536"  # a start looks for 9,998 later parts: as many allocations
 PRUNED = " --prune 1702592000"  # the families of the old log are over at this moment
-PASSING = (5, 6, 7, 9)  # the kinds of facts that may be skipped
+PASSING = (5, 6, 7, 8, 9)  # the kinds of facts that may be skipped
 DIGEST = slice(31, 63)  # of a code's fact
 REGION, OLD_REGION, OTHER_REGION, READER = 1, 2, 3, 9
 LOOK = "req 1 0 POST /introspect <c2-2:s3cret> - token="
@@ -112,6 +113,10 @@ class Scene:
             yield Request(event.text[8:60] + CHOICES, sent, options=CHOICES)
         yield Request("GET /sync/vector", VECTOR)
         yield Request("POST /sync/pull", PULL)
+
+    def counted(self):
+        """A request of a server that makes the text of its metrics before it decides it."""
+        return Request("POST /introspect --metrics", self.looks[-1], options=" --metrics")
 
     def push(self):
         fronts = [self.pushed[:count + 1] for count in range(len(self.pushed))]

@@ -16,6 +16,7 @@ from lib.facts import mark
 from lib.waiting import free_port, until
 
 EXPORTER = shutil.which("prometheus-node-exporter")
+PROMTOOL = shutil.which("promtool")
 COMMAND = "metrics/metrics"
 
 
@@ -105,6 +106,24 @@ class Collected(Case):
         self.assertEqual((found["up"], found["sealed"], found["serves_clients"]), (1, 0, 0))
         time.sleep(max(0.0, horizon - time.time()))
         self.assertEqual(self.collect(one)["serves_clients"], 1)
+
+    def test_what_the_server_counts(self):
+        """With --metrics the file has what the server says, of the same site."""
+        one = self.begin()
+        self.assertNotIn("held_facts", self.collect(one))
+        one.stop()
+        one.begin(script="../starter/tokend-start", options="--metrics")
+        self.assertTrue(until(one.is_up), one.said())
+        one.add(3)
+        time.sleep(1.1)  # after a second the text is made anew
+        found = self.collect(one)
+        self.assertEqual(found["held_facts"], 3)
+        self.assertGreaterEqual(found['requests_total,paths="all",code="2xx"'], 3)
+        if PROMTOOL:
+            with open(self.file, "rb") as file:
+                ended = subprocess.run([PROMTOOL, "check", "metrics"], stdin=file, check=False,
+                                       capture_output=True)
+            self.assertEqual((ended.returncode, ended.stdout, ended.stderr), (0, b"", b""))
 
     def end_carrier(self, name, url, moment):
         """What the unit of a carrier leaves when it has ended well."""

@@ -153,7 +153,7 @@ class Model:
         fact = self.facts[dot]
         if fact["kind"] not in PASSING:
             return None
-        code = self.code_of(fact["token"] if fact["kind"] == "reuse_seen" else dot)
+        code = self.code_of(fact.get("token", dot))
         return code["family_end_seconds"] if code else None
 
 

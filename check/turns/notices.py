@@ -16,7 +16,7 @@ import server
 from shared import SECONDS, Running, Syncs, refreshing, rest_of
 
 METADATA, HEALTH = "/.well-known/oauth-authorization-server", "/health"
-METRICS = "/metrics"  # no option shows them
+METRICS = "/metrics"  # these options don't show them
 ISSUER = "https://id.example:8443/one"
 UNKNOWN = request("GET", "/nowhere")
 MOST = 200  # allocations of a request

@@ -80,6 +80,17 @@ class Prunes(unittest.TestCase):
         self.assertEqual(marks_of(server), 2 * LOGINS)
         self.assert_as_ever(server)
 
+    def test_counted(self):
+        """The metrics have how many facts went, and how many are held."""
+        server = self.started(*MARGIN, "--metrics")
+        await_that(lambda: marks_of(server) == 2 * LOGINS, "not pruned")
+        time.sleep(1.1)  # after a second the text is made anew
+        status, text = server.ask("/metrics")
+        self.assertEqual(status, 200)
+        self.assertIn(b"\ntokend_pruned_facts_total %d\n" % (2 * LOGINS), text)
+        held = sum(len(facts_of(it)) - marks_in(it) for it in server.pages())
+        self.assertIn(b"\ntokend_held_facts %d\n" % held, text)
+
     def test_logs_nothing(self):
         """The log gets the facts that are made, and no mark."""
         server = self.started(*MARGIN, "--log-taken")
