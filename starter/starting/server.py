@@ -21,7 +21,8 @@ CHOICES = (("ahead", "refused"), ("revoke-unseen", "authenticated"), ("consent",
 # options that TOKEND_OPTIONS can't have, and what stands for them
 INSTEAD = (("inner", "name that socket by TOKEND_INNER"),
            ("range", "name these numbers by TOKEND_FIRST and TOKEND_LAST"),
-           ("accept", "name these numbers by TOKEND_ACCEPT"))
+           ("accept", "name these numbers by TOKEND_ACCEPT"),
+           ("log-part", "name these bytes by TOKEND_LOG_PART"))
 
 
 @contextlib.contextmanager
@@ -172,6 +173,8 @@ def become(settings, number, load, log):
         os.set_inheritable(secret, True)
         line = words(settings, number, settings.places.options(), load, log, secret,
                      settings.prune())
+        if settings.part:  # the first part is a new file, so no other run is given it
+            line += ["--log-part", str(settings.part)]
         os.execv(line[0], line)
 
 

@@ -11,6 +11,7 @@ from starting.stop import SETTINGS, Stop
 GREATEST = 65_535  # of region numbers and of ports
 SECONDS = 60  # that all peers together may take
 LEAST_MARGIN = 86_400  # seconds: more than clocks of regions ever differ
+LEAST_PART, GREATEST_PART = 65_536, 1 << 40  # bytes of a log's part
 
 
 class Places(typing.NamedTuple):
@@ -42,6 +43,7 @@ class Settings(typing.NamedTuple):
     seconds: int
     margin: typing.Optional[int]
     patience: int
+    part: typing.Optional[int]
 
     def ranges(self):
         """The options of the server for the site's numbers, and for those of all sites."""
@@ -55,7 +57,7 @@ class Settings(typing.NamedTuple):
 
 def number(text, least, greatest, what):
     """The number that a text of decimal digits spells, within its bounds."""
-    if not re.fullmatch(r"[0-9]{1,9}", text) or not least <= int(text) <= greatest:
+    if not re.fullmatch(r"[0-9]{1,13}", text) or not least <= int(text) <= greatest:
         raise Stop(SETTINGS, "%s is %r, and not a number from %d to %d"
                    % (what, text, least, greatest))
     return int(text)
@@ -122,6 +124,12 @@ def margin_of(environ):
     return number(text, LEAST_MARGIN, 999_999_999, "TOKEND_PRUNE_MARGIN") if text else None
 
 
+def part_of(environ):
+    """At how many bytes a log goes on in a next file; None for a log of one file."""
+    text = environ.get("TOKEND_LOG_PART")
+    return number(text, LEAST_PART, GREATEST_PART, "TOKEND_LOG_PART") if text else None
+
+
 def peers_of(environ):
     """The other regions: of a list that all sites may have, those that aren't this one."""
     own = environ.get("TOKEND_URL", "").rstrip("/")
@@ -143,4 +151,5 @@ def read(environ, arguments):
         environ.get("TOKEND_OPTIONS", "").split(), environ.get("TOKEND_CHALLENGE", ""),
         environ.get("TOKEND_ISSUER", ""), peers_of(environ),
         number(seconds, 0, 86_400, "TOKEND_PEER_SECONDS"), margin_of(environ),
-        number(environ.get("TOKEND_AHEAD_SECONDS") or "0", 0, 86_400, "TOKEND_AHEAD_SECONDS"))
+        number(environ.get("TOKEND_AHEAD_SECONDS") or "0", 0, 86_400, "TOKEND_AHEAD_SECONDS"),
+        part_of(environ))

@@ -1,7 +1,7 @@
 """The folder of a site: its logs, its history, the numbers that were taken, and its lock.
 
     number      the number taken last
-    log/        the log of the run that goes on, NUMBER.otb
+    log/        the log of the run that goes on, NUMBER.otb, or its parts, NUMBER.PART.otb
     old/        the logs of ended runs; a start loads them
     history/    segments of whole bundles, by peers and by backup; a start loads them
     peers.part  what a start fetches now
@@ -166,8 +166,8 @@ class Site:
                 numbers[0], numbers[-1]))
         return top + 1, others
 
-    def take(self, number):
-        """Takes a number for good, and makes its log: returns the log's path."""
+    def take(self, number, has_parts):
+        """Takes a number for good, and makes its log, or the first part: returns the log's path."""
         with open(self.path("number.new"), "w", encoding="ascii") as file:
             file.write("%d\n" % number)
             file.flush()
@@ -175,7 +175,8 @@ class Site:
         os.replace(self.path("number.new"), self.path("number"))
         sync(self.folder)
         path = self.path("log", "%05d.otb" % number)
-        log = os.open(path, os.O_WRONLY | os.O_CREAT | os.O_EXCL, 0o600)
+        first = self.path("log", "%05d.0001.otb" % number) if has_parts else path
+        log = os.open(first, os.O_WRONLY | os.O_CREAT | os.O_EXCL, 0o600)
         os.fsync(log)
         os.close(log)
         sync(self.path("log"))
