@@ -4,7 +4,8 @@
 //!   `find_caller` returns the client that sends it, by `authenticate`, and `scope_asked` the scope
 //!   that is requested.
 //! - A `Reply` has a `StatusCode`, perhaps a place to redirect to, and a `Payload`. An `ErrorCode`
-//!   has a name and a status. `JsonReply` is what a JSON reply says: `JsonReply::reply` writes every one.
+//!   has a name and a status. `JsonReply` is what a JSON reply says: `JsonReply::reply` writes every
+//!   one.
 //! - A `Decision` is a reply, and the fact that the request makes, if any. A `Place` is the dot of
 //!   that fact, how long tokens live, and the `Choices` of the region.
 //!
@@ -12,8 +13,8 @@
 //! reads requests and writes replies as HTTP. No other crate makes JSON.
 //!
 //! In reading order: `Endpoint`, `Request`, `Auth`, `Caller`, `scope_asked`, `StatusCode`,
-//! `ErrorCode`, `Reply`, `JsonReply`, `Lives`, `Choices`, `Place`, `Decision`. The definitions are in
-//! `specs/`, by these names. Those of the credentials are in `Authentication`, of requests in
+//! `ErrorCode`, `Reply`, `JsonReply`, `Lives`, `Choices`, `Place`, `Decision`. The definitions are
+//! in `specs/`, by these names. Those of the credentials are in `Authentication`, of requests in
 //! `RequestFields`, and of the bodies in `Bodies`.
 #![tactic(auto)]
 

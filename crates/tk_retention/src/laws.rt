@@ -26,8 +26,8 @@ pub fn status_stands()
 
 /// States a law: from its horizon on, a store decides each request as the facts for which it stands
 /// do. The replies are equal, and so are the facts that are made, with one exception: a client
-/// revokes a token of another region that isn't known here, and revoked it before by the facts. That
-/// may be decided as if it was the first revocation.
+/// revokes a token of another region that isn't known here, and revoked it before by the facts.
+/// That may be decided as if it was the first revocation.
 pub fn decision_stands()
     ensures { DecisionStands }
 {}
