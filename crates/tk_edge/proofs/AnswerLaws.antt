@@ -128,15 +128,15 @@ no_read (Some bytes) terms now words came region log still writer sealed told = 
 
 module _ (asked : Asked) (came : Arrival) (old new : RegionFields) (log : Change) (still : Type 0) (writer : Change) (sealed : Bool) (arrives : Arrives asked.reach asked.known came) (spoke : came ≢ Silence) where
   -- an arrival was replied to, with the pushed bundle that is logged, if any
-  abbrev JsonReply : Option (List ℕ) → Result StatusCode Fault → Type 0
-  JsonReply sent result = RepliesTo sent asked.terms asked.now asked.words came (record { before = old; after = new }) log still writer sealed result
+  abbrev Told : Option (List ℕ) → Result StatusCode Fault → Type 0
+  Told sent result = RepliesTo sent asked.terms asked.now asked.words came (record { before = old; after = new }) log still writer sealed result
 
-  pub served : (status : StatusCode) → JsonReply (bundle_to_log asked.log_taken came) (Ok status)
+  pub served : (status : StatusCode) → Told (bundle_to_log asked.log_taken came) (Ok status)
       → IsServed asked (record { before = old; after = new }) log still writer sealed (Ok (Done status))
   served status told = (came, arrives, spoke, told)
 
   -- running out of memory for an arrival's reply
-  ran_out : (b : Bool) → JsonReply (bundle_to_log b came) (Err Memory)
+  ran_out : (b : Bool) → Told (bundle_to_log b came) (Err Memory)
       → RunsOut b asked (record { before = old; after = new }) log still writer sealed
   ran_out b told = by came b arrives told
     where
@@ -152,7 +152,7 @@ module _ (asked : Asked) (came : Arrival) (old new : RegionFields) (log : Change
       by (Request request) true arrives told = inl (told.1, told.2)
       by (Notice notice) true arrives told = inl (told.1, told.2)
 
-  pub faulted : (fault : Fault) → JsonReply (bundle_to_log asked.log_taken came) (Err fault)
+  pub faulted : (fault : Fault) → Told (bundle_to_log asked.log_taken came) (Err fault)
       → IsServed asked (record { before = old; after = new }) log still writer sealed (Err fault)
   faulted Read told = absurd (no_read (bundle_to_log asked.log_taken came) asked.terms asked.now asked.words came (record { before = old; after = new }) log still writer sealed told)
   faulted Write told = (came, arrives, spoke, told)

@@ -22,7 +22,7 @@ mod sign_outs;
 mod walks;
 
 use ends::ended_otherwise;
-use facts::{JsonReply, Place, READ_WRITE, Says, Token};
+use facts::{Place, READ_WRITE, Says, Token, Told};
 use orders::{Case, Row, Said, tells};
 use tk_handle::Kind;
 use tk_ledger::State;
@@ -50,20 +50,20 @@ const ANOTHER_CLIENT: Place = (1, 4);
 const CODE: Token = ((1, 3), Kind::Code, 24);
 
 // A client, a consent and a code.
-const BEFORE_GRANTS: &[JsonReply] = &[ADDED, GIVEN, ISSUED];
+const BEFORE_GRANTS: &[Told] = &[ADDED, GIVEN, ISSUED];
 
-const ADDED: JsonReply = (CLIENT, Says::ClientAdded);
+const ADDED: Told = (CLIENT, Says::ClientAdded);
 
-const GIVEN: JsonReply = (CONSENT, Says::ConsentGiven(CLIENT, READ_WRITE));
+const GIVEN: Told = (CONSENT, Says::ConsentGiven(CLIENT, READ_WRITE));
 
-const ISSUED: JsonReply = ((1, 3), Says::CodeIssued(24, CLIENT, CONSENT));
+const ISSUED: Told = ((1, 3), Says::CodeIssued(24, CLIENT, CONSENT));
 
 // Cut off from each other, both regions redeem the code.
-const REDEEMED: JsonReply = ((1, 4), Says::CodeRedeemed((1, 3), (42, 45)));
+const REDEEMED: Told = ((1, 4), Says::CodeRedeemed((1, 3), (42, 45)));
 
-const REDEEMED_AGAIN: JsonReply = ((2, 1), Says::CodeRedeemed((1, 3), (48, 51)));
+const REDEEMED_AGAIN: Told = ((2, 1), Says::CodeRedeemed((1, 3), (48, 51)));
 
-const TWO_REDEMPTIONS: &[JsonReply] = &[ADDED, GIVEN, ISSUED, REDEEMED, REDEEMED_AGAIN];
+const TWO_REDEMPTIONS: &[Told] = &[ADDED, GIVEN, ISSUED, REDEEMED, REDEEMED_AGAIN];
 
 const CUT_OFF: &[Case] = &[("two redemptions", TWO_REDEMPTIONS, 120, REDEEMED_TWICE)];
 
@@ -87,7 +87,7 @@ const REDEEMED_ONCE: &[Row] = &[
     ("access of 2:1", ((2, 1), Kind::Access, 48), Said::Unseen),
 ];
 
-const ONE_REDEMPTION: &[JsonReply] = &[ADDED, GIVEN, ISSUED, REDEEMED];
+const ONE_REDEMPTION: &[Told] = &[ADDED, GIVEN, ISSUED, REDEEMED];
 
 const NOT_CUT_OFF: &[Case] = &[("one redemption", ONE_REDEMPTION, 24, REDEEMED_ONCE)];
 
@@ -97,13 +97,13 @@ fn a_code_redeemed_once_is_used(rt: HostRuntime) {
 }
 
 // Two refreshes at once: both regions rotate the refresh token.
-const MINTED: JsonReply = ((1, 4), Says::CodeRedeemed((1, 3), (36, 39)));
+const MINTED: Told = ((1, 4), Says::CodeRedeemed((1, 3), (36, 39)));
 
-const ROTATED: JsonReply = ((1, 5), Says::RefreshRotated((1, 4), 1, (54, 57)));
+const ROTATED: Told = ((1, 5), Says::RefreshRotated((1, 4), 1, (54, 57)));
 
-const ROTATED_AGAIN: JsonReply = ((2, 1), Says::RefreshRotated((1, 4), 1, (60, 63)));
+const ROTATED_AGAIN: Told = ((2, 1), Says::RefreshRotated((1, 4), 1, (60, 63)));
 
-const TWO_ROTATIONS: &[JsonReply] = &[ADDED, GIVEN, ISSUED, MINTED, ROTATED, ROTATED_AGAIN];
+const TWO_ROTATIONS: &[Told] = &[ADDED, GIVEN, ISSUED, MINTED, ROTATED, ROTATED_AGAIN];
 
 const AT_ONCE: &[Case] = &[("two rotations", TWO_ROTATIONS, 720, REFRESHED_TWICE)];
 
@@ -129,7 +129,7 @@ const REFRESHED_ONCE: &[Row] = &[
     ("refresh of 1:5", ((1, 5), Kind::Refresh, 57), LIVE),
 ];
 
-const ONE_ROTATION: &[JsonReply] = &[ADDED, GIVEN, ISSUED, MINTED, ROTATED];
+const ONE_ROTATION: &[Told] = &[ADDED, GIVEN, ISSUED, MINTED, ROTATED];
 
 const ALONE: &[Case] = &[("one rotation", ONE_ROTATION, 120, REFRESHED_ONCE)];
 
@@ -169,34 +169,27 @@ const REFRESH: Token = ((1, 5), Kind::Refresh, 51);
 // The refresh token by a guessed digest.
 const GUESS: Token = ((1, 5), Kind::Refresh, 52);
 
-const OTHER_ADDED: JsonReply = (ANOTHER_CLIENT, Says::ClientAdded);
+const OTHER_ADDED: Told = (ANOTHER_CLIENT, Says::ClientAdded);
 
-const GRANTED: JsonReply = ((1, 5), Says::CodeRedeemed((1, 3), (48, 51)));
+const GRANTED: Told = ((1, 5), Says::CodeRedeemed((1, 3), (48, 51)));
 
 // Two clients, the first one's tokens, and a revocation of one of these that is made where no token
 // is known yet. The revocations: of the access token by another client, of the access token by its
 // own client, of the refresh token, and by a guessed digest.
 #[rattlefmt::skip]
-const ACCESS_BY_ANOTHER: &[JsonReply] =
+const ACCESS_BY_ANOTHER: &[Told] =
     &[ADDED, GIVEN, ISSUED, OTHER_ADDED, GRANTED, ((2, 1), Says::TokenRevoked(ACCESS, ANOTHER_CLIENT))];
 
 #[rattlefmt::skip]
-const ACCESS_BY_CLIENT: &[JsonReply] =
+const ACCESS_BY_CLIENT: &[Told] =
     &[ADDED, GIVEN, ISSUED, OTHER_ADDED, GRANTED, ((2, 1), Says::TokenRevoked(ACCESS, CLIENT))];
 
-const TOKEN_REVOKED: JsonReply = ((2, 1), Says::TokenRevoked(REFRESH, CLIENT));
+const TOKEN_REVOKED: Told = ((2, 1), Says::TokenRevoked(REFRESH, CLIENT));
 
-const REFRESH_BY_CLIENT: &[JsonReply] = &[
-    ADDED,
-    GIVEN,
-    ISSUED,
-    OTHER_ADDED,
-    GRANTED,
-    TOKEN_REVOKED,
-];
+const REFRESH_BY_CLIENT: &[Told] = &[ADDED, GIVEN, ISSUED, OTHER_ADDED, GRANTED, TOKEN_REVOKED];
 
 #[rattlefmt::skip]
-const GUESSED: &[JsonReply] =
+const GUESSED: &[Told] =
     &[ADDED, GIVEN, ISSUED, OTHER_ADDED, GRANTED, ((2, 1), Says::TokenRevoked(GUESS, CLIENT))];
 
 const NOT_REVOKED: &[Row] = &[
@@ -245,14 +238,14 @@ fn a_revoked_refresh_token_kills_its_family(rt: HostRuntime) {
     tells(&rt, rt.alloc(), REFRESH_REVOCATIONS);
 }
 
-const SEEN: JsonReply = ((2, 1), Says::ReuseSeen((1, 3), Kind::Code));
+const SEEN: Told = ((2, 1), Says::ReuseSeen((1, 3), Kind::Code));
 
 const REUSED: &[Row] = &[
     ("the code", CODE, DEAD),
     ("the access token", ((1, 4), Kind::Access, 42), DEAD),
 ];
 
-const ONE_REUSE: &[JsonReply] = &[ADDED, GIVEN, ISSUED, REDEEMED, SEEN];
+const ONE_REUSE: &[Told] = &[ADDED, GIVEN, ISSUED, REDEEMED, SEEN];
 
 const REUSES: &[Case] = &[("a reuse of the code", ONE_REUSE, 120, REUSED)];
 
@@ -263,20 +256,20 @@ fn a_reuse_that_was_seen_kills_its_family(rt: HostRuntime) {
 
 // A family with one rotation, and one more fact that changes nothing in the family.
 #[rattlefmt::skip]
-const FAMILY: &[JsonReply] =
+const FAMILY: &[Told] =
     &[ADDED, GIVEN, ISSUED, REDEEMED, ROTATED, ((2, 1), Says::ClientAdded)];
 
 #[rattlefmt::skip]
-const CLIENT_GONE: &[JsonReply] =
+const CLIENT_GONE: &[Told] =
     &[ADDED, GIVEN, ISSUED, REDEEMED, ROTATED, ((2, 1), Says::ClientRetired(CLIENT))];
 
 #[rattlefmt::skip]
-const CONSENT_GONE: &[JsonReply] =
+const CONSENT_GONE: &[Told] =
     &[ADDED, GIVEN, ISSUED, REDEEMED, ROTATED, ((2, 1), Says::ConsentWithdrawn(CONSENT))];
 
 // The retirement of an unknown client doesn't retire this one.
 #[rattlefmt::skip]
-const OTHER_GONE: &[JsonReply] =
+const OTHER_GONE: &[Told] =
     &[ADDED, GIVEN, ISSUED, REDEEMED, ROTATED, ((2, 1), Says::ClientRetired((7, 7)))];
 
 const SERVES_NO_MORE: &[Row] = &[("the access token", LAST_ACCESS, WITHDRAWN)];
@@ -324,7 +317,7 @@ fn a_handle_is_wrong_by_its_kind_or_its_digest(rt: HostRuntime) {
 
 // Rotations in a ring, one of a generation that doesn't fit, a redemption of a client, and uses
 // that differ in generation.
-const HOSTILE: &[JsonReply] = &[
+const HOSTILE: &[Told] = &[
     ADDED,
     GIVEN,
     ISSUED,
@@ -346,7 +339,7 @@ fn hostile_facts_are_broken(rt: HostRuntime) {
 }
 
 // The rotation doesn't fit, because its generation isn't 1. The refresh token is used all the same.
-const STRAY: JsonReply = ((8, 1), Says::RefreshRotated((1, 4), 7, (1, 2)));
+const STRAY: Told = ((8, 1), Says::RefreshRotated((1, 4), 7, (1, 2)));
 
 const USED_ONCE: &[Row] = &[
     ("the refresh token", USED_REFRESH, USED),
@@ -358,19 +351,19 @@ const USED_TWICE: &[Row] = &[
     ("the stray", ((8, 1), Kind::Access, 1), BROKEN_ACCESS),
 ];
 
-const STRAY_ALONE: &[JsonReply] = &[ADDED, GIVEN, ISSUED, REDEEMED, STRAY];
+const STRAY_ALONE: &[Told] = &[ADDED, GIVEN, ISSUED, REDEEMED, STRAY];
 
-const STRAY_BESIDE: &[JsonReply] = &[ADDED, GIVEN, ISSUED, REDEEMED, ROTATED, STRAY];
+const STRAY_BESIDE: &[Told] = &[ADDED, GIVEN, ISSUED, REDEEMED, ROTATED, STRAY];
 
 // The generation is one more than fits the rotation that is named.
-const SKIPPING: JsonReply = ((8, 1), Says::RefreshRotated((1, 5), 3, (1, 2)));
+const SKIPPING: Told = ((8, 1), Says::RefreshRotated((1, 5), 3, (1, 2)));
 
 const SKIPPED: &[Row] = &[
     ("the refresh token", LAST_REFRESH, USED),
     ("the skipping", ((8, 1), Kind::Access, 1), BROKEN_ACCESS),
 ];
 
-const ONE_SKIPPING: &[JsonReply] = &[ADDED, GIVEN, ISSUED, REDEEMED, ROTATED, SKIPPING];
+const ONE_SKIPPING: &[Told] = &[ADDED, GIVEN, ISSUED, REDEEMED, ROTATED, SKIPPING];
 
 const STRAYS: &[Case] = &[
     ("alone", STRAY_ALONE, 120, USED_ONCE),

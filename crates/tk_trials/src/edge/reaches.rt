@@ -7,30 +7,30 @@ use tk_handle::Moment;
 use tk_message::StatusCode;
 
 // A reply with its status.
-type JsonReply = (StatusCode, &'static [u8]);
+type Told = (StatusCode, &'static [u8]);
 
-const UNKNOWN: JsonReply = (
+const UNKNOWN: Told = (
     StatusCode::NotFound,
     b"HTTP/1.1 404 Not Found\r\nContent-Type: application/json\r\nContent-Length: 21\r\n\
         Cache-Control: no-store\r\nPragma: no-cache\r\nConnection: close\r\n\r\n\
         {\"error\":\"not_found\"}",
 );
 
-const ONLY_GET: JsonReply = (
+const ONLY_GET: Told = (
     StatusCode::MethodNotAllowed,
     b"HTTP/1.1 405 Method Not Allowed\r\nContent-Type: application/json\r\nContent-Length: 30\r\n\
         Cache-Control: no-store\r\nPragma: no-cache\r\nConnection: close\r\nAllow: GET\r\n\r\n\
         {\"error\":\"method_not_allowed\"}",
 );
 
-const ONLY_POST: JsonReply = (
+const ONLY_POST: Told = (
     StatusCode::MethodNotAllowed,
     b"HTTP/1.1 405 Method Not Allowed\r\nContent-Type: application/json\r\nContent-Length: 30\r\n\
         Cache-Control: no-store\r\nPragma: no-cache\r\nConnection: close\r\nAllow: POST\r\n\r\n\
         {\"error\":\"method_not_allowed\"}",
 );
 
-const GET_AND_POST: JsonReply = (
+const GET_AND_POST: Told = (
     StatusCode::MethodNotAllowed,
     b"HTTP/1.1 405 Method Not Allowed\r\nContent-Type: application/json\r\nContent-Length: 30\r\n\
         Cache-Control: no-store\r\nPragma: no-cache\r\nConnection: close\r\n\
@@ -39,14 +39,14 @@ const GET_AND_POST: JsonReply = (
 );
 
 // The reply to a body that is cut short.
-const CUT: JsonReply = (
+const CUT: Told = (
     StatusCode::BadRequest,
     b"HTTP/1.1 400 Bad Request\r\nContent-Type: application/json\r\nContent-Length: 23\r\n\
         Cache-Control: no-store\r\nPragma: no-cache\r\nConnection: close\r\n\r\n\
         {\"error\":\"bad_request\"}",
 );
 
-const TOO_LARGE: JsonReply = (
+const TOO_LARGE: Told = (
     StatusCode::ContentTooLarge,
     b"HTTP/1.1 413 Content Too Large\r\nContent-Type: application/json\r\nContent-Length: 21\r\n\
         Cache-Control: no-store\r\nPragma: no-cache\r\nConnection: close\r\n\r\n\
@@ -54,14 +54,14 @@ const TOO_LARGE: JsonReply = (
 );
 
 // The vector of a region without facts.
-const VECTOR: JsonReply = (
+const VECTOR: Told = (
     StatusCode::Ok,
     b"HTTP/1.1 200 OK\r\nContent-Type: application/octet-stream\r\nContent-Length: 6\r\n\
         Cache-Control: no-store\r\nPragma: no-cache\r\nConnection: close\r\n\r\nOTV1\x00\x00",
 );
 
 // A request, and the reply to it at `Clients`, at `Admin` and at `All`.
-type Row = (&'static [u8], JsonReply, JsonReply, JsonReply);
+type Row = (&'static [u8], Told, Told, Told);
 
 // A method that no path has, so that a path that is served names its own methods.
 const PATHS: &[Row] = &[
@@ -197,7 +197,7 @@ fn is_served(
     reach: Reach,
     bytes: &[u8],
     is_over: bool,
-    told: Option<JsonReply>,
+    told: Option<Told>,
 ) -> bool {
     let Some(now) = Moment::new(1_000) else {
         return false;
@@ -226,7 +226,7 @@ fn is_served(
 }
 
 // Returns whether a request gets this reply at a reach, as a stream and over a connection.
-fn is_told(alloc: Global, edge: &mut Edge, reach: Reach, request: &[u8], told: JsonReply) -> bool {
+fn is_told(alloc: Global, edge: &mut Edge, reach: Reach, request: &[u8], told: Told) -> bool {
     is_answered(alloc, edge, reach, request, told)
         && is_served(alloc, edge, reach, request, true, Some(told))
 }

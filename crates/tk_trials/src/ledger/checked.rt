@@ -3,7 +3,7 @@
 //! No row shows these rules, because bytes of such a fact aren't read. The types of a fact's fields
 //! keep the limits of subjects, URIs and challenges, so that `Limit` is never returned.
 
-use super::facts::{JsonReply, fact};
+use super::facts::{Told, fact};
 use super::{ISSUED, REDEEMED, ROTATED, SEEN, TOKEN_REVOKED};
 use std::alloc::Global;
 use tk_fact::{Body, CodeIssued, CodeRedeemed, Fact, FactError, RefreshRotated};
@@ -77,7 +77,7 @@ fn breaks_range(fact: &mut Fact, change: Change) -> Option<bool> {
     }
 }
 
-fn is_out_of_range(alloc: Global, told: &JsonReply, change: Change) -> Option<bool> {
+fn is_out_of_range(alloc: Global, told: &Told, change: Change) -> Option<bool> {
     match &mut fact(alloc, told) {
         Some(fact) => breaks_range(fact, change),
         None => None,
@@ -86,7 +86,7 @@ fn is_out_of_range(alloc: Global, told: &JsonReply, change: Change) -> Option<bo
 
 // A code begins at 1,000, and tokens begin at 1,010.
 #[rattlefmt::skip]
-const CHANGES: &[(&str, JsonReply, Change, bool)] = &[
+const CHANGES: &[(&str, Told, Change, bool)] = &[
     ("no generation", ROTATED, Change::Generation(0), true),
     ("the first generation", ROTATED, Change::Generation(1), false),
     ("the last generation", ROTATED, Change::Generation(10_000), false),

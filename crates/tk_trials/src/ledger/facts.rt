@@ -38,7 +38,7 @@ pub(super) enum Says {
 }
 
 /// A fact: its dot and its body.
-pub(super) type JsonReply = (Place, Says);
+pub(super) type Told = (Place, Says);
 
 pub(super) fn dot(place: Place) -> Option<Dot> {
     let region = RegionNumber::new(place.0)?;
@@ -165,7 +165,7 @@ fn signed_out(alloc: Global, at: Place, subject: &[u8], moment: u64) -> Option<V
 }
 
 // Returns the bytes of a fact.
-fn bytes_of(alloc: Global, told: &JsonReply) -> Option<Vec<u8>> {
+fn bytes_of(alloc: Global, told: &Told) -> Option<Vec<u8>> {
     let (place, says) = *told;
     match says {
         Says::ClientAdded => joined(alloc, &[&spelled(place), ADDED]),
@@ -190,7 +190,7 @@ fn bytes_of(alloc: Global, told: &JsonReply) -> Option<Vec<u8>> {
 }
 
 /// Reads the fact of its bytes; `None` if memory runs out.
-pub(super) fn fact(alloc: Global, told: &JsonReply) -> Option<Fact> {
+pub(super) fn fact(alloc: Global, told: &Told) -> Option<Fact> {
     match &bytes_of(alloc, told) {
         Some(bytes) => Fact::read(alloc, bytes.as_slice()).ok(),
         None => None,

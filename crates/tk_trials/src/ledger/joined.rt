@@ -5,7 +5,7 @@
 //! fact isn't added. A join takes over skipped dots and the horizon, unless a fact that lasts is
 //! held at a skipped dot.
 
-use super::facts::{JsonReply, Place, Says, dot, fact};
+use super::facts::{Place, Says, Told, dot, fact};
 use super::orders::{Addition, add_to_ledger};
 use super::refused::fresh;
 use super::{ADDED, GIVEN, ISSUED, REDEEMED, REDEEMED_AGAIN, TWO_REDEMPTIONS};
@@ -16,16 +16,16 @@ use tk_store::{AddError, FactStore};
 use tk_vector::{Join, JoinError};
 
 // The facts of the regions 1 and 2: each has the code and its own redemption.
-const FIRST: &[JsonReply] = &[ADDED, GIVEN, ISSUED, REDEEMED];
+const FIRST: &[Told] = &[ADDED, GIVEN, ISSUED, REDEEMED];
 
-const SECOND: &[JsonReply] = &[ADDED, GIVEN, ISSUED, REDEEMED_AGAIN];
+const SECOND: &[Told] = &[ADDED, GIVEN, ISSUED, REDEEMED_AGAIN];
 
-const DIRECTIONS: [[&[JsonReply]; 2]; 2] = [[FIRST, SECOND], [SECOND, FIRST]];
+const DIRECTIONS: [[&[Told]; 2]; 2] = [[FIRST, SECOND], [SECOND, FIRST]];
 
 // Other tokens at the dot of region 1's redemption.
-const CLASH: JsonReply = ((1, 4), Says::CodeRedeemed((1, 3), (48, 51)));
+const CLASH: Told = ((1, 4), Says::CodeRedeemed((1, 3), (48, 51)));
 
-const CLASHING: &[JsonReply] = &[ADDED, GIVEN, ISSUED, CLASH];
+const CLASHING: &[Told] = &[ADDED, GIVEN, ISSUED, CLASH];
 
 // Returns whether the first set becomes the union: all facts, and no others.
 fn joins<J: Join>(one: &mut J, other: &J, all: &J) -> bool {
@@ -37,7 +37,7 @@ fn is_apart<J: Join>(one: &mut J, other: &J, before: &J) -> bool {
     one.join_from(other) == Err(JoinError::Apart) && before.below(one) && one.below(before)
 }
 
-fn ledgers_join(alloc: Global, [one, other]: [&[JsonReply]; 2]) -> Option<bool> {
+fn ledgers_join(alloc: Global, [one, other]: [&[Told]; 2]) -> Option<bool> {
     let mut one = fresh(alloc, one)?;
     let other = fresh(alloc, other)?;
     let all = fresh(alloc, TWO_REDEMPTIONS)?;
@@ -58,7 +58,7 @@ fn ledgers_of_two_regions_are_joined_in_both_directions(rt: HostRuntime) {
     }
 }
 
-fn add_to_store(alloc: Global, store: &mut FactStore, told: &JsonReply) -> Addition {
+fn add_to_store(alloc: Global, store: &mut FactStore, told: &Told) -> Addition {
     let fact = fact(alloc, told)?;
     match fact.check() {
         Ok(()) => Some(store.add(fact)),
@@ -69,7 +69,7 @@ fn add_to_store(alloc: Global, store: &mut FactStore, told: &JsonReply) -> Addit
     }
 }
 
-fn are_stored(alloc: Global, store: &mut FactStore, facts: &[JsonReply]) -> bool {
+fn are_stored(alloc: Global, store: &mut FactStore, facts: &[Told]) -> bool {
     for told in facts {
         if !matches!(add_to_store(alloc, store, told), Some(Ok(_))) {
             return false;
@@ -78,7 +78,7 @@ fn are_stored(alloc: Global, store: &mut FactStore, facts: &[JsonReply]) -> bool
     true
 }
 
-fn stored(alloc: Global, facts: &[JsonReply]) -> Option<FactStore> {
+fn stored(alloc: Global, facts: &[Told]) -> Option<FactStore> {
     let mut store = FactStore::new(alloc);
     if are_stored(alloc, &mut store, facts) {
         Some(store)
@@ -88,7 +88,7 @@ fn stored(alloc: Global, facts: &[JsonReply]) -> Option<FactStore> {
     }
 }
 
-fn stores_join(alloc: Global, [one, other]: [&[JsonReply]; 2]) -> Option<bool> {
+fn stores_join(alloc: Global, [one, other]: [&[Told]; 2]) -> Option<bool> {
     let mut one = stored(alloc, one)?;
     let other = stored(alloc, other)?;
     let all = stored(alloc, TWO_REDEMPTIONS)?;
@@ -141,7 +141,7 @@ fn sets_with_two_facts_at_a_dot_are_apart(rt: HostRuntime) {
 }
 
 // Returns a ledger of the facts, with a dot skipped and the horizon at 5,000.
-fn marked(alloc: Global, facts: &[JsonReply], at: Place) -> Option<Ledger> {
+fn marked(alloc: Global, facts: &[Told], at: Place) -> Option<Ledger> {
     let (at, horizon) = (dot(at)?, Moment::new(5_000)?);
     let mut ledger = fresh(alloc, facts)?;
     ledger.raise_horizon(horizon);

@@ -1,7 +1,7 @@
 //! A family of ten thousand rotations: its last tokens cost no more look-ups than its first.
 
 use super::BEFORE_GRANTS;
-use super::facts::{JsonReply, Says, handle};
+use super::facts::{Says, Told, handle};
 use super::orders::add_to_ledger;
 use std::alloc::Global;
 use std::rt::Clock;
@@ -11,7 +11,7 @@ use tk_family::Steps;
 use tk_handle::{Handle, Kind, Moment};
 use tk_ledger::{Ledger, State, Status};
 
-fn is_taken(alloc: Global, ledger: &mut Ledger, told: &JsonReply) -> bool {
+fn is_taken(alloc: Global, ledger: &mut Ledger, told: &Told) -> bool {
     matches!(add_to_ledger(alloc, ledger, told), Some(Ok(_)))
 }
 

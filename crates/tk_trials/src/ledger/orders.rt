@@ -1,6 +1,6 @@
 //! Ledgers of facts that arrive in any order: each beside a plain one, which agrees.
 
-use super::facts::{JsonReply, Place, Token, dot, fact, handle};
+use super::facts::{Place, Token, Told, dot, fact, handle};
 use super::plain::PlainLedger;
 use std::alloc::Global;
 use std::process::Abort;
@@ -30,7 +30,7 @@ impl Both {
 /// How an addition ended; `None` if there was no memory for the fact itself.
 pub(super) type Addition = Option<Result<Added, AddError>>;
 
-pub(super) fn add_to_ledger(alloc: Global, ledger: &mut Ledger, told: &JsonReply) -> Addition {
+pub(super) fn add_to_ledger(alloc: Global, ledger: &mut Ledger, told: &Told) -> Addition {
     let fact = fact(alloc, told)?;
     match fact.check() {
         Ok(()) => Some(ledger.add(fact)),
@@ -41,7 +41,7 @@ pub(super) fn add_to_ledger(alloc: Global, ledger: &mut Ledger, told: &JsonReply
     }
 }
 
-fn add_to_plain(alloc: Global, plain: &mut PlainLedger, told: &JsonReply) -> Addition {
+fn add_to_plain(alloc: Global, plain: &mut PlainLedger, told: &Told) -> Addition {
     let fact = fact(alloc, told)?;
     match fact.check() {
         Ok(()) => Some(plain.add(fact)),
@@ -54,7 +54,7 @@ fn add_to_plain(alloc: Global, plain: &mut PlainLedger, told: &JsonReply) -> Add
 
 // Adds a fact to both ledgers. `None` means that they differ, or that there is no memory for the
 // fact.
-pub(super) fn add_to_both(alloc: Global, both: &mut Both, told: &JsonReply) -> Addition {
+pub(super) fn add_to_both(alloc: Global, both: &mut Both, told: &Told) -> Addition {
     let added = add_to_ledger(alloc, &mut both.ledger, told)?;
     if add_to_plain(alloc, &mut both.plain, told)? == added {
         Some(added)
@@ -63,7 +63,7 @@ pub(super) fn add_to_both(alloc: Global, both: &mut Both, told: &JsonReply) -> A
     }
 }
 
-pub(super) fn copied(alloc: Global, facts: &[JsonReply]) -> Option<Vec<JsonReply>> {
+pub(super) fn copied(alloc: Global, facts: &[Told]) -> Option<Vec<Told>> {
     let mut copied = Vec::new(alloc);
     for told in facts {
         if copied.push(*told).is_err() {
@@ -74,7 +74,7 @@ pub(super) fn copied(alloc: Global, facts: &[JsonReply]) -> Option<Vec<JsonReply
 }
 
 // Adds the facts left, if they can be added. Each remainder chooses the next one.
-fn are_left_added(alloc: Global, both: &mut Both, left: &mut Vec<JsonReply>, order: usize) -> bool {
+fn are_left_added(alloc: Global, both: &mut Both, left: &mut Vec<Told>, order: usize) -> bool {
     let mut order = order;
     for count in (1..=left.len()).rev() {
         let at = order % count;
@@ -90,7 +90,7 @@ fn are_left_added(alloc: Global, both: &mut Both, left: &mut Vec<JsonReply>, ord
 }
 
 // Returns whether the facts can be added in the order of this number, and all are held then.
-fn are_added(alloc: Global, both: &mut Both, facts: &[JsonReply], order: usize) -> bool {
+fn are_added(alloc: Global, both: &mut Both, facts: &[Told], order: usize) -> bool {
     match &mut copied(alloc, facts) {
         Some(left) => {
             are_left_added(alloc, both, left, order)
@@ -101,7 +101,7 @@ fn are_added(alloc: Global, both: &mut Both, facts: &[JsonReply], order: usize) 
 }
 
 // Returns the ledgers of the facts, added in the order of this number, if all are held then.
-pub(super) fn in_order(alloc: Global, facts: &[JsonReply], order: usize) -> Option<Both> {
+pub(super) fn in_order(alloc: Global, facts: &[Told], order: usize) -> Option<Both> {
     let mut both = Both::new(alloc);
     if are_added(alloc, &mut both, facts, order) {
         Some(both)
@@ -166,7 +166,7 @@ fn missed(both: &Both, rows: &[Row]) -> Option<&'static str> {
 // Returns the first row whose status differs, for facts added in the order of this number.
 fn missed_in_order(
     alloc: Global,
-    facts: &[JsonReply],
+    facts: &[Told],
     order: usize,
     rows: &[Row],
 ) -> Option<&'static str> {
@@ -183,7 +183,7 @@ fn missed_in_order(
 // Returns the order and the first row whose status differs at 1,020, in any order of the facts.
 fn first_miss(
     alloc: Global,
-    facts: &[JsonReply],
+    facts: &[Told],
     orders: usize,
     rows: &[Row],
 ) -> Option<(usize, &'static str)> {
@@ -197,7 +197,7 @@ fn first_miss(
 
 /// A case: its name, facts, how many of their orders are tried, and the expected standing of
 /// tokens.
-pub(super) type Case = (&'static str, &'static [JsonReply], usize, &'static [Row]);
+pub(super) type Case = (&'static str, &'static [Told], usize, &'static [Row]);
 
 /// Asserts the standing of each case's tokens at 1,020, in all orders of its facts.
 pub(super) fn tells(rt: &impl Abort, alloc: Global, cases: &[Case]) {

@@ -3,7 +3,7 @@
 //! The tests run with each allocation refused in turn, as docs/GATE.md describes. A step that was
 //! refused memory succeeds when it is taken again.
 
-use super::facts::{JsonReply, Place, Says, dot};
+use super::facts::{Place, Says, Told, dot};
 use super::orders::add_to_ledger;
 use super::refused::{Asked, TOKENS, agree, is_told};
 use super::{ADDED, GIVEN, ISSUED};
@@ -18,16 +18,16 @@ use tk_store::AddError;
 // A step: a fact, a dot to skip, or the moment of a prune.
 #[derive(Clone, Copy)]
 enum Step {
-    Add(JsonReply),
+    Add(Told),
     Skip(Place),
     Prune(u64),
 }
 
-const REDEEMED: JsonReply = ((1, 4), Says::CodeRedeemed((1, 3), (7, 8)));
+const REDEEMED: Told = ((1, 4), Says::CodeRedeemed((1, 3), (7, 8)));
 
-const ROTATED: JsonReply = ((1, 5), Says::RefreshRotated((1, 4), 1, (7, 8)));
+const ROTATED: Told = ((1, 5), Says::RefreshRotated((1, 4), 1, (7, 8)));
 
-const REDEEMED_AGAIN: JsonReply = ((2, 1), Says::CodeRedeemed((1, 3), (7, 8)));
+const REDEEMED_AGAIN: Told = ((2, 1), Says::CodeRedeemed((1, 3), (7, 8)));
 
 const STEPS: &[Step] = &[
     // A family whose facts arrive before their parents, and which dies by a second use.

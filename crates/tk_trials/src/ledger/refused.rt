@@ -3,7 +3,7 @@
 //! The tests run with each allocation refused in turn, as docs/GATE.md describes. If no
 //! allocation is refused, all facts are held.
 
-use super::facts::{ANN, JsonReply, Place, Says, Token, dot, handle};
+use super::facts::{ANN, Place, Says, Token, Told, dot, handle};
 use super::orders::{Case, Row, add_to_ledger, copied};
 use super::same::{same_clients, same_consents, same_statuses};
 use super::{ADDED, AT_ONCE, CUT_OFF, GIVEN, ISSUED, REVOKED_BY};
@@ -20,7 +20,7 @@ use tk_store::AddError;
 const PLACES: [Place; 6] = [(1, 1), (1, 2), (1, 3), (1, 4), (1, 5), (2, 1)];
 
 // At least one fact of each kind, with facts that wait for the code that they are under.
-const FACTS: &[JsonReply] = &[
+const FACTS: &[Told] = &[
     // Facts that wait for others: rotations, a revocation and a redemption.
     ((1, 5), Says::RefreshRotated((1, 4), 1, (7, 8))),
     (
@@ -128,7 +128,7 @@ pub(super) fn agree(left: &Ledger, right: &Ledger, asked: &Asked<'_>) -> bool {
 
 // ---- additions, each of which returns `None` if memory ran out outside the ledger that is tested
 
-fn are_added(alloc: Global, ledger: &mut Ledger, facts: &[JsonReply]) -> bool {
+fn are_added(alloc: Global, ledger: &mut Ledger, facts: &[Told]) -> bool {
     for told in facts {
         if !matches!(add_to_ledger(alloc, ledger, told), Some(Ok(_))) {
             return false;
@@ -138,7 +138,7 @@ fn are_added(alloc: Global, ledger: &mut Ledger, facts: &[JsonReply]) -> bool {
 }
 
 // Returns a ledger of the facts, for which no allocation was refused.
-pub(super) fn fresh(alloc: Global, facts: &[JsonReply]) -> Option<Ledger> {
+pub(super) fn fresh(alloc: Global, facts: &[Told]) -> Option<Ledger> {
     let mut ledger = Ledger::new(alloc);
     if are_added(alloc, &mut ledger, facts) {
         Some(ledger)
@@ -154,7 +154,7 @@ fn is_taken(
     alloc: Global,
     ledger: &mut Ledger,
     before: &Ledger,
-    told: &JsonReply,
+    told: &Told,
     asked: &Asked<'_>,
 ) -> Option<bool> {
     match add_to_ledger(alloc, ledger, told)? {
@@ -177,8 +177,8 @@ fn is_taken(
 fn next_is_taken(
     alloc: Global,
     ledger: &mut Ledger,
-    facts: &[JsonReply],
-    told: &JsonReply,
+    facts: &[Told],
+    told: &Told,
     asked: &Asked<'_>,
 ) -> Option<bool> {
     let before = fresh(alloc, facts)?;
@@ -188,12 +188,7 @@ fn next_is_taken(
 }
 
 // Returns whether the ledger agrees with a new one of all facts.
-fn is_as_fresh(
-    alloc: Global,
-    ledger: &Ledger,
-    facts: &[JsonReply],
-    asked: &Asked<'_>,
-) -> Option<bool> {
+fn is_as_fresh(alloc: Global, ledger: &Ledger, facts: &[Told], asked: &Asked<'_>) -> Option<bool> {
     let all = fresh(alloc, facts)?;
     let is_so = ledger.store().len() == facts.len() as u64 && agree(ledger, &all, asked);
     drop(all);
@@ -203,7 +198,7 @@ fn is_as_fresh(
 fn all_are_taken(
     alloc: Global,
     ledger: &mut Ledger,
-    facts: &[JsonReply],
+    facts: &[Told],
     asked: &Asked<'_>,
 ) -> Option<bool> {
     for (count, told) in facts.iter().enumerate() {
@@ -215,7 +210,7 @@ fn all_are_taken(
 }
 
 // Returns whether a ledger takes all facts in this order, and agrees with a new one then.
-fn are_taken(alloc: Global, facts: &[JsonReply], asked: &Asked<'_>) -> Option<bool> {
+fn are_taken(alloc: Global, facts: &[Told], asked: &Asked<'_>) -> Option<bool> {
     let mut ledger = Ledger::new(alloc);
     let are_taken = all_are_taken(alloc, &mut ledger, facts, asked);
     drop(ledger);
@@ -223,7 +218,7 @@ fn are_taken(alloc: Global, facts: &[JsonReply], asked: &Asked<'_>) -> Option<bo
 }
 
 // The facts in their order, and then in the reverse order, in which each waits for what it names.
-fn are_taken_both_ways(alloc: Global, facts: &[JsonReply], asked: &Asked<'_>) -> Option<bool> {
+fn are_taken_both_ways(alloc: Global, facts: &[Told], asked: &Asked<'_>) -> Option<bool> {
     if !are_taken(alloc, facts, asked)? {
         return Some(false);
     }
@@ -235,7 +230,7 @@ fn are_taken_both_ways(alloc: Global, facts: &[JsonReply], asked: &Asked<'_>) ->
 // The facts in both orders, with the questions after each refusal, about the subject among others.
 fn change_no_answer_of(
     alloc: Global,
-    facts: &[JsonReply],
+    facts: &[Told],
     tokens: &[Token],
     subject: &Subject,
 ) -> Option<bool> {
@@ -254,7 +249,7 @@ fn change_no_answer_of(
     }
 }
 
-fn change_no_answer(alloc: Global, facts: &[JsonReply], tokens: &[Token]) -> Option<bool> {
+fn change_no_answer(alloc: Global, facts: &[Told], tokens: &[Token]) -> Option<bool> {
     match &Subject::read(alloc, b"ann") {
         Ok(subject) => change_no_answer_of(alloc, facts, tokens, subject),
         Err(_) => None,
@@ -272,7 +267,7 @@ fn tokens_of(alloc: Global, rows: &[Row]) -> Option<Vec<Token>> {
 }
 
 // The facts of a row, and the tokens that it is about.
-fn row_changes_no_answer(alloc: Global, facts: &[JsonReply], rows: &[Row]) -> Option<bool> {
+fn row_changes_no_answer(alloc: Global, facts: &[Told], rows: &[Row]) -> Option<bool> {
     let tokens = tokens_of(alloc, rows)?;
     change_no_answer(alloc, facts, tokens.as_slice())
 }

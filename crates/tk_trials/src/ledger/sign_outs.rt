@@ -1,7 +1,7 @@
 //! Sign-outs of a subject: which families they end, in every order of the facts, and which is the
 //! last.
 
-use super::facts::{ANN, JsonReply, Says};
+use super::facts::{ANN, Says, Told};
 use super::orders::{Both, Case, Row, in_order, tells};
 use super::{ADDED, CODE, DEAD, GIVEN, ISSUED, LIVE, REDEEMED, USED};
 use std::alloc::Global;
@@ -40,7 +40,7 @@ fn a_sign_out_kills_what_began_before_it(rt: HostRuntime) {
 }
 
 // Two sign-outs of ann, the later of which didn't arrive last, and one of bob.
-const OUTS: &[JsonReply] = &[
+const OUTS: &[Told] = &[
     ((1, 1), Says::SubjectOut(ANN, 1_020)),
     ((1, 2), Says::SubjectOut(BOB, 5_000)),
     ((2, 1), Says::SubjectOut(ANN, 1_000)),
