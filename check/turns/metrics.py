@@ -1,13 +1,12 @@
 """metrics: with --metrics operators see what the server has counted, and clients don't."""
 import re
 import time
-import unittest
 
 from lib.asking import body_of, connect, request, status_of
 from lib.command import GIVEN
 from lib.facts import dot
 from lib.server import Server
-from shared import PULL, SECONDS, Running, Syncs, await_that, refreshing, rest_of
+from shared import PULL, SECONDS, Asking, Syncs, await_that, refreshing, rest_of
 
 METRICS = "/metrics"
 UNKNOWN = request("GET", "/nowhere")
@@ -46,14 +45,7 @@ def replies(paths, figures):
             for at, count in zip((2, 3, 4, 5), figures)}
 
 
-class Metrics(unittest.TestCase):
-    def served(self, *options, **more):
-        return self.enterContext(Running(*options, **more))
-
-    def said(self, place, sent):
-        with connect(place, sent, patience=SECONDS) as peer:
-            return rest_of(peer)
-
+class Metrics(Asking):
     def shown(self, place):
         """The samples, of a text that is made anew."""
         time.sleep(LIFE)

@@ -3,7 +3,6 @@ import json
 import re
 import tempfile
 import time
-import unittest
 import urllib.parse
 
 from lib import Broken
@@ -13,7 +12,7 @@ from lib.facts import dot
 from lib.server import Server
 from refusal import Lab
 import server
-from shared import SECONDS, Running, Syncs, refreshing, rest_of
+from shared import SECONDS, Asking, Syncs, refreshing, rest_of
 
 METADATA, HEALTH = "/.well-known/oauth-authorization-server", "/health"
 METRICS = "/metrics"  # these options don't show them
@@ -50,14 +49,7 @@ def query_of(reply):
     return urllib.parse.parse_qsl(location.partition("?")[2], strict_parsing=True)
 
 
-class Notices(unittest.TestCase):
-    def served(self, *options, **more):
-        return self.enterContext(Running(*options, **more))
-
-    def said(self, place, sent):
-        with connect(place, sent, patience=SECONDS) as peer:
-            return rest_of(peer)
-
+class Notices(Asking):
     def test_metadata(self):
         for options, methods in ((), ("plain", "S256")), (("--challenge", "S256"), ("S256",)), \
                 (("--challenge", "all"), ("plain", "S256")):

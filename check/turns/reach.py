@@ -2,12 +2,11 @@
 import os
 import re
 import stat
-import unittest
 
 from lib.asking import REDIRECT_TEXT, connect, request, status_of
 from lib.command import GIVEN
 from lib.server import Server
-from shared import GET, SECONDS, post, rest_of
+from shared import GET, SECONDS, Asking, post, rest_of
 
 INNER = ("/admin/client", "/admin/retire", "/admin/consent", "/admin/withdraw", "/admin/signout",
          "/sync/vector", "/sync/pull", "/sync/push")
@@ -15,17 +14,12 @@ CLIENTS = "/authorize", "/token", "/introspect", "/revoke"
 UNKNOWN = request("GET", "/nowhere")
 
 
-class Reach(unittest.TestCase):
+class Reach(Asking):
     def served(self, *options):
         return self.enterContext(Server(GIVEN.program, *options))
 
     def at_both(self):
         return self.served("--socket", "{}/socket", "--inner", "{}/inner")
-
-    def said(self, place, sent):
-        """All that comes back of a connection that sends this."""
-        with connect(place, sent, patience=SECONDS) as peer:
-            return rest_of(peer)
 
     def are_unknown(self, place):
         """Each inner path is as any that isn't there, byte for byte, whatever the request is."""

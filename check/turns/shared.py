@@ -8,6 +8,7 @@ import socket
 import struct
 import subprocess
 import tempfile
+import unittest
 
 from lib.asking import connect, request
 from lib.command import GIVEN
@@ -136,3 +137,16 @@ def token_in(said, name="access_token"):
 def dots_in(log):
     """The dots of the facts in the whole records of a log."""
     return {it[DOT] for it in facts_of(log[:whole_records(log)])}
+
+
+class Asking(unittest.TestCase):
+    """Tests that run servers of their own, and read whole replies."""
+
+    def served(self, *options, **more):
+        """A server with these options, which ends with the test."""
+        return self.enterContext(Running(*options, **more))
+
+    def said(self, place, sent):
+        """All that comes back of a connection that sends this."""
+        with connect(place, sent, patience=SECONDS) as peer:
+            return rest_of(peer)
