@@ -4,8 +4,8 @@
 //!   `find_caller` returns the client that sends it, by `authenticate`, and `scope_asked` the scope
 //!   that is requested.
 //! - A `Reply` has a `StatusCode`, perhaps a place to redirect to, and a `Payload`. An `ErrorCode`
-//!   has a name and a status. `JsonReply` is what a JSON reply says: `JsonReply::reply` writes every
-//!   one.
+//!   has a name and a status. `JsonReply` is what a JSON reply says: `JsonReply::reply` writes
+//!   every one.
 //! - A `Decision` is a reply, and the fact that the request makes, if any. A `Place` is the dot of
 //!   that fact, how long tokens live, and the `Choices` of the region.
 //!

@@ -92,7 +92,7 @@ abbrev endpoint_in : Arrival → Option Endpoint
 endpoint_in (Asked request) = Some request.endpoint
 endpoint_in heard = None
 
--- what is told of an introspection is no revocation
+-- the answer to an introspection is no revocation
 telling : (x : RegionFields) (F : FactSet) (now : ℕ) (words : List ℕ) (heard : Arrival) (request : RequestFields) (answer : AnswerFields) (fact : Option (Dot × Body))
     → heard ≡ Asked request → request.endpoint ≡ Introspect
     → TellsBy x F now words heard answer fact

@@ -17,7 +17,7 @@ use Rattle.tokend.specs.declared.parted.Parted.{Parted}
 abbrev pub last_part : ℕ
 last_part = 9999
 
--- a log of this name begins in one file, or in the first of parts of so many bytes
+-- a log of this name begins in one file, or in the first of parts of this size in bytes
 abbrev pub BeginsAs : List ℕ → Option ℕ → Option Numbering → Type 0
 BeginsAs name None numbering = numbering ≡ None
 BeginsAs name (Some size) None = ⊥
@@ -32,7 +32,7 @@ IsFull n = (n.left ≡ 0) × (n.number < last_part)
 abbrev pub next_name : Numbering → List ℕ
 next_name n = part_name (string_bytes n.log) (suc n.number)
 
--- so many bytes were written to the part
+-- this number of bytes was written to the part
 abbrev pub wrote : ℕ → Numbering → Numbering
 wrote bytes n = record n { left = n.left - bytes }
 

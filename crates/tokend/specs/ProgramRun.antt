@@ -83,7 +83,7 @@ BeginsLines words input fault old new =
 
 -- The arguments request a service, and it has run: it was announced, and its connections were
 -- served. `kept` has the bytes of the file of a name, if they are known, `holds` those of a log,
--- and `opens` says which log a name opens, in parts of so many bytes or in one file.
+-- and `opens` says which log a name opens, in parts of a size or in one file.
 abbrev pub ServesAsked : {L : Type 0} → (List ℕ → Option (List ℕ)) → (L → Option (List ℕ))
     → (Option ℕ → List ℕ → L → Type 0) → List Text → Change → Writing → Type 0
 ServesAsked kept holds opens words output faults =

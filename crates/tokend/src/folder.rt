@@ -19,7 +19,7 @@ pub trait Folder<I: Read, L: Sink> {
     // The bytes of the file of a name, if they are known; those of a disk are not.
     ghost kept: { Self → List ℕ → Option (List ℕ) };
 
-    // The log is the one that was opened by this name, in parts of so many bytes or in one file.
+    // The log is the one that was opened by this name, in parts of a size in bytes or in one file.
     ghost opens: { Self → Option ℕ → List ℕ → L → Type 0 };
 
     /// Opens the old log of this name.
