@@ -72,3 +72,5 @@ refusal_of (bodies.RefreshRotated fact) =
 refusal_of (bodies.TokenRevoked fact) = first_broken true (is_revocable fact.token.kind)
 refusal_of (bodies.ReuseSeen fact) = first_broken true (is_used_once fact.token.kind)
 refusal_of (bodies.SubjectOut fact) = first_broken (is_subject fact.subject) true
+refusal_of (bodies.AccessRefreshed fact) =
+    first_broken true (nat_le fact.start fact.access.expiry)

@@ -80,6 +80,12 @@ subject_out_exact : IsExact fields.subject_out
 subject_out_exact = shaped_exact _ _ _ (both_exact _ _ subject_exact moment_exact) (λ _. refl)
     (λ _. refl)
 
+-- the law of the fields of AccessRefreshed
+access_refreshed_exact : IsExact fields.access_refreshed
+access_refreshed_exact =
+    shaped_exact _ _ _ (both_exact _ _ dot_field_exact (both_exact _ _ moment_exact minted_exact))
+    (λ _. refl) (λ _. refl)
+
 -- the law of the format of bodies: a row for each kind
 body_exact : IsExact body
 unfolding kinds
@@ -112,6 +118,9 @@ body_exact =
     (λ bytes. refl)
     and_then kind_exact _ _ subject_out_exact
     (elim [ bodies.SubjectOut f ↦ its _ f | b ↦ not_its _ b ]) (λ a. refl) (λ a h. h)
+    (λ bytes. refl)
+    and_then kind_exact _ _ access_refreshed_exact
+    (elim [ bodies.AccessRefreshed f ↦ its _ f | b ↦ not_its _ b ]) (λ a. refl) (λ a h. h)
     (λ bytes. refl)
     and_then no_kind_exact
 

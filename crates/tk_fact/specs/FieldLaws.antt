@@ -28,6 +28,7 @@ use Rattle.tk_fact.specs.declared.client_kind.ClientKind.TheVariants.{
   Public,
   Confidential,
   Resource,
+  Keeping,
 }
 use Rattle.tk_fact.specs.Subject.{is_visible, max_subject_bytes, is_subject}
 use Rattle.tk_fact.specs.Fields.{
@@ -98,6 +99,8 @@ client_kind_exact =
     (elim [ Confidential digest ↦ its _ digest | b ↦ not_its _ b ]) (λ a. refl) (λ a h. h)
     (λ bytes. refl)
     and_then kind_exact _ _ digest_exact (elim [ Resource digest ↦ its _ digest | b ↦ not_its _ b ])
+    (λ a. refl) (λ a h. h) (λ bytes. refl)
+    and_then kind_exact _ _ digest_exact (elim [ Keeping digest ↦ its _ digest | b ↦ not_its _ b ])
     (λ a. refl) (λ a h. h) (λ bytes. refl)
     and_then no_kind_exact
 

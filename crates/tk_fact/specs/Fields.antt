@@ -23,6 +23,7 @@ use Rattle.tk_fact.specs.declared.client_kind.ClientKind.TheVariants.{
   Public,
   Confidential,
   Resource,
+  Keeping,
 }
 use Rattle.tk_fact.specs.declared.minted_token.MintedToken.{MintedToken}
 use Rattle.tk_fact.specs.Subject.{is_subject}
@@ -41,6 +42,7 @@ client_kinds =
     and_then kind 1 Confidential
     (elim [ Confidential digest ↦ Some digest | _ ↦ None ]) digest_field
     and_then kind 2 Resource (elim [ Resource digest ↦ Some digest | _ ↦ None ]) digest_field
+    and_then kind 3 Keeping (elim [ Keeping digest ↦ Some digest | _ ↦ None ]) digest_field
     and_then no_kind
 
 -- a client kind: a byte, and behind it the digest of the secret, except for a public client

@@ -26,6 +26,7 @@ use Rattle.tk_fact.specs.declared.refresh_rotated.RefreshRotated.{RefreshRotated
 use Rattle.tk_fact.specs.declared.token_revoked.TokenRevoked.{TokenRevoked}
 use Rattle.tk_fact.specs.declared.reuse_seen.ReuseSeen.{ReuseSeen}
 use Rattle.tk_fact.specs.declared.subject_out.SubjectOut.{SubjectOut}
+use Rattle.tk_fact.specs.declared.access_refreshed.AccessRefreshed.{AccessRefreshed}
 
 -- ClientAdded: the client kind, the scope, the redirection URIs
 abbrev pub client_added : Format ClientAdded
@@ -138,3 +139,10 @@ reuse_seen = shaped (λ t. record { token = t }) (λ f. f.token) token
 abbrev pub subject_out : Format SubjectOut
 subject_out = shaped (λ (subject, at). record { subject = subject; moment = at })
     (λ f. (f.subject, f.moment)) (subject_field ⊗ moment)
+
+-- AccessRefreshed: the dot of the parent, the start, the access token
+abbrev pub access_refreshed : Format AccessRefreshed
+access_refreshed = shaped
+    (λ (parent, (start, access)). record { parent = parent; start = start; access = access })
+    (λ f. (f.parent, (f.start, f.access)))
+    (dot_field ⊗ (moment ⊗ minted_field))

@@ -26,6 +26,7 @@ use Rattle.tk_fact.specs.declared.client_kind.ClientKind.TheVariants.{
   Public,
   Confidential,
   Resource,
+  Keeping,
 }
 use Rattle.tk_fact.specs.declared.minted_token.MintedToken.{MintedToken}
 use Rattle.tk_fact.specs.declared.body.Body.{Body}
@@ -116,6 +117,7 @@ unfolding client_kinds
 client_kind_short Public fits = omega arith
 client_kind_short (Confidential d) fits = omega (arith, fits)
 client_kind_short (Resource d) fits = omega (arith, fits)
+client_kind_short (Keeping d) fits = omega (arith, fits)
 
 -- ---- lengths of bodies and facts
 
@@ -185,6 +187,13 @@ body_short (bodies.SubjectOut f) fits =
       arith,
       text_short f.subject max_subject_bytes (subject_short f.subject fits.0.1),
       moment_short f.moment,
+    ))
+body_short (bodies.AccessRefreshed f) fits =
+    simp length-append (omega (
+      arith,
+      simp length-append at (dot_short f.parent),
+      moment_short f.start,
+      simp length-append at (minted_short f.access fits.1.1),
     ))
 
 -- a fact has at most `max_bytes`

@@ -1,4 +1,4 @@
-//! The body of a fact: one of ten kinds.
+//! The body of a fact: one of eleven kinds.
 //!
 //! To add a kind:
 //!
@@ -13,16 +13,17 @@
 //! 4. `specs/FactLaws.antt`: the law of its fields, and its row in `body_exact`.
 //!    `specs/LengthLaws.antt`: its row in `body_short`; a fact has 8,192 bytes at most.
 //! 5. `specs/Check.antt`, `src/check.rt`: the rules that such a fact must keep.
-//! 6. `specs/Tokens.antt`, `src/tokens.rt`: whether the kind mints tokens or uses one;
-//!    `specs/Keeping.antt`, `src/keeping.rt`: for which token such a fact is kept. The compiler
-//!    does not require these rows.
+//! 6. `specs/Tokens.antt`, `src/tokens.rt`: whether the kind mints tokens or uses one, and by which
+//!    dot its tokens are in a family; `specs/Keeping.antt`, `src/keeping.rt`: for which token such a
+//!    fact is kept. The compiler does not require these rows.
 //! 7. `check/rows/bytes_facts.rows` at the top of the repository: its bytes at its limits, and one
-//!    past each among the bytes of no fact, where the kind 11 becomes 12.
+//!    past each among the bytes of no fact, where the kind 13 becomes 14.
 //!    `check/rows/bytes_made.rows`: a region that makes such a fact. `must-fail/`: an edit for what
 //!    the kind means.
-//! 8. tk_bundle: a row in `kind_of` of `src/version.rt`, in `VERSIONS` there, in `versions` of
-//!    `specs/Versions.antt` and in `kind_told` of `specs/VersionLaws.antt`. A build that does not
-//!    know the kind finds each bundle with such a fact malformed.
+//! 8. tk_bundle: a row in `kind_of` of `src/version.rt` and of `specs/Versions.antt`; two in the
+//!    tables of versions there, `VERSIONS` and `versions`, without marks and with them. In proofs,
+//!    rows in `fact_kind` of `specs/VersionLaws.antt` and in `body_long` of `specs/ItemLaws.antt`.
+//!    A build that does not know the kind finds each bundle with such a fact malformed.
 //! 9. tk_ledger: a row in `change_in` of `specs/Changes.antt` and in `change_of` of
 //!    `src/change.rt`, with what the kind changes in the tables. The proofs have rows in
 //!    `uses_agree` of `proofs/TokenLaws.antt`, in `issues` of `proofs/StandingLaws.antt`, and for
@@ -31,18 +32,19 @@
 //!     `reuse_of` or `IsStopped` of `specs/Tokens.antt`, `signs_out_in` of `specs/SignOuts.antt`,
 //!     `generation_of` of `specs/Status.antt`. If the kind makes or ends a client or a consent:
 //!     `specs/Clients.antt`. These definitions end in a row for all other kinds, so the compiler
-//!     does not require a new row. The tests of tk_edge restate them in
-//!     `src/tests/ledger/plain.rt`.
+//!     does not require a new row. The tests of tk_trials restate them in
+//!     `src/ledger/walks.rt`.
 //! 11. The request that makes such facts: an `Endpoint` of tk_message with its reply; the decision
 //!     in tk_authorize, tk_grant or tk_query with its row in `decision_by` of tk_region; its path
 //!     in tk_edge; perhaps a line in `src/request_line.rt` of tk_world.
-//! 12. The number of kinds: "ten" in this file, in `src/lib.rt`, in docs/GLOSSARY.md and in
-//!     docs/ARCHITECTURE.md; the kinds 1 to 10 and their list in docs/FORMATS.md; the row "fact" of
-//!     docs/DEFINITIONS.md.
+//! 12. The number of kinds: "eleven" in this file, in `src/lib.rt`, in docs/GLOSSARY.md and in
+//!     docs/ARCHITECTURE.md; the kinds 1 to 12 and their list in docs/FORMATS.md; the row "fact" of
+//!     docs/DEFINITIONS.md. The number 11 is that of marks in bundles.
 
 ghost use Rattle.std.specs.Prelude.{◌≡◌, ◌++◌, ◌∷◌, ◌↔◌, drop, IfOk, IsTrue, OnOk};
 ghost use Rattle.tk_format.specs.Reading.{Gets};
 
+use crate::access_refreshed::AccessRefreshed;
 use crate::client_added::ClientAdded;
 use crate::client_retired::ClientRetired;
 use crate::code_issued::CodeIssued;
@@ -56,7 +58,7 @@ use crate::token_revoked::TokenRevoked;
 use std::alloc::{AllocError, Global};
 use tk_format::{ReadError, Reader, Writer};
 
-/// The body of a fact: one of ten kinds.
+/// The body of a fact: one of eleven kinds.
 ///
 /// The ranges that fields document are those of a fact that passes its check.
 #[derive(Drop)]
@@ -81,6 +83,8 @@ pub enum Body {
     ReuseSeen(ReuseSeen),
     /// A subject signed out everywhere.
     SubjectOut(SubjectOut),
+    /// An access token was minted for a refresh token that its client keeps (RFC 6749, 6).
+    AccessRefreshed(AccessRefreshed),
 }
 
 impl Body {
@@ -100,6 +104,7 @@ impl Body {
             Body::TokenRevoked(fields) => Ok(Body::TokenRevoked(*fields)),
             Body::ReuseSeen(fields) => Ok(Body::ReuseSeen(*fields)),
             Body::SubjectOut(fields) => Ok(Body::SubjectOut(fields.copy(alloc)?)),
+            Body::AccessRefreshed(fields) => Ok(Body::AccessRefreshed(fields.copy(alloc)?)),
         }
     }
 
@@ -118,6 +123,7 @@ impl Body {
             (Body::TokenRevoked(left), Body::TokenRevoked(right)) => left == right,
             (Body::ReuseSeen(left), Body::ReuseSeen(right)) => left == right,
             (Body::SubjectOut(left), Body::SubjectOut(right)) => left.same(right),
+            (Body::AccessRefreshed(left), Body::AccessRefreshed(right)) => left.same(right),
             _ => false,
         }
     }
@@ -138,6 +144,7 @@ impl Body {
             Body::TokenRevoked(fields) => fields.known(),
             Body::ReuseSeen(fields) => fields.known(),
             Body::SubjectOut(fields) => fields.known(),
+            Body::AccessRefreshed(fields) => fields.known(),
         }
     }
 
@@ -171,6 +178,7 @@ impl Body {
                 None => Err(ReadError::Malformed),
             },
             10 => Ok(Body::SubjectOut(SubjectOut::read(alloc, reader)?)),
+            12 => Ok(Body::AccessRefreshed(AccessRefreshed::read(alloc, reader)?)),
             _ => Err(ReadError::Malformed),
         }
     }
@@ -199,6 +207,7 @@ impl Body {
             Body::TokenRevoked(_) => 8,
             Body::ReuseSeen(_) => 9,
             Body::SubjectOut(_) => 10,
+            Body::AccessRefreshed(_) => 12,
         }
     }
 
@@ -219,6 +228,7 @@ impl Body {
             Body::TokenRevoked(fields) => fields.write(writer),
             Body::ReuseSeen(fields) => fields.write(writer),
             Body::SubjectOut(fields) => fields.write(writer),
+            Body::AccessRefreshed(fields) => fields.write(writer),
         }
     }
 }

@@ -56,6 +56,9 @@ pub(crate) fn check_body(body: &Body) -> Result<(), FactError>
             (1..=MAX_GENERATIONS).contains(&fact.generation)
                 && end_after(fact.start, &fact.access, &fact.refresh),
         ),
+        Body::AccessRefreshed(fact) => {
+            in_range(fact.start.seconds() <= fact.access.expiry.seconds())
+        }
         Body::TokenRevoked(fact) => in_range(is_revocable(fact.token.kind)),
         Body::ReuseSeen(fact) => in_range(is_used_once(fact.token.kind)),
         Body::SubjectOut(fact) => {

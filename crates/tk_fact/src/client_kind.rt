@@ -17,6 +17,9 @@ pub enum ClientKind {
     Confidential([u8; 32]),
     /// A resource server, which introspects tokens (RFC 7662, 2.1), with the digest of its secret.
     Resource([u8; 32]),
+    /// A confidential client that keeps its refresh token: a refresh uses nothing up (RFC 6749, 6;
+    /// RFC 9700, 2.2.2), with the digest of its secret.
+    Keeping([u8; 32]),
 }
 
 impl ClientKind {
@@ -28,6 +31,7 @@ impl ClientKind {
             ClientKind::Public => {}
             ClientKind::Confidential(digest) => known_digest(*digest),
             ClientKind::Resource(digest) => known_digest(*digest),
+            ClientKind::Keeping(digest) => known_digest(*digest),
         }
     }
 
@@ -45,6 +49,10 @@ impl ClientKind {
                 let digest = read_digest(reader)?;
                 Some(ClientKind::Resource(digest))
             }
+            3 => {
+                let digest = read_digest(reader)?;
+                Some(ClientKind::Keeping(digest))
+            }
             _ => None,
         }
     }
@@ -61,6 +69,10 @@ impl ClientKind {
             }
             ClientKind::Resource(digest) => {
                 writer.put_u8(2)?;
+                writer.put_bytes(digest)
+            }
+            ClientKind::Keeping(digest) => {
+                writer.put_u8(3)?;
                 writer.put_bytes(digest)
             }
         }

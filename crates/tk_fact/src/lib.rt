@@ -1,6 +1,6 @@
 //! Facts: what a region knows, each at its dot. A fact is never changed or taken away.
 //!
-//! A `Fact` is a `Body` at a `Dot`, and a body is of one of ten kinds.
+//! A `Fact` is a `Body` at a `Dot`, and a body is of one of eleven kinds.
 //!
 //! - `Fact::check` returns which rule a fact breaks, if any.
 //! - `Fact::write` and `Fact::read` convert a fact to and from bytes: the dot, a byte for the kind,
@@ -16,10 +16,11 @@
 //! `known` do nothing at run time: they give a proof the fact that a value has a spelling.
 //! Contracts see a value as the plain value that it stands for.
 //!
-//! In reading order: `Subject`, `ClientKind`, `MintedToken`, the ten kinds from `ClientAdded` to
-//! `SubjectOut`, `Body`, `Fact`, `Minted`. `specs/Lib.antt` lists the definitions.
+//! In reading order: `Subject`, `ClientKind`, `MintedToken`, the eleven kinds from `ClientAdded`
+//! to `AccessRefreshed`, `Body`, `Fact`, `Minted`. `specs/Lib.antt` lists the definitions.
 #![tactic(auto)]
 
+mod access_refreshed;
 mod body;
 mod challenge_field;
 mod check;
@@ -45,6 +46,7 @@ mod token_revoked;
 mod tokens;
 mod uri_field;
 
+pub use access_refreshed::AccessRefreshed;
 pub use body::Body;
 pub use check::{FactError, MAX_GENERATIONS};
 pub use client_added::ClientAdded;

@@ -2,12 +2,12 @@
 
 ghost use Rattle.std.specs.Prelude.{◌≡◌};
 ghost use Rattle.std.specs.Option.{option_map};
-ghost use Rattle.tk_fact.specs.Tokens.{shown_minted, minted_at, minted_of, uses_of};
+ghost use Rattle.tk_fact.specs.Tokens.{shown_minted, anchor_of, minted_at, minted_of, uses_of};
 
 use crate::body::Body;
 use crate::fact::Fact;
 use crate::minted_token::MintedToken;
-use tk_handle::{Kind, Moment, TokenId};
+use tk_handle::{Dot, Kind, Moment, TokenId};
 use tk_scope::Scope;
 
 /// A code or token that a fact mints.
@@ -53,7 +53,21 @@ impl Fact {
             (Body::RefreshRotated(fact), Kind::Refresh) => {
                 Some(minted_at(fact.start, &fact.refresh))
             }
+            (Body::AccessRefreshed(fact), Kind::Access) => {
+                Some(minted_at(fact.start, &fact.access))
+            }
             _ => None,
+        }
+    }
+
+    /// Returns the dot by which the tokens that the fact mints are in a family: that of the refresh
+    /// token for an access token that was refreshed, otherwise the fact's own.
+    pub fn anchor(&self) -> Dot
+        ensures { result ≡ anchor_of self.now.0 self.now.1 }
+    {
+        match &self.body {
+            Body::AccessRefreshed(fact) => fact.parent,
+            _ => self.dot,
         }
     }
 

@@ -50,3 +50,9 @@ returns-in_ok-copy-in-SubjectOut c = copy_of bodies.SubjectOut _ _ _ c.in_ok-cop
 
 pub returns-in_err-copy-in-SubjectOut : goal.returns-in_err-copy-in-SubjectOut
 returns-in_err-copy-in-SubjectOut c = no_copy _ _ c.from_residual-in_err-copy-in-SubjectOut.ensures.0
+
+pub returns-in_ok-copy-in-AccessRefreshed : goal.returns-in_ok-copy-in-AccessRefreshed
+returns-in_ok-copy-in-AccessRefreshed c = copy_of bodies.AccessRefreshed _ _ _ c.in_ok-copy-in-AccessRefreshed.ensures c.in-AccessRefreshed.is
+
+pub returns-in_err-copy-in-AccessRefreshed : goal.returns-in_err-copy-in-AccessRefreshed
+returns-in_err-copy-in-AccessRefreshed c = no_copy _ _ c.from_residual-in_err-copy-in-AccessRefreshed.ensures.0

@@ -40,3 +40,7 @@ returns-in-ReuseSeen c = rw c.in-ReuseSeen.is c.known-in-ReuseSeen.ensures
 pub returns-in-SubjectOut : goal.returns-in-SubjectOut
 unfolding kinds
 returns-in-SubjectOut c = rw c.in-SubjectOut.is c.known-in-SubjectOut.ensures
+
+pub returns-in-AccessRefreshed : goal.returns-in-AccessRefreshed
+unfolding kinds
+returns-in-AccessRefreshed c = rw c.in-AccessRefreshed.is c.known-in-AccessRefreshed.ensures

@@ -83,3 +83,11 @@ returns-in_ok-read-in-10 c = behind_byte _ _ _ 10 _ c.in-Some.ensures.read c.in-
 pub returns-in_err-read-in-10 : goal.returns-in_err-read-in-10
 unfolding kinds
 returns-in_err-read-in-10 c = fails_as bodies.SubjectOut fields.subject_out _ _ _ _ _ c.from_residual-in_err-read-in-10.ensures.1 c.in_err-read-in-10.ensures (behind_byte _ _ _ 10 _ c.in-Some.ensures.read c.in-10.is)
+
+pub returns-in_ok-read-in-12 : goal.returns-in_ok-read-in-12
+unfolding kinds
+returns-in_ok-read-in-12 c = behind_byte _ _ _ 12 _ c.in-Some.ensures.read c.in-12.is (made_of bodies.AccessRefreshed fields.access_refreshed _ _ _ c.in_ok-read-in-12.ensures)
+
+pub returns-in_err-read-in-12 : goal.returns-in_err-read-in-12
+unfolding kinds
+returns-in_err-read-in-12 c = fails_as bodies.AccessRefreshed fields.access_refreshed _ _ _ _ _ c.from_residual-in_err-read-in-12.ensures.1 c.in_err-read-in-12.ensures (behind_byte _ _ _ 12 _ c.in-Some.ensures.read c.in-12.is)

@@ -30,3 +30,6 @@ returns-in_default-9 c = search rules
 
 pub returns-in_default-10 : goal.returns-in_default-10
 returns-in_default-10 c = search rules
+
+pub returns-in_default-11 : goal.returns-in_default-11
+returns-in_default-11 c = search rules

@@ -41,3 +41,7 @@ returns-in-ReuseSeen c = search rules
 pub returns-in-SubjectOut : goal.returns-in-SubjectOut
 unfolding kinds
 returns-in-SubjectOut c = search rules
+
+pub returns-in-AccessRefreshed : goal.returns-in-AccessRefreshed
+unfolding kinds
+returns-in-AccessRefreshed c = search rules
