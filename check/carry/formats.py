@@ -12,12 +12,18 @@ SIGNED_OUT = bytes.fromhex("4f5442320001001800010000000000000005"
                            "0a0003616e6e00000000000003fc")
 SKIPPED = bytes.fromhex("4f544233000000000000044c0002000a00010000000000000003"
                         "000a00010000000000000004")
-ALL = ADDED, RETIRED, SIGNED_OUT, SKIPPED
+REFRESHED = bytes.fromhex("4f5442340001004b000100000000000000060c0001000000000000000500000000"
+                          "000003fc" + b"0123456789abcdef0123456789abcdef".hex()
+                          + "00000000000004e8000472656164")
+ALL = ADDED, RETIRED, SIGNED_OUT, SKIPPED, REFRESHED
 VECTOR = bytes.fromhex("4f54563100020001000000000000000400020000000000000001")
 
 
 def fact(serial, size=11, region=1, kind=2):
     return Dot(region, serial).write() + bytes([kind]) + bytes(size - 11)
+
+
+KEEPING = fact(1, size=11, kind=1) + b"\3"  # the front of a client that keeps its refresh token
 
 
 def bundle(*items, magic=b"OTB1", horizon=None):
@@ -29,7 +35,7 @@ def bundle(*items, magic=b"OTB1", horizon=None):
 
 class Bundles(unittest.TestCase):
     def test_examples_are_read_and_written(self):
-        counts = [(1, 0, None), (1, 0, None), (1, 0, None), (0, 2, 1100)]
+        counts = [(1, 0, None), (1, 0, None), (1, 0, None), (0, 2, 1100), (1, 0, None)]
         for data, wanted in zip(ALL, counts):
             it = read_bundle(data)
             self.assertEqual((it.facts, it.marks, it.horizon), wanted)
@@ -45,7 +51,7 @@ class Bundles(unittest.TestCase):
     def test_no_bundles(self):
         mark = Dot(1, 7).write()
         for why, data in {
-                "no version": b"OTB4" + ADDED[4:],
+                "no version": b"OTB6" + ADDED[4:],
                 "129 items": bundle(*(fact(n) for n in range(1, 130))),
                 "has 8193 bytes": bundle(fact(1, 8193)),
                 "has 9 bytes": bundle(mark[:9]),
@@ -55,8 +61,14 @@ class Bundles(unittest.TestCase):
                 "1:0 is no dot": bundle(fact(0)),
                 "1:9223372036854775808 is no dot": bundle(fact(2**63)),
                 "kind 11": bundle(fact(1, kind=11)),
+                "kind 13": bundle(fact(1, kind=13)),
                 "items of b'OTB1'": bundle(fact(1), magic=b"OTB2"),
                 "items of b'OTB2'": bundle(fact(1, kind=10)),
+                "items of b'OTB3' in a bundle b'OTB5'": bundle(mark, magic=b"OTB5", horizon=7),
+                "items of b'OTB4' in a bundle b'OTB2'": bundle(fact(1, kind=12), magic=b"OTB2"),
+                "items of b'OTB4' in a bundle b'OTB1'": bundle(KEEPING),
+                "items of b'OTB5' in a bundle b'OTB3'": bundle(
+                    fact(1, kind=12), mark, magic=b"OTB3", horizon=7),
                 "no moment": bundle(mark, magic=b"OTB3", horizon=253402300800),
                 "1 bytes behind": ADDED + b"\0",
                 "ends within a length": ADDED[:7],
@@ -78,6 +90,14 @@ class Bundles(unittest.TestCase):
         self.assertEqual((first.version, first.horizon), (b"OTB1", None))
         self.assertEqual((second.version, second.horizon), (b"OTB3", 1100))
         self.assertEqual(second.halves()[1].version, b"OTB2")
+
+    def test_versions_of_kept_refresh_tokens(self):
+        mixed = Bundle((KEEPING, fact(2), fact(3, kind=12), Dot(1, 4).write()), 1100)
+        self.assertEqual(mixed.version, b"OTB5")
+        self.assertEqual(read_bundle(mixed.write()), mixed)
+        self.assertEqual(mixed.facts_alone().version, b"OTB4")
+        self.assertEqual([it.version for it in mixed.halves()], [b"OTB4", b"OTB5"])
+        self.assertEqual(Bundle((fact(1, size=12, kind=1),)).version, b"OTB1")
 
     def test_a_log_in_pieces(self):
         log = b"".join(ALL)

@@ -62,7 +62,7 @@ def is_kept(at, said, got):
 
 def read_horizon(page):
     """The horizon of a page with marks; of another page 0."""
-    return int.from_bytes(page[4:12], "big") if page.startswith(b"OTB3") else 0
+    return int.from_bytes(page[4:12], "big") if page.startswith((b"OTB3", b"OTB5")) else 0
 
 
 def read_vector(said):

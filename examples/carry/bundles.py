@@ -13,11 +13,14 @@ from typing import Iterator, NamedTuple, Optional
 MOST_ITEMS = 128
 MOST_BYTES = 8192  # of a fact
 MARK = 10  # the bytes of a mark: its dot
-KINDS = range(1, 11)
-SUBJECT_OUT = 10
+CLIENT_ADDED, SUBJECT_OUT, ACCESS_REFRESHED = 1, 10, 12
+KINDS = {*range(1, 11), ACCESS_REFRESHED}
+KEEPING = 3  # the client kind of a client that keeps its refresh token
 GREATEST_SERIAL = 2**63 - 1
 GREATEST_MOMENT = 253_402_300_799
-PLAIN, SIGN_OUTS, MARKS = b"OTB1", b"OTB2", b"OTB3"
+# A version: the newest kind that it has, and whether it has marks, and so a horizon.
+VERSIONS = {b"OTB1": (9, False), b"OTB2": (10, False), b"OTB3": (10, True),
+            b"OTB4": (12, False), b"OTB5": (12, True)}
 VECTOR = b"OTV1"
 FROM_THE_START = bytes(10)  # the cursor of a first page
 
@@ -53,11 +56,24 @@ def read_dot(data: bytes, at: int = 0) -> Dot:
     return dot
 
 
+def _kind_for(item: bytes) -> int:
+    """The kind that a version must have for an item; 0 for a mark, and for bytes of no kind."""
+    if item[MARK:MARK + 2] == bytes((CLIENT_ADDED, KEEPING)):
+        return ACCESS_REFRESHED
+    return item[MARK] if len(item) > MARK and item[MARK] in KINDS else 0
+
+
 def _version(items: tuple[bytes, ...]) -> bytes:
-    """The first version that has all kinds of these items."""
-    if any(len(it) == MARK for it in items):
-        return MARKS
-    return SIGN_OUTS if any(it[MARK] == SUBJECT_OUT for it in items) else PLAIN
+    """The first version that has all of these items."""
+    newest = max(map(_kind_for, items), default=0)
+    marked = any(len(it) == MARK for it in items)
+    return next(version for version, (kinds, marks) in VERSIONS.items()
+                if newest <= kinds and (marks or not marked))
+
+
+def has_marks(version: bytes) -> bool:
+    """Whether bundles of this version have marks, and so a horizon."""
+    return VERSIONS[version][1]
 
 
 def _check_item(number: int, item: bytes) -> None:
@@ -90,7 +106,7 @@ class Bundle:
             if item[:MARK] <= before:
                 raise Malformed("item %d isn't above the one before" % number)
             before = item[:MARK]
-        if (self.horizon is None) == (self.version == MARKS):
+        if (self.horizon is None) == has_marks(self.version):
             raise Malformed("a horizon without marks, or marks without a horizon")
         if not 0 <= (self.horizon or 0) <= GREATEST_MOMENT:
             raise Malformed("the horizon %d is no moment" % self.horizon)
@@ -131,7 +147,7 @@ class Bundle:
     def part(self, begin: int, end: int) -> Bundle:
         """The bundle of some of the items. Marks keep the horizon."""
         items = self.items[begin:end]
-        return Bundle(items, self.horizon if _version(items) == MARKS else None)
+        return Bundle(items, self.horizon if has_marks(_version(items)) else None)
 
     def facts_alone(self) -> Bundle:
         """The bundle of the facts, without the marks and the horizon."""
@@ -140,7 +156,7 @@ class Bundle:
     def without(self, numbers: set[int]) -> Bundle:
         """The bundle of the items that are under none of these region numbers."""
         items = tuple(it for it in self.items if read_dot(it).region not in numbers)
-        return Bundle(items, self.horizon if _version(items) == MARKS else None)
+        return Bundle(items, self.horizon if has_marks(_version(items)) else None)
 
     def halves(self) -> tuple[Bundle, Bundle]:
         middle = len(self.items) // 2
@@ -159,10 +175,10 @@ def _walk(data: bytes, at: int) -> tuple[Optional[int], tuple[bytes, ...], int]:
     magic, horizon = data[at:at + 4], None
     if len(data) - at < 6:
         raise Cut("%d bytes, fewer than any bundle has" % (len(data) - at))
-    if magic not in (PLAIN, SIGN_OUTS, MARKS):
+    if magic not in VERSIONS:
         raise Malformed("it begins with %r, no version of a bundle" % magic)
     at += 4
-    if magic == MARKS:
+    if has_marks(magic):
         if len(data) - at < _HORIZON.size + _COUNT.size:
             raise Cut("it ends within the horizon")
         (horizon,) = _HORIZON.unpack_from(data, at)
@@ -173,7 +189,7 @@ def _walk(data: bytes, at: int) -> tuple[Optional[int], tuple[bytes, ...], int]:
     items, at = [], at + _COUNT.size
     for number in range(1, count + 1):
         size, at = _count_at(data, at), at + _COUNT.size
-        if not MARK <= size <= MOST_BYTES or (size == MARK and magic != MARKS):
+        if not MARK <= size <= MOST_BYTES or (size == MARK and not has_marks(magic)):
             raise Malformed("item %d of %r has %d bytes" % (number, magic, size))
         if len(data) - at < size:
             raise Cut("item %d of %d has %d of %d bytes" % (number, count, len(data) - at, size))

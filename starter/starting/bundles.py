@@ -1,11 +1,14 @@
 """Bundles and vectors, by the lengths and dots of docs/FORMATS.md. Bodies of facts aren't read."""
 import struct
 
-HEADS = {b"OTB1": 6, b"OTB2": 6, b"OTB3": 14}  # bytes before the first item
+# bytes before the first item
+HEADS = {b"OTB1": 6, b"OTB2": 6, b"OTB3": 14, b"OTB4": 6, b"OTB5": 14}
+MARKED = {b"OTB3", b"OTB5"}  # the versions with marks, and so with a horizon
 ITEM = struct.Struct(">HHQ")  # an item's length and its dot
 DOT = struct.Struct(">HQ")
 HORIZON = struct.Struct(">Q")
-SIGN_OUT = 10  # the kind of a fact that only OTB2 has
+CLIENT_ADDED, SIGN_OUT, ACCESS_REFRESHED = 1, 10, 12  # kinds of facts
+KEEPING = 3  # the client kind of a client that keeps its refresh token
 MOST_ITEMS, LEAST_BYTES, MOST_BYTES = 128, 10, 8192
 
 
@@ -100,7 +103,7 @@ def page_dots(page):
 
 def horizon_of(data, at=0):
     """The horizon of the bundle at a place, if it has marks; of any other bundle 0."""
-    return HORIZON.unpack_from(data, at + 4)[0] if data[at:at + 4] == b"OTB3" else 0
+    return HORIZON.unpack_from(data, at + 4)[0] if data[at:at + 4] in MARKED else 0
 
 
 def facts_alone(page):
@@ -111,9 +114,15 @@ def facts_alone(page):
         if length > DOT.size:
             facts.append(page[at:at + 2 + length])
         at += 2 + length
-    is_later = any(it[2 + DOT.size] == SIGN_OUT for it in facts)
-    head = b"OTB2" if is_later else b"OTB1"
-    return b"".join([head, struct.pack(">H", len(facts)), *facts])
+    return b"".join([version_of(facts), struct.pack(">H", len(facts)), *facts])
+
+
+def version_of(facts):
+    """The version of a bundle of these facts, which are behind their lengths."""
+    kinds = {bytes(it[2 + DOT.size:4 + DOT.size]) for it in facts}
+    if any(it[0] == ACCESS_REFRESHED or it == bytes((CLIENT_ADDED, KEEPING)) for it in kinds):
+        return b"OTB4"
+    return b"OTB2" if any(it[0] == SIGN_OUT for it in kinds) else b"OTB1"
 
 
 def vector_regions(vector):

@@ -1,7 +1,9 @@
--- A bundle without some of its facts is a bundle. Key result:
---   news_fits   what isn't dropped of a bundle has a spelling
+-- A bundle without some of its facts is a bundle. Key results:
+--   news_fits      what isn't dropped of a bundle has a spelling
+--   version_kept   a bundle with a horizon has a mark that isn't dropped
 use Rattle.std.proofs.Common.{◌≡◌, ℕ, ◌<◌, ◌≤◌, ◌^◌, suc, Bool, true, false, cond, nat_le, List, []}
-use Rattle.std.proofs.Common.{◌∷◌, length, filter, Option, None, Some, refl, sym, ap, ◌∙◌, arith}
+use Rattle.std.proofs.Common.{◌∷◌, length, filter, Option, None, Some, is_some, refl, sym, ap}
+use Rattle.std.proofs.Common.{◌∙◌, arith}
 use Rattle.std.specs.List.{AllByRecursion, list_any}
 use Rattle.std.specs.Ordering.{is_lt}
 use Rattle.std.proofs.lemmas.Bool.Decides.{nat_tests}
@@ -12,7 +14,7 @@ use Rattle.tk_bundle.specs.BundleFields.{BundleFields, Items, is_mark}
 use Rattle.tk_bundle.specs.Bundle.{ascends, max_items, bundle, HorizonFits}
 use Rattle.tk_bundle.specs.Items.{item}
 use Rattle.tk_bundle.specs.News.{counts, news_of}
-use Rattle.tk_bundle.specs.Versions.{version_of}
+use Rattle.tk_bundle.specs.Versions.{has_horizon, newest_kind, version_of, version_with}
 use Rattle.tk_bundle.specs.VersionLaws.{horizon_told}
 use Rattle.tk_handle.proofs.TestLaws.{less}
 use Rattle.std.proofs.lemmas.Bool.{and_from as joined, and_parts as both_true}
@@ -32,6 +34,24 @@ horizon_kept : (S : Slots) (items : Items) (horizon : Option ℕ)
     → HorizonFits (version_of (filter (counts S) items)) horizon
 horizon_kept S items None fits = horizon_told (filter (counts S) items) ∙ marks_kept S items ∙ sym (horizon_told items) ∙ fits
 horizon_kept S items (Some moment) fits = (fits.0, horizon_told (filter (counts S) items) ∙ marks_kept S items ∙ sym (horizon_told items) ∙ fits.1)
+
+-- a bundle has a horizon exactly if a mark is among what isn't dropped of it
+horizon_shows : (S : Slots) (b : BundleFields) → bundle.Fits b
+    → is_some b.horizon ≡ list_any is_mark (filter (counts S) b.items)
+horizon_shows S b fits =
+    by_horizon b.horizon fits.0.0 ∙ horizon_told b.items ∙ sym (marks_kept S b.items)
+  where
+    by_horizon : (o : Option ℕ) → HorizonFits (version_of b.items) o
+        → is_some o ≡ has_horizon (version_of b.items)
+    by_horizon None at = sym at
+    by_horizon (Some moment) at = sym at.1
+
+-- the version of what isn't dropped of a bundle has marks exactly if the bundle has a horizon
+pub version_kept : (S : Slots) (b : BundleFields) → bundle.Fits b
+    → version_with (newest_kind 0 (filter (counts S) b.items)) (is_some b.horizon)
+    ≡ version_of (filter (counts S) b.items)
+version_kept S b fits =
+    ap (version_with (newest_kind 0 (filter (counts S) b.items))) (horizon_shows S b fits)
 
 no_longer : {A : Type 0} (p : A → Bool) (xs : List A) → length (filter p xs) ≤ length xs
 no_longer p [] = omega arith

@@ -21,7 +21,7 @@ use Rattle.tk_handle.specs.Dot.{dot_cmp}
 use Rattle.tk_vector.specs.VersionVector.{Vector}
 use Rattle.tk_store.specs.FactSet.{AllIn, dot_of, IsFactSet}
 use Rattle.tk_store.specs.Beyond.{beyond, is_beyond}
-use Rattle.tk_store.specs.Slots.{Slot, Slots, Held, held_slot}
+use Rattle.tk_store.specs.Slots.{Slot, Slots, Held, Skipped, held_slot, is_skipped}
 use Rattle.tk_store.specs.StoreFields.{StoreFields, held_facts}
 use Rattle.tk_store.specs.WholeStores.{as_slot}
 use Rattle.tk_store.proofs.SlotLaws.{get_held}
@@ -39,9 +39,9 @@ use Rattle.tk_bundle.specs.BundleFields.{Items, is_mark, of_facts}
 use Rattle.tk_bundle.specs.Items.{item, mark_at, dot_size}
 use Rattle.tk_bundle.specs.ItemLaws.{dot_length}
 use Rattle.tk_bundle.specs.Versions.{kind_in, newest_kind, version_of, has_horizon}
-use Rattle.tk_bundle.specs.VersionLaws.{mark_told, horizon_told, facts_told}
+use Rattle.tk_bundle.specs.VersionLaws.{horizon_told, facts_told}
 use Rattle.tk_bundle.specs.Bundle.{ascends, max_items, bundle, HorizonFits}
-use Rattle.tk_bundle.specs.Page.{item_at, items_at, last_of, horizon_by, horizon_with, page_within}
+use Rattle.tk_bundle.specs.Page.{item_at, items_at, last_of, horizon_if, horizon_with, page_within}
 use Rattle.tk_bundle.specs.Page.{IsPageAt, IsPageOf}
 use Rattle.tk_handle.proofs.TestLaws.{and as pair, both, is_true}
 
@@ -61,6 +61,19 @@ pub items_at-more : (S : Slots) (dots : List Dot) (i : ℕ) (dot : Dot) → i < 
 items_at-more S dots i dot within is =
     sym (filter_map-append (item_at S) (take i dots) (dot ∷ []))
     ∙ ap (items_at S) (ap (λ d. take i dots ++ d ∷ []) is ∙ sym (take_at_read dots i dot within).1)
+
+-- the dot of a fact that was skipped is that of a mark among the items
+pub marks_at : (S : Slots) (dots : List Dot)
+    → list_any (is_skipped S) dots ≡ list_any is_mark (items_at S dots)
+marks_at S [] = refl
+marks_at S (d ∷ dots) = by_slot (sets.get S d) refl (marks_at S dots)
+  where
+    by_slot : (o : Option Slot) → sets.get S d ≡ o
+        → list_any (is_skipped S) dots ≡ list_any is_mark (items_at S dots)
+        → list_any (is_skipped S) (d ∷ dots) ≡ list_any is_mark (items_at S (d ∷ dots))
+    by_slot None is more = rw is more
+    by_slot (Some (Held b)) is more = rw is more
+    by_slot (Some Skipped) is more = rw is refl
 
 -- the newest kind of two lists, one after the other
 newest_append : (last : ℕ) (fs gs : Items)
@@ -163,11 +176,6 @@ ascends_sorted (e ∷ es) sorted = let s = both _ _ sorted in ascends_above e.0 
 
 -- ---- a page in bytes
 
--- the newest kind shows whether a mark is among the items
-horizon_is : (horizon : ℕ) (items : Items)
-    → horizon_by (newest_kind 0 items) horizon ≡ horizon_with horizon items
-horizon_is horizon items = ap (λ t. cond t (Some horizon) None) (mark_told items)
-
 pub page_is : (made : Page) (P : StoreFields) (v : Vector) (after : Option Dot) (limit : ℕ) (dots : List Dot) (more : Bool)
     → dots ≡ map dot_of (take limit (beyond P.slots v after))
     → more ≡ nat_lt limit (length (beyond P.slots v after)) → IsPageAt made P dots more
@@ -177,7 +185,7 @@ page_is made P v after limit dots more same follows at =
     let count : length dots ≡ length found = ap length same ∙ length-map found dot_of in
     let items : items_at P.slots dots ≡ found = ap (items_at P.slots) same ∙ page_items P.slots v after limit in
     record {
-      bytes = at.bytes ∙ rw (count, items) (rw (horizon_is P.horizon found) refl);
+      bytes = at.bytes ∙ rw (count, items) refl;
       count = at.count ∙ count;
       last = at.last ∙ ap last_of same ∙ ap (λ n. slice_get (map dot_of found) (n - 1)) (length-map found dot_of);
       more = at.more ∙ follows;
@@ -189,7 +197,7 @@ horizon_fits : (horizon : ℕ) (items : Items) → moment.Fits horizon
 horizon_fits horizon items fits = by_mark (list_any is_mark items) (horizon_told items)
   where
     by_mark : (t : Bool) → has_horizon (version_of items) ≡ t
-        → HorizonFits (version_of items) (cond t (Some horizon) None)
+        → HorizonFits (version_of items) (horizon_if t horizon)
     by_mark true is = (fits, is)
     by_mark false is = is
 

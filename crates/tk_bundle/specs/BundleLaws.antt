@@ -1,7 +1,8 @@
 -- A bundle's bytes are read as that bundle alone (own). Key results:
 --   bundle_exact     a bundle has one spelling
 --   one_front        no bundle's bytes begin those of another bundle
---   versions_tell    a bundle's first four bytes show whether marks and sign-outs are inside
+--   versions_tell    a bundle's first four bytes show whether marks, sign-outs and facts of clients
+--                    that keep their refresh tokens are inside
 use Rattle.std.proofs.Common.{◌≡◌, ℕ, Bool, true, false, cond, eqb, nat_le, List, [], ◌∷◌, ◌++◌}
 use Rattle.std.proofs.Common.{Option, Some, None}
 use Rattle.std.proofs.Common.{refl, sym, ap, subst, ◌∙◌}
@@ -103,6 +104,7 @@ pub one_front : (a b : BundleFields) (rest : List ℕ) → bundle.Fits a → bun
 one_front a b rest fa fb e =
     prefix_free bundle bundle_exact a b rest [] fa fb (e ∙ sym (append-nil (bundle.spell b)))
 
--- a bundle's first four bytes show whether marks and sign-outs are among its items
+-- a bundle's first four bytes show whether marks, sign-outs and facts of clients that keep their
+-- refresh tokens are among its items
 pub versions_tell : VersionsTold
 versions_tell b = ap (λ digit. magic ++ digit ∷ []) (version_tells b.items)

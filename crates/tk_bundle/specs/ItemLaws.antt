@@ -40,6 +40,7 @@ body_long (bodies.RefreshRotated f) = omega arith
 body_long (bodies.TokenRevoked f) = omega arith
 body_long (bodies.ReuseSeen f) = omega arith
 body_long (bodies.SubjectOut f) = omega arith
+body_long (bodies.AccessRefreshed f) = omega arith
 
 -- a dot has ten bytes
 pub dot_length : (d : Dot) → length (dot_field.spell d) ≡ dot_size

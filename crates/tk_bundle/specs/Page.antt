@@ -5,7 +5,7 @@
 --   IsPageOf     a page in bytes has these parts
 --   items_at     what a store knows of given dots
 --   IsPageAt     a page in bytes has what a store knows of given dots
-use Rattle.std.specs.Prelude.{◌≡◌, ℕ, ◌-◌, Bool, nat_lt, ◌==◌, List, ◌∷◌, ◌++◌, length, slice_get}
+use Rattle.std.specs.Prelude.{◌≡◌, ℕ, ◌-◌, Bool, nat_lt, List, ◌∷◌, ◌++◌, length, slice_get}
 use Rattle.std.specs.Prelude.{Option}
 use Rattle.std.specs.Prelude.{Some, None, if◌then◌else◌}
 use Rattle.std.specs.Int.{w16}
@@ -21,7 +21,7 @@ use Rattle.tk_store.specs.Slots.{Slot, Slots}
 use Rattle.tk_store.specs.StoreFields.{StoreFields}
 use Rattle.tk_bundle.specs.BundleFields.{BundleFields, Items, is_mark}
 use Rattle.tk_bundle.specs.Items.{item}
-use Rattle.tk_bundle.specs.Versions.{mark_kind, newest_kind, version_of}
+use Rattle.tk_bundle.specs.Versions.{version_of}
 use Rattle.tk_bundle.specs.Bundle.{magic, max_items, bundle_bytes, horizon_bytes}
 use Rattle.tk_bundle.specs.declared.page.Page.{Page}
 
@@ -35,13 +35,13 @@ pub record PageFields : Type 0 where
 abbrev pub last_of : List Dot → Option Dot
 last_of dots = slice_get dots (length dots - 1)
 
+-- the horizon, if there are marks
+abbrev pub horizon_if : Bool → ℕ → Option ℕ
+horizon_if marked horizon = if marked then Some horizon else None
+
 -- the sender's horizon, if a mark is among the items
 abbrev pub horizon_with : ℕ → Items → Option ℕ
-horizon_with horizon items = if list_any is_mark items then Some horizon else None
-
--- the horizon, if the newest kind is that of marks
-abbrev pub horizon_by : ℕ → ℕ → Option ℕ
-horizon_by newest horizon = if newest == mark_kind then Some horizon else None
+horizon_with horizon items = horizon_if (list_any is_mark items) horizon
 
 -- the bundle of items of a store with this horizon
 abbrev pub bundle_of : ℕ → Items → BundleFields
@@ -81,7 +81,7 @@ pub record IsPageAt (page : Page) (P : StoreFields) (dots : List Dot) (follows :
     : Type 0 where
   pub bytes : page.bytes.items ≡ magic
       ++ (version_of (items_at P.slots dots) ∷ horizon_bytes
-      (horizon_by (newest_kind 0 (items_at P.slots dots)) P.horizon)
+      (horizon_with P.horizon (items_at P.slots dots))
       ++ ((number w16).spell (length dots) ++ flat_map item.spell (items_at P.slots dots)))
   pub count : page.count ≡ length dots
   pub last : page.last ≡ last_of dots

@@ -1,78 +1,114 @@
--- The versions of a bundle's bytes (own). Each has the kinds of the versions before it, and more.
+-- The versions of a bundle's bytes (own): which kinds of facts each has, and whether it has marks.
 --   versions       the table, one row a version
---   mark_kind      the number of the marks of skipped facts, behind the kinds of facts
---   kind_of        the number of a fact's kind
---   newest_kind    the greatest number of a kind among items
---   version_with   the digit of the first version that has the kinds up to a number
---   version_of     the digit of the first version that has all kinds of items
+--   keeps          a client keeps its refresh token
+--   kind_of        the number of the kind that a version must have for a body
+--   newest_kind    the greatest number of a kind that the facts among items need
+--   version_with   the digit of the first version that has the kinds up to a number, and marks
+--   version_of     the digit of the first version that has all of the items
 --   is_version     a digit is that of a version
---   has_horizon    a version has a horizon
+--   has_horizon    a version has marks, and so a horizon
 --   is_sign_out    an item is a sign-out
-use Rattle.std.specs.Prelude.{ℕ, max, Bool, true, false, nat_le, ◌==◌, List, [], ◌∷◌, get_or}
-use Rattle.std.specs.Prelude.{if◌then◌else◌}
+--   is_keeping     an item is of a client that keeps its refresh token
+use Rattle.std.specs.Prelude.{ℕ, max, Bool, true, false, ◌&&◌, ◌||◌, not, nat_le, ◌==◌}
+use Rattle.std.specs.Prelude.{List, [], ◌∷◌, if◌then◌else◌}
 use Rattle.std.specs.List.{list_any}
 use Rattle.tk_handle.specs.declared.dot.Dot.{Dot}
+use Rattle.tk_fact.specs.declared.client_kind.ClientKind.{ClientKind}
+use Rattle.tk_fact.specs.declared.client_kind.ClientKind.TheVariants.{
+  Public,
+  Confidential,
+  Resource,
+  Keeping,
+}
 use Rattle.tk_fact.specs.declared.body.Body.{Body}
 use Rattle.tk_fact.specs.declared.body.Body.TheVariants as bodies
-use Rattle.tk_fact.specs.FactBytes.{body}
 use Rattle.tk_store.specs.Slots.{Slot, Held, Skipped}
-use Rattle.tk_bundle.specs.BundleFields.{Items}
+use Rattle.tk_bundle.specs.BundleFields.{Items, is_mark}
 use Rattle.tk_bundle.specs.declared.version.Version.{Version}
 
--- the digit of each version, and the number of its newest kind. A bundle keeps the version that it
--- was written in: a row never changes, and a later version is one row more
+-- The digit of each version, the number of its newest kind of facts, and whether it has marks. A
+-- bundle keeps the version that it was written in: a row never changes, and a later version is one
+-- row more. OTB1 has the kinds 1 to 9, OTB2 the kinds 1 to 10, OTB3 these and marks. OTB4 has all
+-- kinds, OTB5 all kinds and marks
 abbrev pub versions : List Version
 versions =
-    -- OTB1: all kinds but the sign-out
-    record { digit = 49; kinds = 9 }
-    -- OTB2: all kinds
-    ∷ record { digit = 50; kinds = 10 }
-    -- OTB3: all kinds, and marks
-    ∷ record { digit = 51; kinds = 11 }
+    record { digit = 49; kinds = 9; marks = false }
+    ∷ record { digit = 50; kinds = 10; marks = false }
+    ∷ record { digit = 51; kinds = 10; marks = true }
+    ∷ record { digit = 52; kinds = 12; marks = false }
+    ∷ record { digit = 53; kinds = 12; marks = true }
     ∷ []
 
--- the number of the marks of skipped facts, behind the kinds of facts
-abbrev pub mark_kind : ℕ
-mark_kind = 11
+-- a client of this kind keeps its refresh token
+abbrev pub keeps : ClientKind → Bool
+keeps Public = false
+keeps (Confidential digest) = false
+keeps (Resource digest) = false
+keeps (Keeping digest) = true
 
--- the number of a body's kind, with which its bytes begin
+-- The number of the kind that a version must have for a body: the body's own, or that of refreshed
+-- access tokens for the registration of a client that keeps its refresh token. A build that does
+-- not know this kind does not know such clients
 abbrev pub kind_of : Body → ℕ
-kind_of b = get_or (body.spell b) 0 0
+kind_of (bodies.ClientAdded f) = if keeps f.client_kind then 12 else 1
+kind_of (bodies.ClientRetired f) = 2
+kind_of (bodies.ConsentGiven f) = 3
+kind_of (bodies.ConsentWithdrawn f) = 4
+kind_of (bodies.CodeIssued f) = 5
+kind_of (bodies.CodeRedeemed f) = 6
+kind_of (bodies.RefreshRotated f) = 7
+kind_of (bodies.TokenRevoked f) = 8
+kind_of (bodies.ReuseSeen f) = 9
+kind_of (bodies.SubjectOut f) = 10
+kind_of (bodies.AccessRefreshed f) = 12
 
--- the number of the kind of a fact, or that of a mark
+-- the number of the kind that a version must have for a fact; 0 for a mark, which needs no kind
 abbrev pub kind_in : Slot → ℕ
 kind_in (Held b) = kind_of b
-kind_in Skipped = mark_kind
+kind_in Skipped = 0
 
--- the newest kind among the items, or `last` if that is newer
+-- the newest kind that facts among the items need, or `last` if that is newer
 abbrev pub newest_kind : ℕ → Items → ℕ
 newest_kind last [] = last
 newest_kind last (i ∷ more) = newest_kind (max last (kind_in i.1)) more
 
--- the digit of the first version in the list that has the kinds up to a number; 0, the digit of no
--- version, if no version has
-abbrev pub digit_in : List Version → ℕ → ℕ
-digit_in [] kind = 0
-digit_in (v ∷ vs) kind = if nat_le kind v.kinds then v.digit else digit_in vs kind
+-- the version has the kinds up to a number, and marks if they are needed
+abbrev pub has_all : Version → ℕ → Bool → Bool
+has_all v kind marked = nat_le kind v.kinds && (not marked || v.marks)
 
--- the digit of the first version that has the kinds up to a number
-abbrev pub version_with : ℕ → ℕ
-version_with kind = digit_in versions kind
+-- the digit of the first version in the list that has the kinds up to a number, and marks if they
+-- are needed; 0, the digit of no version, if no version has
+abbrev pub digit_in : List Version → ℕ → Bool → ℕ
+digit_in [] kind marked = 0
+digit_in (v ∷ vs) kind marked = if has_all v kind marked then v.digit else digit_in vs kind marked
 
--- the digit of the first version that has all kinds of the items
+-- the digit of the first version that has the kinds up to a number, and marks if they are needed
+abbrev pub version_with : ℕ → Bool → ℕ
+version_with kind marked = digit_in versions kind marked
+
+-- the digit of the first version that has all of the items: the kinds of facts, and marks if one of
+-- the items is a mark
 abbrev pub version_of : Items → ℕ
-version_of items = version_with (newest_kind 0 items)
+version_of items = version_with (newest_kind 0 items) (list_any is_mark items)
 
 -- the digit is that of a version
 unfoldable pub is_version : ℕ → Bool
 is_version digit = list_any (λ v. v.digit == digit) versions
 
--- a bundle of this version has a horizon: it is the one with marks
-abbrev pub has_horizon : ℕ → Bool
-has_horizon digit = digit == version_with mark_kind
+-- a bundle of this version has a horizon: the version has marks
+unfoldable pub has_horizon : ℕ → Bool
+has_horizon digit = list_any (λ v. (v.digit == digit) && v.marks) versions
 
 -- the item is a sign-out
 abbrev pub is_sign_out : Dot × Slot → Bool
 is_sign_out (d, Held (bodies.SubjectOut out)) = true
 is_sign_out (d, Held b) = false
 is_sign_out (d, Skipped) = false
+
+-- the item is of a client that keeps its refresh token: its registration, or an access token that
+-- it refreshed
+abbrev pub is_keeping : Dot × Slot → Bool
+is_keeping (d, Held (bodies.ClientAdded f)) = keeps f.client_kind
+is_keeping (d, Held (bodies.AccessRefreshed f)) = true
+is_keeping (d, Held b) = false
+is_keeping (d, Skipped) = false

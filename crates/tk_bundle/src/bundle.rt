@@ -154,7 +154,9 @@ pub fn none_begins_another()
         → bundle_bytes a ++ rest ≡ bundle_bytes b → (a ≡ b) × (rest ≡ []) }
 {}
 
-/// States a law: a bundle begins with `OTB3` if one of its items is a mark, otherwise with `OTB2`
+/// States a law: a bundle in which a client that keeps its refresh token is registered, or has
+/// refreshed an access token, begins with `OTB5` if one of its items is a mark, otherwise with
+/// `OTB4`. Another bundle begins with `OTB3` if one of its items is a mark, otherwise with `OTB2`
 /// if one is a sign-out, otherwise with `OTB1`.
 pub fn versions_told()
     ensures { VersionsTold }

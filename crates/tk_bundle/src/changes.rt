@@ -5,15 +5,14 @@ ghost use Rattle.std.specs.FinMap as map;
 ghost use Rattle.std.specs.List.{AllByRecursion, flat_map};
 ghost use Rattle.std.specs.Option.{option_map};
 ghost use Rattle.tk_bundle.specs.Bundle.{bundle, max_items};
-ghost use Rattle.tk_bundle.specs.BundleFields.{is_mark};
 ghost use Rattle.tk_bundle.specs.Items.{item};
 ghost use Rattle.tk_bundle.specs.News as spec;
-ghost use Rattle.tk_bundle.specs.Versions.{newest_kind};
+ghost use Rattle.tk_bundle.specs.Versions.{newest_kind, version_of};
 
 use crate::bundle::Bundle;
-use crate::item::Item;
+use crate::item::{Item, is_mark};
 use crate::page::{begin_bundle, write_mark};
-use crate::version::kind_in;
+use crate::version::{kind_in, version_with};
 use std::alloc::{AllocError, Global};
 use tk_format::Writer;
 use tk_handle::Moment;
@@ -35,8 +34,8 @@ pub fn news(alloc: Global, store: &FactStore, sent: &Bundle) -> Result<Option<Ve
         return Ok(None);
     }
     let items = sent.items();
-    let newest = newest_kept(0, store, items);
-    let mut writer = begin_bundle(alloc, newest, sent.horizon(), count_kept(store, items))?;
+    let version = version_kept(store, sent);
+    let mut writer = begin_bundle(alloc, version, sent.horizon(), count_kept(store, items))?;
     write_kept(alloc, store, items, &mut writer)?;
     Ok(Some(writer.into_bytes()))
 }
@@ -84,13 +83,16 @@ fn counts(store: &FactStore, item: &Item) -> bool
     is_mark(item) || !store.skipped(item.dot())
 }
 
-fn is_mark(item: &Item) -> bool
-    ensures { result ≡ is_mark item.now }
+// Returns the version of the items that aren't dropped. A bundle with a horizon has a mark, and no
+// mark is dropped.
+fn version_kept(store: &FactStore, sent: &Bundle) -> u8
+    requires { bundle.Fits sent.now }
+    ensures { result ≡ version_of (filter (spec.counts store.now.slots) sent.now.items) }
 {
-    match item.slot() {
-        SlotRef::Held(_) => false,
-        SlotRef::Skipped => true,
-    }
+    version_with(
+        newest_kept(0, store, sent.items()),
+        sent.horizon().is_some(),
+    )
 }
 
 // Returns the newest kind of the items that aren't dropped, or `last` if that is newer. Recurses

@@ -29,7 +29,7 @@ impl Model for Item {
 
 ghost use Rattle.std.specs.Prelude.{◌≡◌};
 ghost use Rattle.tk_store.specs.SlotShown.{HasDot, shown_slot};
-ghost use Rattle.tk_bundle.specs.BundleFields.{fact_of};
+ghost use Rattle.tk_bundle.specs.BundleFields.{fact_of, is_mark};
 ghost use Rattle.tk_bundle.specs.Items.{GetsItem};
 ghost use Rattle.tk_format.specs.Format.{whole};
 ghost use Rattle.tk_handle.specs.DotBytes.{dot_field};
@@ -72,6 +72,16 @@ impl Item {
             Entry::Fact(fact) => Some(fact),
             Entry::Skipped(_) => None,
         }
+    }
+}
+
+/// Returns whether the item is the mark of a skipped fact.
+pub(crate) fn is_mark(item: &Item) -> bool
+    ensures { result ≡ is_mark item.now }
+{
+    match item.slot() {
+        SlotRef::Held(_) => false,
+        SlotRef::Skipped => true,
     }
 }
 

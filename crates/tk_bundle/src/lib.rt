@@ -11,8 +11,9 @@
 //! - `Bundle::read` reads bytes that may be hostile. `read_front` reads the first bundle of many,
 //!   and has one error for bytes that end too early and another for bytes that are no bundle.
 //!
-//! A bundle has the first version that has all of its items: `OTB3` if one of them is a mark,
-//! otherwise `OTB2` if one is a sign-out, otherwise `OTB1` (`versions_told`).
+//! A bundle has the first version that has all of its items: `OTB1`, `OTB2` if a sign-out is among
+//! them, `OTB3` if a mark is, `OTB4` if the registration of a client that keeps its refresh token
+//! is, or an access token that it refreshed, and `OTB5` if a mark is too (`versions_told`).
 //!
 //! In reading order: `Version`, `Item`, `Page`, `make`, `single`, `Bundle`, `read_front`. Of
 //! `specs/`: `BundleFields`, `Versions`, `Items`, `Bundle`, `Page`, `Paging`, `Front`.

@@ -17,19 +17,20 @@ pub struct Page {
 
 ghost use Rattle.std.specs.Prelude.{◌≡◌, ◌≤◌, ◌++◌, ◌∷◌, [], IfOk, OnOk, None, length};
 ghost use Rattle.std.specs.Int.{w16};
-ghost use Rattle.std.specs.List.{AllByRecursion, flat_map};
+ghost use Rattle.std.specs.List.{AllByRecursion, flat_map, list_any};
 ghost use Rattle.tk_format.specs.Format.{number};
 ghost use Rattle.tk_handle.specs.Moment.{moment};
 ghost use Rattle.tk_fact.specs.Check.{refusal_of};
-ghost use Rattle.tk_bundle.specs.BundleFields.{of_facts};
+ghost use Rattle.tk_store.specs.Slots.{is_skipped};
+ghost use Rattle.tk_bundle.specs.BundleFields.{is_mark, of_facts};
 ghost use Rattle.tk_bundle.specs.Items.{item, mark_at};
-ghost use Rattle.tk_bundle.specs.Versions.{newest_kind, version_with};
+ghost use Rattle.tk_bundle.specs.Versions.{newest_kind};
 ghost use Rattle.tk_bundle.specs.Bundle.{magic, max_items, bundle, bundle_bytes, horizon_bytes};
 ghost use Rattle.tk_bundle.specs.Page as spec;
 
 use crate::bundle::{MAGIC, MAX_ITEMS};
 use crate::item::DOT_BYTES;
-use crate::version::{MARK_KIND, kind_in, kind_of, version_with};
+use crate::version::{kind_in, kind_of, version_with};
 use std::alloc::{AllocError, Global};
 use tk_fact::Fact;
 use tk_format::Writer;
@@ -87,11 +88,12 @@ fn page_at(alloc: Global, store: &FactStore, dots: &[Dot], more: bool) -> Result
         (spec.items_at store.now.slots dots.now)) }
     ensures horizon { moment.Fits store.now.horizon }
 {
-    let newest = newest_at(store, dots);
-    let horizon = horizon_with(newest, store.horizon());
+    let marked = has_mark(store, dots);
+    let version = version_with(newest_at(store, dots), marked);
+    let horizon = horizon_with(marked, store.horizon());
     store.horizon().known();
     let count = dots.len() as u16;
-    let mut writer = begin_bundle(alloc, newest, horizon, count)?;
+    let mut writer = begin_bundle(alloc, version, horizon, count)?;
     write_items(alloc, store, dots, &mut writer)?;
     Ok(Page {
         bytes: writer.into_bytes(),
@@ -99,6 +101,20 @@ fn page_at(alloc: Global, store: &FactStore, dots: &[Dot], more: bool) -> Result
         last: last_of(dots),
         more,
     })
+}
+
+// Returns whether a mark is among what the store knows of the dots.
+fn has_mark(store: &FactStore, dots: &[Dot]) -> bool
+    ensures { result ≡ list_any is_mark (spec.items_at store.now.slots dots.now) }
+{
+    has_skipped(store, dots)
+}
+
+// Returns whether one of the dots is skipped.
+fn has_skipped(store: &FactStore, dots: &[Dot]) -> bool
+    ensures { result ≡ list_any (is_skipped store.now.slots) dots.now }
+{
+    dots.iter().any(|dot| store.skipped(*dot))
 }
 
 // Returns the newest kind of what the store knows of the dots.
@@ -122,31 +138,27 @@ fn newest_with(last: u8, store: &FactStore, dot: Dot) -> u8
     }
 }
 
-// Returns the horizon if the newest kind is that of a mark.
-fn horizon_with(newest: u8, horizon: Moment) -> Option<Moment>
-    ensures { result ≡ spec.horizon_by newest horizon }
+// Returns the horizon if a mark is among the items.
+fn horizon_with(marked: bool, horizon: Moment) -> Option<Moment>
+    ensures { result ≡ spec.horizon_if marked horizon }
 {
-    if newest == MARK_KIND {
-        Some(horizon)
-    } else {
-        None
-    }
+    if marked { Some(horizon) } else { None }
 }
 
-// Begins a bundle of `count` items, the newest of which has the given kind: the magic, the version,
-// the horizon if there is one, the count.
+// Begins a bundle of `count` items: the magic, the digit of the version, the horizon if there is
+// one, the count.
 pub(crate) fn begin_bundle(
     alloc: Global,
-    newest: u8,
+    version: u8,
     horizon: Option<Moment>,
     count: u16,
 ) -> Result<Writer, AllocError>
     ensures { IfOk result (λ writer. writer
-        ≡ magic ++ (version_with newest ∷ horizon_bytes horizon ++ (number w16).spell count)) }
+        ≡ magic ++ (version ∷ horizon_bytes horizon ++ (number w16).spell count)) }
 {
     let mut writer = Writer::new(alloc);
     writer.put_bytes(MAGIC)?;
-    writer.put_u8(version_with(newest))?;
+    writer.put_u8(version)?;
     if let Some(horizon) = horizon {
         horizon.write(&mut writer)?;
     }
@@ -227,7 +239,8 @@ pub fn single(alloc: Global, fact: &Fact) -> Result<Vec<u8>, AllocError>
     ensures fits { bundle.Fits (of_facts (fact.now ∷ [])) }
 {
     fact.known();
-    let mut writer = begin_bundle(alloc, kind_of(&fact.body), None, 1)?;
+    let version = version_with(kind_of(&fact.body), false);
+    let mut writer = begin_bundle(alloc, version, None, 1)?;
     fact.write_framed(alloc, &mut writer)?;
     Ok(writer.into_bytes())
 }

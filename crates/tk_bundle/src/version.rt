@@ -1,49 +1,75 @@
-//! The versions of a bundle's bytes, and the kinds of facts that each has.
+//! The versions of a bundle's bytes: the kinds of facts that each has, and whether it has marks.
 
-/// A version of a bundle's bytes. A version has the kinds of the versions before it (own).
+/// A version of a bundle's bytes (own).
 #[derive(Clone, Copy)]
 pub(crate) struct Version {
     /// The digit behind `OTB`.
     digit: u8,
-    /// The number of the newest kind: the version has the kinds 1 to this one.
+    /// The number of the newest kind: the version has facts of the kinds up to this one.
     kinds: u8,
+    /// Whether the version has marks of skipped facts, and then a horizon.
+    marks: bool,
 }
 
 // A bundle keeps the version that it was written in: a row never changes, and a later version is
 // one row more.
-const VERSIONS: [Version; 3] = [
+const VERSIONS: [Version; 5] = [
     Version {
         digit: b'1',
         kinds: 9,
+        marks: false,
     },
     Version {
         digit: b'2',
         kinds: 10,
+        marks: false,
     },
     Version {
         digit: b'3',
-        kinds: MARK_KIND,
+        kinds: 10,
+        marks: true,
+    },
+    Version {
+        digit: b'4',
+        kinds: 12,
+        marks: false,
+    },
+    Version {
+        digit: b'5',
+        kinds: 12,
+        marks: true,
     },
 ];
 
-/// The number of the marks of skipped facts, behind the kinds of facts (own).
-pub(crate) const MARK_KIND: u8 = 11;
-
 ghost use Rattle.std.specs.Prelude.{◌≡◌};
+ghost use Rattle.std.specs.List.{list_any};
 ghost use Rattle.tk_store.specs.SlotShown.{shown_slot};
+ghost use Rattle.tk_bundle.specs.BundleFields.{is_mark};
 ghost use Rattle.tk_bundle.specs.Versions as spec;
 
-use crate::item::Item;
-use tk_fact::Body;
+use crate::item::{Item, is_mark};
+use tk_fact::{Body, ClientKind};
 use tk_store::SlotRef;
 
-// Returns the number of a body's kind, with which its bytes begin.
-#[tactic(auto, unfolding(tk_fact::specs::FactBytes::kinds))]
+// Returns whether a client of this kind keeps its refresh token.
+fn keeps(client_kind: &ClientKind) -> bool
+    ensures { result ≡ spec.keeps client_kind.now }
+{
+    match client_kind {
+        ClientKind::Public => false,
+        ClientKind::Confidential(_) => false,
+        ClientKind::Resource(_) => false,
+        ClientKind::Keeping(_) => true,
+    }
+}
+
+// Returns the number of the kind that a version must have for a body: the body's own, or that of
+// refreshed access tokens for the registration of a client that keeps its refresh token.
 pub(crate) fn kind_of(body: &Body) -> u8
     ensures { result ≡ spec.kind_of body.now }
 {
     match body {
-        Body::ClientAdded(_) => 1,
+        Body::ClientAdded(client) => { if keeps(&client.client_kind) { 12 } else { 1 } }
         Body::ClientRetired(_) => 2,
         Body::ConsentGiven(_) => 3,
         Body::ConsentWithdrawn(_) => 4,
@@ -53,41 +79,72 @@ pub(crate) fn kind_of(body: &Body) -> u8
         Body::TokenRevoked(_) => 8,
         Body::ReuseSeen(_) => 9,
         Body::SubjectOut(_) => 10,
+        Body::AccessRefreshed(_) => 12,
     }
 }
 
-// Returns the digit of the first version that has the kinds up to the given one; 0, which is the
-// digit of no version, if no version has.
-pub(crate) fn version_with(kind: u8) -> u8
-    ensures { result ≡ spec.version_with kind }
+// Returns whether the version has the kinds up to the given one, and marks if they are needed.
+fn has_all(version: &Version, kind: u8, marked: bool) -> bool
+    ensures { result ≡ spec.has_all version.now kind marked }
 {
-    for version in &VERSIONS {
-        if kind <= version.kinds {
+    kind <= version.kinds && (!marked || version.marks)
+}
+
+// Returns the digit of the first version that has the kinds up to the given one, and marks if they
+// are needed; 0, which is the digit of no version, if no version has.
+pub(crate) fn version_with(kind: u8, marked: bool) -> u8
+    ensures { result ≡ spec.version_with kind marked }
+{
+    digit_in(&VERSIONS, kind, marked)
+}
+
+// Returns the digit of the first version in the list that has the kinds up to the given one, and
+// marks if they are needed; 0 if no version has.
+fn digit_in(versions: &[Version], kind: u8, marked: bool) -> u8
+    ensures { result ≡ spec.digit_in versions.now kind marked }
+{
+    for version in versions {
+        if has_all(version, kind, marked) {
             return version.digit;
         }
     }
     0
 }
 
-// Returns the number of the kind of a fact, or that of a mark.
+// Returns the number of the kind that a version must have for a fact; 0 for a mark, which needs no
+// kind.
 pub(crate) fn kind_in(slot: &SlotRef<'_>) -> u8
     ensures { result ≡ spec.kind_in (shown_slot slot.now) }
 {
     match slot {
         SlotRef::Held(fact) => kind_of(&fact.body),
-        SlotRef::Skipped => MARK_KIND,
+        SlotRef::Skipped => 0,
     }
 }
 
-// Returns the digit of the first version that has the kinds of all of the items.
+// Returns the digit of the first version that has all of the items.
 pub(crate) fn version_of(items: &[Item]) -> u8
     ensures { result ≡ spec.version_of items.now }
+{
+    version_with(newest_kind(items), has_mark(items))
+}
+
+// Returns whether one of the items is a mark.
+fn has_mark(items: &[Item]) -> bool
+    ensures { result ≡ list_any is_mark items.now }
+{
+    items.iter().any(|item| is_mark(item))
+}
+
+// Returns the newest kind among the items.
+fn newest_kind(items: &[Item]) -> u8
+    ensures { result ≡ spec.newest_kind 0 items.now }
 {
     let mut newest: u8 = 0;
     for item in items {
         newest = newest.max(kind_in(&item.slot()));
     }
-    version_with(newest)
+    newest
 }
 
 // Returns whether the digit is that of a version.
@@ -98,9 +155,12 @@ pub(crate) fn is_version(digit: u8) -> bool
     VERSIONS.iter().any(|version| version.digit == digit)
 }
 
-// Returns whether a bundle of the version has a horizon.
+// Returns whether a bundle of the version has a horizon: it has marks.
+#[tactic(auto, unfolding(crate::specs::Versions::has_horizon))]
 pub(crate) fn has_horizon(digit: u8) -> bool
     ensures { result ≡ spec.has_horizon digit }
 {
-    digit == b'3'
+    VERSIONS
+        .iter()
+        .any(|version| version.digit == digit && version.marks)
 }
