@@ -11,7 +11,9 @@ import time
 LIFE, FAMILY = 86_400, 2_592_000
 CODE, ACCESS, REFRESH = 1, 2, 3
 SCOPE, REDIRECT = b"read write", b"https://app.example/callback"
-SUBJECT_OUT = 10  # the kind of fact that makes a bundle an OTB2
+CLIENT_ADDED, SUBJECT_OUT, ACCESS_REFRESHED = 1, 10, 12  # kinds of facts
+KEEPING = 3  # the client kind of a client that keeps its refresh token
+MARKED = {b"OTB3", b"OTB5"}  # the versions with marks, and so with a horizon
 MARK = 10  # the length of the mark of a skipped fact, its dot
 HORIZON = 1000  # a moment that is over
 ELSEWHERE = 60000  # a region number that no site comes to
@@ -99,9 +101,12 @@ class Maker:
     def new_dot(self):
         return self.region, next(self.serials)
 
+    def access_token(self, at):
+        return digest(ACCESS, at) + struct.pack(">Q", self.now + LIFE) + text(SCOPE)
+
     def tokens(self, at):
-        access = digest(ACCESS, at) + struct.pack(">Q", self.now + LIFE) + text(SCOPE)
-        return access + digest(REFRESH, at) + struct.pack(">Q", self.now + FAMILY) + text(SCOPE)
+        refresh = digest(REFRESH, at) + struct.pack(">Q", self.now + FAMILY) + text(SCOPE)
+        return self.access_token(at) + refresh
 
     def code(self):
         """A code: its dot, and the fact."""
@@ -128,6 +133,12 @@ class Maker:
         return at, dot(at) + b"\7" + dot(parent) + struct.pack(">HQ", generation, self.now) + (
             self.tokens(at))
 
+    def kept(self, parent):
+        """An access token for the refresh token of a dot that is kept: its dot, and the fact."""
+        at = self.new_dot()
+        return at, dot(at) + bytes((ACCESS_REFRESHED,)) + dot(parent) + (
+            struct.pack(">Q", self.now) + self.access_token(at))
+
     def logins(self, count):
         """The dots of N redemptions, and the facts of N logins."""
         made = [self.login() for _ in range(count)]
@@ -144,12 +155,26 @@ class Maker:
 
 def bundle(items, horizon=None):
     """The bundle of items, facts or marks, in the order of their dots."""
-    version = b"OTB1"
-    if any(len(it) == MARK for it in items):
-        version = b"OTB3" + struct.pack(">Q", HORIZON if horizon is None else horizon)
-    elif any(it[MARK] == SUBJECT_OUT for it in items):
-        version = b"OTB2"
-    return version + struct.pack(">H", len(items)) + b"".join(map(text, items))
+    head = version_of(items)
+    if head in MARKED:
+        head += struct.pack(">Q", HORIZON if horizon is None else horizon)
+    return head + struct.pack(">H", len(items)) + b"".join(map(text, items))
+
+
+def version_of(items):
+    """The first version that has all of these items."""
+    marked = any(len(it) == MARK for it in items)
+    kinds = {it[MARK:MARK + 2] for it in items if len(it) > MARK}
+    if any(it[0] == ACCESS_REFRESHED or it == bytes((CLIENT_ADDED, KEEPING)) for it in kinds):
+        return b"OTB5" if marked else b"OTB4"
+    if marked:
+        return b"OTB3"
+    return b"OTB2" if any(it[0] == SUBJECT_OUT for it in kinds) else b"OTB1"
+
+
+def count_at(log, at):
+    """Where the number of items is of the bundle that begins at a place of a log."""
+    return at + (12 if log[at:at + 4] in MARKED else 4)
 
 
 def bundles(facts, size=128):
@@ -166,7 +191,7 @@ def facts_of(log):
     """The items of bundles that are one behind the other."""
     found, at = [], 0
     while at < len(log):
-        at += 12 if log[at:at + 4] == b"OTB3" else 4
+        at = count_at(log, at)
         count, at = int.from_bytes(log[at:at + 2], "big"), at + 2
         for _ in range(count):
             length, at = int.from_bytes(log[at:at + 2], "big"), at + 2
@@ -181,7 +206,7 @@ def marks_in(log):
 
 def end_of_bundle(log, at):
     """Where the bundle ends that begins at a place of a log; past the log, if it is cut."""
-    at += 12 if log[at:at + 4] == b"OTB3" else 4
+    at = count_at(log, at)
     count = int.from_bytes(log[at:at + 2], "big")
     at += 2
     for _ in range(count):

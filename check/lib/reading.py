@@ -6,12 +6,17 @@
 import datetime
 import json
 
-KINDS = ["client_added", "client_retired", "consent_given", "consent_withdrawn", "code_issued",
-         "code_redeemed", "refresh_rotated", "token_revoked", "reuse_seen", "subject_out"]
+KINDS = {1: "client_added", 2: "client_retired", 3: "consent_given", 4: "consent_withdrawn",
+         5: "code_issued", 6: "code_redeemed", 7: "refresh_rotated", 8: "token_revoked",
+         9: "reuse_seen", 10: "subject_out", 12: "access_refreshed"}
+CLIENT_KINDS = ["public", "confidential", "resource", "confidential"]
+KEEPING = 3  # the client kind of a confidential client that keeps its refresh token
 TOKENS = {1: "code", 2: "access_token", 3: "refresh_token"}
 MARK = "mark"
-# The kinds of facts that may be skipped: each mints a code or a refresh token, or is of a reuse.
-PASSING = {"code_issued", "code_redeemed", "refresh_rotated", "token_revoked", "reuse_seen"}
+MARKED = {b"OTB3", b"OTB5"}  # the versions with marks, and so with a horizon
+# The kinds of facts that may be skipped: each mints a token, or is of a reuse or a revocation.
+PASSING = {"code_issued", "code_redeemed", "refresh_rotated", "token_revoked", "reuse_seen",
+           "access_refreshed"}
 EPOCH = datetime.datetime(1970, 1, 1)
 
 
@@ -63,7 +68,9 @@ def token(item):
 def client_added(item):
     """Returns the fields of a client, of whichever kind."""
     sort = item.number(1)
-    fields = {"client_kind": ["public", "confidential", "resource"][sort]}
+    fields = {"client_kind": CLIENT_KINDS[sort]}
+    if sort == KEEPING:
+        fields["refresh"] = "kept"
     if sort:
         fields["secret_digest"] = item.take(32).hex()
     fields["scope"] = item.text()
@@ -107,6 +114,9 @@ def fields_of(kind, item):
         "reuse_seen": token,
         "subject_out": lambda item: {"subject": item.text(),
                                      **moment("moment", item.number(8))},
+        "access_refreshed": lambda item: {"parent": item.dot(),
+                                          **moment("start", item.number(8)),
+                                          "access_token": minted(item)},
     }
     return readers[kind](item)
 
@@ -117,13 +127,13 @@ def item_of(item, horizon):
     dot = reader.dot()
     if reader.is_empty():
         return {"dot": dot, "kind": MARK, **moment("horizon", horizon)}
-    kind = KINDS[reader.number(1) - 1]
+    kind = KINDS[reader.number(1)]
     return {"dot": dot, "kind": kind, **fields_of(kind, reader)}
 
 
 def bundle_of(reader):
     """The objects of the bundle at the front."""
-    horizon = reader.number(8) if reader.take(4) == b"OTB3" else None
+    horizon = reader.number(8) if reader.take(4) in MARKED else None
     items = [reader.take(reader.number(2)) for _ in range(reader.number(2))]
     return [item_of(item, horizon) for item in items]
 

@@ -72,6 +72,7 @@ BUNDLES = {
     "a public client": bundle([fact(1, client(0, [URI]))]),
     "a confidential client": bundle([fact(1, client(1, [URI, b"app:/cb"]))]),
     "a resource server": bundle([fact(1, client(2, [URI] * 8))]),
+    "a client that keeps its refresh token": bundle([fact(1, client(3, [URI]))], b"OTB4"),
     "a retired client": bundle([fact(2, dot(1, 1), 9)]),
     "a consent": bundle([fact(3, dot(1, 1) + text(b"ann") + text(b"read write"), 2)]),
     "a withdrawn consent": bundle([fact(4, dot(1, 2), 3)]),
@@ -87,6 +88,11 @@ BUNDLES = {
     "a sign-out": bundle([sign_out(b"ann", 1020, 5)], b"OTB2"),
     "texts with escapes": bundle([sign_out(b'"\\"ann\\!~', 1020, 5)], b"OTB2"),
     "all visible bytes": bundle([sign_out(bytes(range(0x21, 0x7F)), 0, 5)], b"OTB2"),
+    "a refreshed access token": bundle(
+        [fact(12, dot(1, 4) + moments(1200) + minted(DIGEST, LAST), 5)], b"OTB4"),
+    "a refreshed access token and a mark": bundle(
+        [dot(1, 3), fact(12, dot(1, 4) + moments(0) + minted(OTHER, 0), 5)], b"OTB5",
+        moments(1100)),
     "marks": marks(1100, (1, 3), (1, 4), (2, 1)),
     "a mark and a fact": bundle([dot(1, 3), sign_out(b"ann", 7, 4)], b"OTB3", moments(LAST)),
     "no fact": bundle([]),

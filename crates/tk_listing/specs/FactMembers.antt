@@ -13,6 +13,7 @@ use Rattle.tk_fact.specs.declared.client_kind.ClientKind.TheVariants.{
   Public,
   Confidential,
   Resource,
+  Keeping,
 }
 use Rattle.tk_fact.specs.declared.client_added.ClientAdded.{ClientAdded}
 use Rattle.tk_fact.specs.declared.consent_given.ConsentGiven.{ConsentGiven}
@@ -21,6 +22,7 @@ use Rattle.tk_fact.specs.declared.code_redeemed.CodeRedeemed.{CodeRedeemed}
 use Rattle.tk_fact.specs.declared.refresh_rotated.RefreshRotated.{RefreshRotated}
 use Rattle.tk_fact.specs.declared.token_revoked.TokenRevoked.{TokenRevoked}
 use Rattle.tk_fact.specs.declared.subject_out.SubjectOut.{SubjectOut}
+use Rattle.tk_fact.specs.declared.access_refreshed.AccessRefreshed.{AccessRefreshed}
 use Rattle.tk_fact.specs.declared.minted_token.MintedToken.{MintedToken}
 use Rattle.tk_fact.specs.declared.body.Body.{Body}
 use Rattle.tk_fact.specs.declared.body.Body.TheVariants as bodies
@@ -33,11 +35,23 @@ secret_members kind digest =
     plain_member (codes "client_kind") kind
     ++ plain_member (codes "secret_digest") (hex_text digest)
 
+-- that a client keeps its refresh token, and the digest of the client's secret
+unfoldable pub kept_members : List ℕ → List ℕ
+kept_members digest =
+    plain_member (codes "refresh") (codes "kept")
+    ++ plain_member (codes "secret_digest") (hex_text digest)
+
+-- the client kind, that the client keeps its refresh token, and the digest of its secret
+unfoldable pub keeping_members : List ℕ → List ℕ → List ℕ
+keeping_members kind digest =
+    plain_member (codes "client_kind") kind ++ kept_members digest
+
 -- the client kind, with the digest of the client's secret if it has one
 abbrev pub client_kind_members : ClientKind → List ℕ
 client_kind_members Public = plain_member (codes "client_kind") (codes "public")
 client_kind_members (Confidential digest) = secret_members (codes "confidential") digest
 client_kind_members (Resource digest) = secret_members (codes "resource") digest
+client_kind_members (Keeping digest) = keeping_members (codes "confidential") digest
 
 -- the name of a challenge's method
 unfoldable pub method_name : Bool → List ℕ
@@ -139,6 +153,12 @@ unfoldable pub sign_out_fields : SubjectOut → List ℕ
 sign_out_fields f =
     text_member (codes "subject") f.subject ++ moment_member (codes "moment") f.moment
 
+-- the members of an access token that is refreshed
+unfoldable pub refreshed_fields : AccessRefreshed → List ℕ
+refreshed_fields f =
+    dot_member (codes "parent") f.parent
+    ++ (moment_member (codes "start") f.start ++ minted_member (codes "access_token") f.access)
+
 -- the members of a fact's fields, in the order of its bytes
 unfoldable pub fields_of : Body → List ℕ
 fields_of (bodies.ClientAdded f) = client_fields f
@@ -151,3 +171,4 @@ fields_of (bodies.RefreshRotated f) = rotated_fields f
 fields_of (bodies.TokenRevoked f) = revoked_fields f
 fields_of (bodies.ReuseSeen f) = token_members f.token
 fields_of (bodies.SubjectOut f) = sign_out_fields f
+fields_of (bodies.AccessRefreshed f) = refreshed_fields f

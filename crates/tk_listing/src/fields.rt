@@ -9,8 +9,8 @@ use crate::members::{
 };
 use std::alloc::AllocError;
 use tk_fact::{
-    Body, ClientAdded, ClientKind, CodeIssued, CodeRedeemed, ConsentGiven, MintedToken,
-    RefreshRotated, SubjectOut, TokenRevoked,
+    AccessRefreshed, Body, ClientAdded, ClientKind, CodeIssued, CodeRedeemed, ConsentGiven,
+    MintedToken, RefreshRotated, SubjectOut, TokenRevoked,
 };
 use tk_format::Writer;
 use tk_handle::{Kind, TokenId};
@@ -32,6 +32,7 @@ pub(crate) fn put_fields(writer: &mut Writer, body: &Body) -> Result<(), AllocEr
         Body::TokenRevoked(fields) => put_revoked(writer, fields),
         Body::ReuseSeen(fields) => put_token(writer, fields.token),
         Body::SubjectOut(fields) => put_out(writer, fields),
+        Body::AccessRefreshed(fields) => put_refreshed(writer, fields),
     }
 }
 
@@ -53,7 +54,26 @@ fn put_client_kind(writer: &mut Writer, client_kind: &ClientKind) -> Result<(), 
         ClientKind::Public => put_plain(writer, b"client_kind", b"public"),
         ClientKind::Confidential(digest) => put_secret(writer, b"confidential", digest),
         ClientKind::Resource(digest) => put_secret(writer, b"resource", digest),
+        ClientKind::Keeping(digest) => put_keeping(writer, b"confidential", digest),
     }
+}
+
+// Writes the client kind, that the client keeps its refresh token, and the digest of its secret.
+#[tactic(auto, unfolding(crate::specs::FactMembers::keeping_members))]
+fn put_keeping(writer: &mut Writer, kind: &[u8], digest: &[u8]) -> Result<(), AllocError>
+    ensures { OnOk result (writer.new ≡ writer.old ++ spec.keeping_members kind.now digest.now) }
+{
+    put_plain(writer, b"client_kind", kind)?;
+    put_kept(writer, digest)
+}
+
+// Writes that a client keeps its refresh token, and the digest of the client's secret.
+#[tactic(auto, unfolding(crate::specs::FactMembers::kept_members))]
+fn put_kept(writer: &mut Writer, digest: &[u8]) -> Result<(), AllocError>
+    ensures { OnOk result (writer.new ≡ writer.old ++ spec.kept_members digest.now) }
+{
+    put_plain(writer, b"refresh", b"kept")?;
+    put_hex(writer, b"secret_digest", digest)
 }
 
 // Writes the client kind, and the digest of the client's secret.
@@ -156,6 +176,16 @@ fn put_rotated(writer: &mut Writer, fields: &RefreshRotated) -> Result<(), Alloc
     put_number(writer, b"generation", u64::from(fields.generation))?;
     put_time(writer, b"start", fields.start)?;
     put_two(writer, &fields.access, &fields.refresh)
+}
+
+// Writes the members of an access token that is refreshed.
+#[tactic(auto, unfolding(crate::specs::FactMembers::refreshed_fields))]
+fn put_refreshed(writer: &mut Writer, fields: &AccessRefreshed) -> Result<(), AllocError>
+    ensures { OnOk result (writer.new ≡ writer.old ++ spec.refreshed_fields fields.now) }
+{
+    put_dot(writer, b"parent", fields.parent)?;
+    put_time(writer, b"start", fields.start)?;
+    put_minted(writer, b"access_token", &fields.access)
 }
 
 // Writes the two tokens of a grant.

@@ -64,6 +64,7 @@ fn kind_name(body: &Body) -> &'static [u8]
         Body::TokenRevoked(_) => b"token_revoked",
         Body::ReuseSeen(_) => b"reuse_seen",
         Body::SubjectOut(_) => b"subject_out",
+        Body::AccessRefreshed(_) => b"access_refreshed",
     }
 }
 
