@@ -62,7 +62,7 @@ use Rattle.tk_ledger.proofs.SubjectTableLaws.{issuing, issues_to, issues_none, s
 use Rattle.tk_ledger.proofs.SubjectTableLaws.{signs_none, unsigned_early, IsEarly, RangedCodes}
 use Rattle.tk_ledger.proofs.SubjectTableLaws.{RangedOuts, codes_on, codes_ranged, codes_alike}
 use Rattle.tk_ledger.proofs.SubjectTableLaws.{codes_back, outs_on, outs_ranged, outs_alike}
-use Rattle.tk_ledger.proofs.TokenLaws.{from_some}
+use Rattle.tk_ledger.proofs.RootLaws.{from_some}
 use Rattle.tk_ledger.proofs.ForestLaws.{puts, link-change, revoking, signs, links_still, links_put}
 use Rattle.tk_ledger.proofs.ForestLaws.{tied_still, tied_put, tied_mark, tied_revoke}
 use Rattle.tk_ledger.proofs.OutLaws.{tied_out}

@@ -27,7 +27,8 @@ use Rattle.tk_store.proofs.PutLaws.{some_injective, none_is_not_some}
 use Rattle.tk_store.proofs.OneMoreLaws.{OneMore, more_subset, any_fact-more, cases_dots}
 use Rattle.tk_ledger.specs.Tokens.{link_of, links_in, issued_in, issued_at, sees_reuse, is_reused}
 use Rattle.tk_ledger.specs.Tokens.{IsOut, IsStopped, is_stopped, is_marked, IsEnded}
-use Rattle.tk_ledger.proofs.TokenLaws.{from_some, links-below, is_stopped-sound}
+use Rattle.tk_ledger.proofs.RootLaws.{from_some, links-below, ended-under, under-minted}
+use Rattle.tk_ledger.proofs.TokenLaws.{is_stopped-sound}
 use Rattle.tk_ledger.proofs.TokenLaws.{is_stopped-complete}
 
 -- the body revokes the token
@@ -52,13 +53,14 @@ same_at g F G w q l y at h =
     let x : (b : Body) × (map.get F q ≡ Some b) × (link_of b ≡ Some l) = from_some link_of (map.get F q) l at in
     ap (option_and_then g) (x.1 ∙ sym (w q x.0 x.1)) ∙ h
 
-ended_before : (F G : FactSet) (d : Dot) (b : Body) (k : TokenId) (c : Dot) → OneMore F G d b
+ended_before : (F G : FactSet) (d : Dot) (b : Body) (k : TokenId) (c : Dot)
+    → k.kind ≢ kind.Access → OneMore F G d b
     → (e : IsEnded (map.get G) k) → e.by_client.place ≢ d → IsUnder (links_in (map.get F)) k.dot c
     → IsEnded (map.get F) k
-ended_before F G d b k c m e apart under =
+ended_before F G d b k c other m e apart under =
     let w : IsSubset F G = more_subset F G d b m in
     let after : IsUnder (links_in (map.get G)) k.dot c = IsUnder-within (links_in (map.get F)) (links_in (map.get G)) (links-below F G w) k.dot c under in
-    let one : c ≡ e.code = IsUnder-one (links_in (map.get G)) k.dot c e.code after e.under in
+    let one : c ≡ e.code = IsUnder-one (links_in (map.get G)) k.dot c e.code after (ended-under (map.get G) k other e) in
     let l : (l : Link) × (links_in (map.get F) k.dot ≡ Some l) = link_under (links_in (map.get F)) k.dot c under in
     let code : links_in (map.get F) e.code ≡ Some Code = ap (links_in (map.get F)) (sym one) ∙ under.leads.1 in
     record {
@@ -66,7 +68,7 @@ ended_before F G d b k c m e apart under =
       code = e.code;
       issued = e.issued;
       mints = same_at (λ x. minted_of x k.kind) F G w k.dot l.0 e.minted l.1 e.mints;
-      under = subst (λ (x : Dot). IsUnder (links_in (map.get F)) k.dot x) one under;
+      under = under-minted (map.get F) k.dot e.code (subst (λ (x : Dot). IsUnder (links_in (map.get F)) k.dot x) one under);
       issues = same_at issued_in F G w e.code Code e.issued code e.issues;
       by_client = record {
         place = e.by_client.place;
@@ -78,12 +80,12 @@ ended_before F G d b k c m e apart under =
       };
     }
 
--- a token that one more fact ends is the one that it revokes, or is at a dot that it brings under a
+-- a code or refresh token that one more fact ends is the one that it revokes, or is at a dot that it brings under a
 -- code
-ended_by_one : (F G : FactSet) (d : Dot) (b : Body) (k : TokenId) → OneMore F G d b
-    → IsEnded (map.get G) k
+ended_by_one : (F G : FactSet) (d : Dot) (b : Body) (k : TokenId) → k.kind ≢ kind.Access
+    → OneMore F G d b → IsEnded (map.get G) k
     → IsEnded (map.get F) k ⊎ (Revokes b k ⊎ IsRaised (links_in (map.get F)) (links_in (map.get G)) k.dot)
-ended_by_one F G d b k m e = elim (cases_dots e.by_client.place d) [
+ended_by_one F G d b k other m e = elim (cases_dots e.by_client.place d) [
   | inl same ↦ inr (inl (record {
     revocation = e.by_client.revocation;
     body = some_injective b (TokenRevoked e.by_client.revocation) (sym m.here ∙ ap (map.get G) (sym same) ∙ e.by_client.held);
@@ -94,8 +96,8 @@ ended_by_one F G d b k m e = elim (cases_dots e.by_client.place d) [
   where
     by_code : (o : Option Dot) → code_of (links_in (map.get F)) k.dot ≡ o → e.by_client.place ≢ d
         → IsEnded (map.get F) k ⊎ (Revokes b k ⊎ IsRaised (links_in (map.get F)) (links_in (map.get G)) k.dot)
-    by_code None none apart = inr (inr (record { code = e.code; now = e.under; before = λ c u. none_is_not_some c (sym none ∙ code_of-complete (links_in (map.get F)) k.dot c u) }))
-    by_code (Some c) at apart = inl (ended_before F G d b k c m e apart (code_of-sound (links_in (map.get F)) k.dot c at))
+    by_code None none apart = inr (inr (record { code = e.code; now = ended-under (map.get G) k other e; before = λ c u. none_is_not_some c (sym none ∙ code_of-complete (links_in (map.get F)) k.dot c u) }))
+    by_code (Some c) at apart = inl (ended_before F G d b k c other m e apart (code_of-sound (links_in (map.get F)) k.dot c at))
 
 -- the body signs out the subject of a code at its start, or later
 pub record SignsOut (G : FactSet) (b : Body) (k : TokenId) : Type 0 where
@@ -164,9 +166,15 @@ out_by_one F G d b k code m o = elim (cases_dots o.signed_out.place d) [
 abbrev pub Stops : FactSet → FactSet → Body → TokenId → Type 0
 Stops F G b k = Revokes b k ⊎ (SignsOut G b k ⊎ IsRaised (links_in (map.get F)) (links_in (map.get G)) k.dot)
 
+no_access : (k : TokenId) → k.kind ≡ kind.Refresh → k.kind ≢ kind.Access
+no_access k is other = absurd (apart (sym is ∙ other))
+  where
+    apart : ¬ (kind.Refresh ≡ kind.Access)
+    apart e = cc
+
 stopped_by_one : (F G : FactSet) (d : Dot) (b : Body) (k : TokenId) → OneMore F G d b
     → IsStopped (map.get G) k → IsStopped (map.get F) k ⊎ Stops F G b k
-stopped_by_one F G d b k m (inl e) = elim (ended_by_one F G d b k m e.1) [
+stopped_by_one F G d b k m (inl e) = elim (ended_by_one F G d b k (no_access k e.0) m e.1) [
   | inl old ↦ inl (inl (e.0, old))
   | inr (inl revokes) ↦ inr (inl revokes)
   | inr (inr raised) ↦ inr (inr (inr raised))

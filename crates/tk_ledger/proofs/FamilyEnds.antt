@@ -20,15 +20,17 @@ use Rattle.tk_fact.specs.declared.body.Body.{Body}
 use Rattle.tk_fact.specs.declared.body.Body.TheVariants.{ClientAdded, ClientRetired, ConsentGiven}
 use Rattle.tk_fact.specs.declared.body.Body.TheVariants.{ConsentWithdrawn, CodeIssued, CodeRedeemed}
 use Rattle.tk_fact.specs.declared.body.Body.TheVariants.{RefreshRotated, TokenRevoked, ReuseSeen}
-use Rattle.tk_fact.specs.declared.body.Body.TheVariants.{SubjectOut}
+use Rattle.tk_fact.specs.declared.body.Body.TheVariants.{SubjectOut, AccessRefreshed}
 use Rattle.tk_fact.specs.Tokens.{MintedFields, minted_of}
 use Rattle.tk_store.specs.FactSet.{FactSet, IsSubset}
 use Rattle.tk_ledger.specs.Bodies.{Bodies}
-use Rattle.tk_ledger.specs.Tokens.{link_of, links_in, minted_in, IsEnded, IsOut, IsMarked}
+use Rattle.tk_ledger.specs.Tokens.{link_of, links_in, anchor_in, IsMintedUnder, minted_in, IsEnded}
+use Rattle.tk_ledger.specs.Tokens.{IsOut, IsMarked}
 use Rattle.tk_ledger.specs.Status.{IsActive}
 use Rattle.tk_ledger.specs.Ends.{FamilyEnds}
 use Rattle.tk_ledger.proofs.EndingLaws.{under_itself}
-use Rattle.tk_ledger.proofs.TokenLaws.{from_some, IsBad-below, IsEnded-below, IsOut-below}
+use Rattle.tk_ledger.proofs.RootLaws.{from_some, ended-under}
+use Rattle.tk_ledger.proofs.TokenLaws.{IsBad-below, IsEnded-below, IsOut-below}
 use Rattle.tk_ledger.proofs.StatusLaws.{no_code_is}
 
 -- ---- bad grants
@@ -50,6 +52,7 @@ grant_of kind.Code d (RefreshRotated b) m na h = absurd (cc)
 grant_of kind.Code d (TokenRevoked b) m na h = absurd (cc)
 grant_of kind.Code d (ReuseSeen b) m na h = absurd (cc)
 grant_of kind.Code d (SubjectOut b) m na h = absurd (cc)
+grant_of kind.Code d (AccessRefreshed b) m na h = absurd (cc)
 grant_of kind.Refresh d (ClientAdded b) m na h = absurd (cc)
 grant_of kind.Refresh d (ClientRetired b) m na h = absurd (cc)
 grant_of kind.Refresh d (ConsentGiven b) m na h = absurd (cc)
@@ -58,6 +61,7 @@ grant_of kind.Refresh d (CodeIssued b) m na h = absurd (cc)
 grant_of kind.Refresh d (TokenRevoked b) m na h = absurd (cc)
 grant_of kind.Refresh d (ReuseSeen b) m na h = absurd (cc)
 grant_of kind.Refresh d (SubjectOut b) m na h = absurd (cc)
+grant_of kind.Refresh d (AccessRefreshed b) m na h = absurd (cc)
 
 -- a minted token that is no access token is the grant of the link at its dot
 grant_there : (body_at : Bodies) (k : TokenId) (m : MintedFields) → k.kind ≢ kind.Access
@@ -85,7 +89,7 @@ bad_grants body_at k m na mints =
 -- no token of a family with a bad grant is active
 pub family_ends : (body_at : Bodies) (now : ℕ) (h : Handle) → FamilyEnds body_at now h
 family_ends body_at now h d c bad under member a =
-    let one : c ≡ a.code = IsUnder-one (links_in body_at) h.id.dot c a.code member a.under in
+    let one : c ≡ a.code = IsUnder-one (links_in body_at) (anchor_in body_at h.id.dot) c a.code member a.under in
     a.alive (subst (λ (x : Dot). IsDead (links_in body_at) (IsMarked body_at) x) one (record { member = d; under = under; bad = bad }))
 
 -- no token that its client revoked is active
@@ -95,7 +99,7 @@ revoked_ends body_at now h e a = elim (no_code_is h.id.kind a.no_code) [
   | inl access ↦ a.access access e
   | inr refresh ↦
       let bad = (bad_grants body_at h.id e.minted (λ same. clash (sym refresh ∙ same)) e.mints).1 (inl (inr (inl (refresh, e)))) in
-      family_ends body_at now h h.id.dot e.code bad e.under e.under a
+      family_ends body_at now h h.id.dot e.code bad (ended-under body_at h.id (λ same. clash (sym refresh ∙ same)) e) e.under a
 ]
   where
     clash : ¬ (kind.Refresh ≡ kind.Access)
@@ -105,7 +109,7 @@ revoked_ends body_at now h e a = elim (no_code_is h.id.kind a.no_code) [
 
 pub family_inactive : (F G : FactSet) → IsSubset F G → (now : ℕ) (h : Handle) (d c : Dot)
     → IsBad (links_in (map.get F)) (IsMarked (map.get F)) d → IsUnder (links_in (map.get G)) d c
-    → IsUnder (links_in (map.get G)) h.id.dot c → ¬ IsActive (map.get G) now h
+    → IsMintedUnder (map.get G) h.id.dot c → ¬ IsActive (map.get G) now h
 family_inactive F G w now h d c bad under member = family_ends (map.get G) now h d c (IsBad-below F G w d bad) under member
 
 pub revoked_inactive : (F G : FactSet) → IsSubset F G → (now : ℕ) (h : Handle)
@@ -114,7 +118,7 @@ revoked_inactive F G w now h e = revoked_ends (map.get G) now h (IsEnded-below F
 
 -- a code whose subject signed out is a bad grant, under itself
 pub signed_out_inactive : (F G : FactSet) → IsSubset F G → (now : ℕ) (h : Handle) (c : Dot)
-    → IsOut (map.get F) c → IsUnder (links_in (map.get G)) h.id.dot c → ¬ IsActive (map.get G) now h
+    → IsOut (map.get F) c → IsMintedUnder (map.get G) h.id.dot c → ¬ IsActive (map.get G) now h
 signed_out_inactive F G w now h c gone member =
     let before = under_itself F c gone.issued gone.issues in
     let after = IsOut-below F G w c gone in

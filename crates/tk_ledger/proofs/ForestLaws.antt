@@ -35,7 +35,7 @@ use Rattle.tk_ledger.specs.Index.{IsTied, Wakes}
 use Rattle.tk_ledger.specs.declared.change.Change.{Change}
 use Rattle.tk_ledger.specs.declared.change.Change.TheVariants as change
 use Rattle.tk_ledger.proofs.TokenLaws.{is_marked-sound, is_marked-complete, IsMarked-below}
-use Rattle.tk_ledger.proofs.TokenLaws.{links-below}
+use Rattle.tk_ledger.proofs.RootLaws.{links-below}
 use Rattle.tk_ledger.proofs.SameLaws.{same_token-true}
 use Rattle.tk_ledger.proofs.KeyLaws.{same_tests, at_itself}
 use Rattle.tk_ledger.proofs.EndingLaws.{Revokes, SignsOut, Stops, link_under, marks_by_one}

@@ -1,5 +1,5 @@
--- All tables, and the forest, for each kind of change. Key results: index_add .. index_out, and
--- index_back if memory ran out.
+-- All tables, and the forest, for each kind of change. Key results: index_add .. index_nothing,
+-- and index_back if memory ran out.
 use Rattle.std.proofs.Common.{◌≡◌, ℕ, ◌&&◌, ◌||◌, not, cond, true, List, Some, refl, ap, ◌∙◌}
 use Rattle.std.specs.Option.{option_map}
 use Rattle.std.specs.Ordering.{eq_by_cmp}
@@ -163,6 +163,20 @@ index_out G d subject moment x s z h i rows tied = record {
   outs_are = rows;
   reuses_are = same_reuses G d (change.SignOut subject moment) x.reuses h (λ _. refl) i.reuses_are;
   tied = tied;
+}
+
+pub index_nothing : (G : FactSet) (d : Dot) (x : Index)
+    → option_map change_in (map.get G d) ≡ Some change.Nothing → IsIndexed (map.remove G d) x
+    → IsIndexed G x
+index_nothing G d x h i = record {
+  clients_are = clients_by G d change.Nothing x.clients x.clients h i.clients_are (λ q. refl) (λ q. refl);
+  consents_are = same_consents G d change.Nothing x.consents h (λ _ _. refl) (λ _. refl) i.consents_are;
+  withdrawn_are = withdrawals_by G d change.Nothing x.withdrawn x.withdrawn h i.withdrawn_are (λ q. refl);
+  revocations_are = same_revocations G d change.Nothing x.revocations h (λ _ _ _. refl) i.revocations_are;
+  codes_are = same_codes G d change.Nothing x.codes h refl i.codes_are;
+  outs_are = same_outs G d change.Nothing x.outs h refl i.outs_are;
+  reuses_are = same_reuses G d change.Nothing x.reuses h (λ _. refl) i.reuses_are;
+  tied = quiet_ties G d change.Nothing x.forest h refl refl refl (λ k. refl) i.tied;
 }
 
 -- tables of the same set in place of others

@@ -13,9 +13,11 @@ pub mod KeyLaws
 pub mod KeySearchLaws
 pub mod LossLaws
 pub mod OutLaws
+pub mod QuietLoss
 pub mod RetentionLaws
 pub mod ReuseLaws
 pub mod RevocationLaws
+pub mod RootLaws
 pub mod SameLaws
 pub mod SignOutLaws
 pub mod SkipLaws

@@ -65,18 +65,18 @@ use Rattle.tk_ledger.proofs.SubjectKeyLaws.{code_tied, code_tied-dot}
 use Rattle.tk_ledger.proofs.SubjectTableLaws.{issuing, issues_to, issues_none, signs_none}
 use Rattle.tk_ledger.proofs.SubjectTableLaws.{issued_on, signed_on, without}
 use Rattle.tk_ledger.proofs.TableLaws.{retires-change, added_on, given_on, withdrawn_on}
-use Rattle.tk_ledger.proofs.TokenLaws.{links-below}
+use Rattle.tk_ledger.proofs.RootLaws.{links-below}
 use Rattle.tk_ledger.proofs.WakeLaws.{grant_place}
 
 -- ---- tables that have no key of the fact
 
-clients_less : (F G : FactSet) (d : Dot) (b : Body) (t : BTreeMap Dot ClientRow) → OneMore F G d b → adds (change_in b) ≡ false → ((q : Dot) → retires_of q (change_in b) ≡ false) → IsClients G t → IsClients F t
+pub clients_less : (F G : FactSet) (d : Dot) (b : Body) (t : BTreeMap Dot ClientRow) → OneMore F G d b → adds (change_in b) ≡ false → ((q : Dot) → retires_of q (change_in b) ≡ false) → IsClients G t → IsClients F t
 clients_less F G d b t m none kept i = record {
   added = λ q. i.added q ∙ sym (added_on F G d b q (is_some (client_at F q)) m refl) ∙ ap (λ a. (a && is_at d q) || is_some (client_at F q)) none;
   retired = λ q. i.retired q ∙ any_fact-more (retires q) F G d b m ∙ ap (λ a. a || is_retired F q) (retires-change q b ∙ kept q);
 }
 
-consents_less : (F G : FactSet) (d : Dot) (b : Body) (t : BTreeSet ConsentKey) → OneMore F G d b → ((client : Dot) (subject : List ℕ) → gives_to client subject (change_in b) ≡ false) → ((q : Dot) → withdraws_of q (change_in b) ≡ false) → IsConsents G t → IsConsents F t
+pub consents_less : (F G : FactSet) (d : Dot) (b : Body) (t : BTreeSet ConsentKey) → OneMore F G d b → ((client : Dot) (subject : List ℕ) → gives_to client subject (change_in b) ≡ false) → ((q : Dot) → withdraws_of q (change_in b) ≡ false) → IsConsents G t → IsConsents F t
 consents_less F G d b t m none kept i = record {
   listed = λ c s q. i.listed c s q
       ∙ ap (λ x. x && not (is_withdrawn G q)) (sym (given_on F G d b c s q (is_from c s (consent_at F q)) m refl) ∙ ap (λ a. (a && is_at d q) || is_from c s (consent_at F q)) (none c s))
@@ -84,29 +84,29 @@ consents_less F G d b t m none kept i = record {
   ranged = i.ranged;
 }
 
-withdrawals_less : (F G : FactSet) (d : Dot) (b : Body) (t : BTreeSet Dot) → OneMore F G d b → ((q : Dot) → withdraws_of q (change_in b) ≡ false) → IsWithdrawals G t → IsWithdrawals F t
+pub withdrawals_less : (F G : FactSet) (d : Dot) (b : Body) (t : BTreeSet Dot) → OneMore F G d b → ((q : Dot) → withdraws_of q (change_in b) ≡ false) → IsWithdrawals G t → IsWithdrawals F t
 withdrawals_less F G d b t m none i q = i q ∙ sym (withdrawn_on F G d b q m) ∙ ap (λ a. a || is_withdrawn F q) (none q)
 
-revocations_kept : (F G : FactSet) (d : Dot) (b : Body) (t : BTreeSet Revocation) → OneMore F G d b → ((k : TokenId) (digest : List ℕ) (client : Dot) → revokes_of k digest client (change_in b) ≡ false) → IsRevocations G t → IsRevocations F t
+pub revocations_kept : (F G : FactSet) (d : Dot) (b : Body) (t : BTreeSet Revocation) → OneMore F G d b → ((k : TokenId) (digest : List ℕ) (client : Dot) → revokes_of k digest client (change_in b) ≡ false) → IsRevocations G t → IsRevocations F t
 revocations_kept F G d b t m none i = record {
   listed = λ k g c q. i.listed k g c q ∙ sym (revoked_on F G d b k g c q (is_revocation_of k g c (map.get F q)) m refl) ∙ ap (λ a. (a && is_at d q) || is_revocation_of k g c (map.get F q)) (none k g c);
   ranged = i.ranged;
 }
 
-outs_less : (F G : FactSet) (d : Dot) (b : Body) (t : BTreeSet OutKey) → OneMore F G d b → signs (change_in b) ≡ false → IsOuts G t → IsOuts F t
+pub outs_less : (F G : FactSet) (d : Dot) (b : Body) (t : BTreeSet OutKey) → OneMore F G d b → signs (change_in b) ≡ false → IsOuts G t → IsOuts F t
 outs_less F G d b t m none i = record {
   listed = λ s l q. i.listed s l q ∙ sym (signed_on F G d b s l q (is_left_by s l (sign_out_at (map.get F) q)) m refl) ∙ ap (λ a. (a && is_at d q) || is_left_by s l (sign_out_at (map.get F) q)) (signs_none s l (change_in b) none);
   ranged = i.ranged;
   early = λ q f h. i.early q f (ap (option_and_then sign_out_in) (m.there q (λ same. none_is_not_some f (sym (ap (option_and_then sign_out_in) (ap (map.get F) same ∙ m.free)) ∙ h))) ∙ h);
 }
 
-codes_kept : (F G : FactSet) (d : Dot) (b : Body) (t : BTreeSet CodeKey) → OneMore F G d b → issuing (change_in b) ≡ None → IsCodes G t → IsCodes F t
+pub codes_kept : (F G : FactSet) (d : Dot) (b : Body) (t : BTreeSet CodeKey) → OneMore F G d b → issuing (change_in b) ≡ None → IsCodes G t → IsCodes F t
 codes_kept F G d b t m none i = record {
   listed = λ s n q. i.listed s n q ∙ sym (issued_on F G d b s n q (is_to s n (issued_at (map.get F) q)) m refl) ∙ ap (λ a. (a && is_at d q) || is_to s n (issued_at (map.get F) q)) (issues_none s n (change_in b) none);
   ranged = i.ranged;
 }
 
-reuses_kept : (F G : FactSet) (d : Dot) (b : Body) (t : BTreeSet ReuseKey) → OneMore F G d b → ((k : TokenId) → reuses_of k (change_in b) ≡ false) → IsReuses G t → IsReuses F t
+pub reuses_kept : (F G : FactSet) (d : Dot) (b : Body) (t : BTreeSet ReuseKey) → OneMore F G d b → ((k : TokenId) → reuses_of k (change_in b) ≡ false) → IsReuses G t → IsReuses F t
 reuses_kept F G d b t m none i = record {
   listed = λ k q. i.listed k q ∙ sym (reused_on F G d b k q (is_reuse_of k (map.get F q)) m refl) ∙ ap (λ a. (a && is_at d q) || is_reuse_of k (map.get F q)) (none k);
   ranged = i.ranged;
@@ -204,7 +204,7 @@ reuses_less F G d b j t u m is i r = record {
 
 -- the forest of one fact less, if the marks at all dots with a token that the fact touched were
 -- written, but for dots that it brought under a code
-tied_less : (F G : FactSet) (d : Dot) (b : Body) (x y z : ForestFacts) (at : Dot → Bool) → OneMore F G d b → IsTied G x
+pub tied_less : (F G : FactSet) (d : Dot) (b : Body) (x y z : ForestFacts) (at : Dot → Bool) → OneMore F G d b → IsTied G x
     → ((q : Dot) → map.get y.links q ≡ links_in (map.get F) q) → ((k : TokenId) → k.dot ≢ d → set.contains y.marks k ≡ set.contains x.marks k) → Wakes F y at z
     → ((k : TokenId) → Touches F G b k → at k.dot ≡ false → (c : Dot) → ¬ IsUnder (links_in (map.get F)) k.dot c) → IsTied F z
 tied_less F G d b x y z at m t links kept woke touched = record {
@@ -272,14 +272,14 @@ untied_revocation F G d b f x z m is t woke =
 -- ---- all tables
 
 -- the fact that is lost, and the set that had it
-record Loss (F : FactSet) (d : Dot) (y : Change) (x : Index) : Type 0 where
+pub record Loss (F : FactSet) (d : Dot) (y : Change) (x : Index) : Type 0 where
   pub before : FactSet
   pub body : Body
   pub is : change_in body ≡ y
   pub more : OneMore F before d body
   pub indexed : IsIndexed before x
 
-loss : (F : FactSet) (d : Dot) (y : Change) (x : Index) → WasIndexed F d y x → Loss F d y x
+pub loss : (F : FactSet) (d : Dot) (y : Change) (x : Index) → WasIndexed F d y x → Loss F d y x
 loss F d y x w =
     let c : Changed w.before d y = changed w.before d y w.makes in
     record { before = w.before; body = c.body; is = c.is; more = subst (λ (S : FactSet). OneMore S w.before d c.body) (sym w.rest) c.more; indexed = w.indexed }

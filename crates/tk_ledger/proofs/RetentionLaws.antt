@@ -3,8 +3,8 @@
 --   may_skip-sound, may_skip-complete   the test and the relation
 --   dots_over-sound, dots_over-complete
 --                                       the dots of exactly the facts that may be skipped are listed
-use Rattle.std.proofs.Common.{map as map_list, ◌≡◌, ◌⊎◌, inl, inr, ℕ, Bool, true, ◌&&◌, ◌||◌, not}
-use Rattle.std.proofs.Common.{[], ◌∷◌, filter, Option, Some, None, is_some, refl, sym, ap, ◌∙◌}
+use Rattle.std.proofs.Common.{map as map_list, ◌≡◌, ◌⊎◌, inl, inr, ℕ, Bool, true, false, ◌&&◌, ◌||◌, not}
+use Rattle.std.proofs.Common.{[], ◌∷◌, filter, Option, Some, None, refl, sym, ap, ◌∙◌}
 use borrow.Author.Tests.{le-leb}
 use Rattle.std.proofs.lemmas.Bool.{true≢false, cases_Bool, leb-true, cond-true, cond-false}
 use Rattle.std.proofs.lemmas.Bool.{or_cases, or_left, or_right, and_parts, and_from}
@@ -12,7 +12,6 @@ use Rattle.std.specs.FinMap as map
 use Rattle.std.specs.List.{list_any}
 use Rattle.tk_handle.specs.declared.dot.Dot.{Dot}
 use Rattle.tk_handle.specs.declared.token_id.TokenId.{TokenId}
-use Rattle.tk_family.specs.declared.link.Link.{Link}
 use Rattle.tk_family.specs.Dots.{dot_eq, has}
 use Rattle.tk_family.proofs.DotLaws.{has-append, has-left, has-right}
 use Rattle.tk_fact.specs.declared.body.Body.{Body}
@@ -20,23 +19,24 @@ use Rattle.tk_fact.specs.Keeping.{kept_for}
 use Rattle.tk_store.specs.FactSet.{FactSet, Facts}
 use Rattle.tk_store.proofs.EntryLaws.{Passing, any_fact-held, any_fact-of}
 use Rattle.tk_store.proofs.FactSetLaws.{tied}
-use Rattle.tk_ledger.specs.Retention.{IsOverAt, MintsNothing, MaySkip, is_over_by, mints_nothing}
+use Rattle.tk_ledger.specs.Retention.{mints, IsOverAt, MintsNothing, MaySkip, is_over_by}
+use Rattle.tk_ledger.specs.Retention.{mints_nothing}
 use Rattle.tk_ledger.specs.Retention.{is_over, is_any_over, may_skip, issues, picks_code}
 use Rattle.tk_ledger.specs.Retention.{picks_other, picked, dots_over}
-use Rattle.tk_ledger.specs.Tokens.{link_of, Root, root_in}
+use Rattle.tk_ledger.specs.Tokens.{Root, root_in}
 use Rattle.tk_ledger.proofs.KeyLaws.{at_itself}
-use Rattle.tk_ledger.proofs.TokenLaws.{root-sound, root-complete}
+use Rattle.tk_ledger.proofs.RootLaws.{root-sound, root-complete}
 
 -- ---- the test
 
 barren_here : (F : FactSet) (d : Dot) (o : Option Body) → map.get F d ≡ o → mints_nothing o ≡ true
     → MintsNothing (map.get F) d
 barren_here F d None at h = absurd (true≢false (sym h))
-barren_here F d (Some b) at h = by (link_of b) refl h
+barren_here F d (Some b) at h = by (mints b) refl h
   where
-    by : (l : Option Link) → link_of b ≡ l → not (is_some l) ≡ true → MintsNothing (map.get F) d
-    by None is h = record { fact = b; here = at; barren = is }
-    by (Some l) is h = absurd (true≢false (sym h))
+    by : (t : Bool) → mints b ≡ t → not t ≡ true → MintsNothing (map.get F) d
+    by false is h = record { fact = b; here = at; barren = is }
+    by true is h = absurd (true≢false (sym h))
 
 over_root : (F : FactSet) (horizon : ℕ) (d : Dot) (o : Option Root) → root_in (map.get F) d ≡ o
     → is_over_by horizon o ≡ true → IsOverAt (map.get F) horizon d
@@ -73,7 +73,7 @@ why_over : (F : FactSet) (horizon : ℕ) (k : TokenId)
 why_over F horizon k (inl o) = or_right (mints_nothing (map.get F k.dot)) (is_over_by horizon (root_in (map.get F) k.dot))
     (ap (is_over_by horizon) (root-complete F k.dot o.root o.code o.under o.issues) ∙ le-leb o.code.family_end horizon o.over)
 why_over F horizon k (inr n) = or_left (mints_nothing (map.get F k.dot)) (is_over_by horizon (root_in (map.get F) k.dot))
-    (ap mints_nothing n.here ∙ ap (λ (l : Option Link). not (is_some l)) n.barren)
+    (ap mints_nothing n.here ∙ ap not n.barren)
 
 pub may_skip-complete : (F : FactSet) (horizon : ℕ) (d : Dot) (s : MaySkip (map.get F) horizon d)
     → may_skip F horizon (d, s.fact) ≡ true

@@ -42,7 +42,8 @@ use Rattle.tk_ledger.proofs.KeySearchLaws.{among, found_passes, none_passes, fir
 use Rattle.tk_ledger.proofs.SameLaws.{same_dot-true, same_dot-itself}
 use Rattle.tk_ledger.proofs.SubjectKeyLaws.{out_listed, outs_total, out_by, out_same, out_order}
 use Rattle.tk_ledger.proofs.SubjectKeyLaws.{in_outs, of_subject}
-use Rattle.tk_ledger.proofs.TokenLaws.{from_some, is_signed_out-sound, is_signed_out-complete}
+use Rattle.tk_ledger.proofs.RootLaws.{from_some}
+use Rattle.tk_ledger.proofs.TokenLaws.{is_signed_out-sound, is_signed_out-complete}
 
 sign_out_body : (b : Body) (f : out.SubjectOut) → sign_out_in b ≡ Some f → b ≡ SubjectOut f
 sign_out_body (SubjectOut x) f h = ap (λ (y : out.SubjectOut). SubjectOut y) (some_injective x f h)

@@ -21,7 +21,7 @@ use Rattle.tk_fact.specs.declared.body.Body.{Body}
 use Rattle.tk_fact.specs.declared.body.Body.TheVariants.{ClientAdded, ClientRetired, ConsentGiven}
 use Rattle.tk_fact.specs.declared.body.Body.TheVariants.{ConsentWithdrawn, CodeIssued, CodeRedeemed}
 use Rattle.tk_fact.specs.declared.body.Body.TheVariants.{RefreshRotated, TokenRevoked, ReuseSeen}
-use Rattle.tk_fact.specs.declared.body.Body.TheVariants.{SubjectOut}
+use Rattle.tk_fact.specs.declared.body.Body.TheVariants.{SubjectOut, AccessRefreshed}
 use Rattle.tk_handle.specs.declared.token_id.TokenId.{TokenId}
 use Rattle.tk_store.specs.Skipping.{Skips, MayGo, Lasts}
 use Rattle.tk_store.specs.Slots.{Slot, Held, Skipped, held_slot}
@@ -53,6 +53,7 @@ passing_change (RefreshRotated f) h = refl
 passing_change (TokenRevoked f) h = refl
 passing_change (ReuseSeen f) h = refl
 passing_change (SubjectOut f) h = h
+passing_change (AccessRefreshed f) h = refl
 
 skipped_is : (P Q : StoreFields) (d : Dot) (a : Added) → Skips P d (Ok a) Q → Q ≡ with_skipped P d
 skipped_is P Q d added.New s = s.1
@@ -188,6 +189,7 @@ passing_kept d (RefreshRotated f) k h = refl
 passing_kept d (TokenRevoked f) k h = refl
 passing_kept d (ReuseSeen f) k h = refl
 passing_kept d (SubjectOut f) k h = absurd (none_is_not_some k h)
+passing_kept d (AccessRefreshed f) k h = refl
 
 pub may_go : (o : Option Slot) (b : Body) → held_slot o ≡ Some b → is_passing b ≡ true → MayGo o
 may_go None b h passing = absurd (none_is_not_some b h)

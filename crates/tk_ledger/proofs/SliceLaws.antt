@@ -22,7 +22,7 @@ use Rattle.tk_family.proofs.DotLaws.{cases_dots}
 use Rattle.tk_fact.specs.Keeping.{is_passing, names_of}
 use Rattle.tk_fact.specs.declared.body.Body.{Body}
 use Rattle.tk_fact.specs.declared.body.Body.TheVariants.{CodeRedeemed, RefreshRotated, TokenRevoked}
-use Rattle.tk_fact.specs.declared.body.Body.TheVariants.{ReuseSeen}
+use Rattle.tk_fact.specs.declared.body.Body.TheVariants.{ReuseSeen, AccessRefreshed}
 use Rattle.tk_store.specs.FactSet.{FactSet, Facts}
 use Rattle.tk_store.specs.Skipping.{MayGo}
 use Rattle.tk_store.specs.Slots.{Skipped, held_slot}
@@ -336,6 +336,7 @@ names_passing (CodeRedeemed f) q h = refl
 names_passing (RefreshRotated f) q h = refl
 names_passing (TokenRevoked f) q h = refl
 names_passing (ReuseSeen f) q h = refl
+names_passing (AccessRefreshed f) q h = refl
 names_passing b q h = absurd (none_is_not_some q h)
 
 -- the store does not refuse to skip a fact that may go

@@ -18,7 +18,7 @@ use Rattle.tk_ledger.specs.Tokens.{issued_in, issued_at, Root, root_in}
 use Rattle.tk_ledger.specs.Status.{minted_as, status_by, status_in}
 use Rattle.tk_ledger.specs.Standings.{IsSound}
 use Rattle.tk_ledger.proofs.StatusLaws.{chain_live, above}
-use Rattle.tk_ledger.proofs.TokenLaws.{from_some, root-sound}
+use Rattle.tk_ledger.proofs.RootLaws.{from_some, root-sound}
 
 -- a fact that passes its check keeps its limits
 limits_kept : (a b : Bool)
@@ -42,6 +42,7 @@ issues (bodies.RefreshRotated f) code h passes = cc
 issues (bodies.TokenRevoked f) code h passes = cc
 issues (bodies.ReuseSeen f) code h passes = cc
 issues (bodies.SubjectOut f) code h passes = cc
+issues (bodies.AccessRefreshed f) code h passes = cc
 
 issued_subject : (F : FactSet) → IsFactSet F → (c : Dot) (code : issued.CodeIssued)
     → issued_at (map.get F) c ≡ Some code → is_subject code.subject ≡ true

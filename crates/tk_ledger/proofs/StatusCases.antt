@@ -12,7 +12,7 @@ use Rattle.std.specs.FinMap as map
 use Rattle.tk_handle.specs.declared.dot.Dot.{Dot}
 use Rattle.tk_handle.specs.declared.handle.Handle.{Handle}
 use Rattle.tk_family.specs.declared.link.Link.TheVariants.{Code}
-use Rattle.tk_family.specs.Families.{IsUnder, IsInFamily}
+use Rattle.tk_family.specs.Families.{IsInFamily}
 use Rattle.tk_fact.specs.declared.body.Body.{Body}
 use Rattle.tk_fact.specs.declared.body.Body.TheVariants.{CodeIssued, CodeRedeemed, RefreshRotated}
 use Rattle.tk_fact.specs.declared.code_issued.CodeIssued as issued
@@ -23,11 +23,12 @@ use Rattle.tk_ledger.specs.declared.status.Status.{Status}
 use Rattle.tk_ledger.specs.declared.status.Status.TheVariants.{Unseen, Wrong, Broken, Known}
 use Rattle.tk_ledger.specs.StandingFields.{StandingFields}
 use Rattle.tk_ledger.specs.Bodies.{Bodies}
-use Rattle.tk_ledger.specs.Tokens.{link_of, links_in, issued_in, issued_at, Root, root_in}
+use Rattle.tk_ledger.specs.Tokens.{link_of, links_in, anchor_in, IsMintedUnder, issued_in}
+use Rattle.tk_ledger.specs.Tokens.{issued_at, Root, root_in}
 use Rattle.tk_ledger.specs.Tokens.{minted_in}
 use Rattle.tk_ledger.specs.Status.{standing_in, state_in, digest_of, with_digest, minted_as}
 use Rattle.tk_ledger.specs.Status.{status_by, status_in, IsMintedToken, IsKnownToken, Says, IsKnown}
-use Rattle.tk_ledger.proofs.TokenLaws.{from_some, root-sound, root-complete}
+use Rattle.tk_ledger.proofs.RootLaws.{from_some, root-sound, root-complete}
 
 -- ---- a token that is minted with the digest
 
@@ -54,7 +55,7 @@ pub record Knows (F : FactSet) (now : ℕ) (h : Handle) (s : StandingFields) : T
   pub here : map.get F h.id.dot ≡ Some body
   pub mints : minted_in (map.get F) h.id ≡ Some minted
   pub digest_is : minted.digest ≡ digest_of h
-  pub under : IsUnder (links_in (map.get F)) h.id.dot root.code
+  pub under : IsMintedUnder (map.get F) h.id.dot root.code
   pub issues : issued_at (map.get F) root.code ≡ Some root.issued
   pub standing : standing_in F now h.id body minted root ≡ s
 
@@ -98,7 +99,7 @@ known_parts F now h s e = known_by F now h s (map.get F h.id.dot) (minted_as (ma
 -- the standing of these parts
 pub known_status : (F : FactSet) (now : ℕ) (h : Handle) (m : MintedFields) (o : Root)
     → minted_in (map.get F) h.id ≡ Some m → m.digest ≡ digest_of h
-    → IsUnder (links_in (map.get F)) h.id.dot o.code → issued_at (map.get F) o.code ≡ Some o.issued
+    → IsMintedUnder (map.get F) h.id.dot o.code → issued_at (map.get F) o.code ≡ Some o.issued
     → (s : StandingFields) × (status_in F now h ≡ Known s) × (s.state ≡ state_in F now h.id m o)
 known_status F now h m o mints d under issues =
     let x : (b : Body) × (map.get F h.id.dot ≡ Some b) × (minted_of b h.id.kind ≡ Some m) = from_some (λ b. minted_of b h.id.kind) (map.get F h.id.dot) m mints in (
@@ -135,11 +136,11 @@ code_issued (RefreshRotated f) h = absurd (cc)
 code_issued body h = absurd (none_is_not_some Code h)
 
 in_family : (F : FactSet) (d : Dot) (o : Root) → root_in (map.get F) d ≡ Some o
-    → IsInFamily (links_in (map.get F)) d
+    → IsInFamily (links_in (map.get F)) (anchor_in (map.get F) d)
 in_family F d o n = record { code = o.code; under = (root-sound F d o n).0 }
 
 no_family : (F : FactSet) (d : Dot) → root_in (map.get F) d ≡ None
-    → ¬ IsInFamily (links_in (map.get F)) d
+    → ¬ IsInFamily (links_in (map.get F)) (anchor_in (map.get F) d)
 no_family F d n f =
     let x : (b : Body) × (map.get F f.code ≡ Some b) × (link_of b ≡ Some Code) = from_some link_of (map.get F f.code) Code f.under.leads.1 in
     let i : (code : issued.CodeIssued) × (issued_in x.0 ≡ Some code) = code_issued x.0 x.2 in

@@ -2,13 +2,12 @@
 -- when facts are added. Key results:
 --   uses_agree                                 a fact uses what its link uses
 --   is_used-sound .. is_dead-complete          the tests decide the relations
---   root-sound, root-complete                  the root of a family
 --   IsEnded-below, IsBad-below, IsDead-below   the relations stay in a greater set
-use Rattle.std.proofs.Common.{◌≡◌, inl, inr, ℕ, ◌≤◌, true, ◌&&◌, List, Option, Some, None, refl, sym, ap, subst, ◌∙◌}
+use Rattle.std.proofs.Common.{◌≡◌, inl, inr, ℕ, ◌≤◌, true, ◌&&◌, List, Option, Some, None, refl, sym, ap, ◌∙◌}
 use borrow.Author.Tests.{le-leb}
 use Rattle.std.proofs.lemmas.Bool.{leb-true, true≢false, or_cases, or_left, or_right, and_parts, and_from, not-true, not_from_false}
 use Rattle.std.proofs.lemmas.Slice.Eq.{bytes_eq-Decides}
-use Rattle.std.specs.Option.{option_and_then, option_map}
+use Rattle.std.specs.Option.{option_and_then}
 use Rattle.std.specs.FinMap as map
 use Rattle.tk_handle.specs.declared.dot.Dot.{Dot}
 use Rattle.tk_handle.specs.declared.kind.Kind.{Kind}
@@ -16,8 +15,8 @@ use Rattle.tk_handle.specs.declared.kind.Kind.TheVariants as kind
 use Rattle.tk_handle.specs.declared.token_id.TokenId.{TokenId}
 use Rattle.tk_handle.specs.Kind.{is_code, is_refresh}
 use Rattle.tk_family.specs.declared.link.Link.{Link}
-use Rattle.tk_family.specs.Families.{IsUnder, IsUsed, IsTwice, IsBad, IsDead, LinksWithin, MarksWithin, use_of, grant_at}
-use Rattle.tk_family.proofs.FamilyLaws.{IsUnder-within, IsBad-within, IsDead-within}
+use Rattle.tk_family.specs.Families.{IsUsed, IsTwice, IsBad, IsDead, MarksWithin, use_of, grant_at}
+use Rattle.tk_family.proofs.FamilyLaws.{IsBad-within, IsDead-within}
 use Rattle.tk_family.proofs.WalkLaws.{code_of-sound, code_of-complete}
 use Rattle.tk_fact.specs.declared.body.Body.{Body}
 use Rattle.tk_fact.specs.declared.body.Body.TheVariants as bodies
@@ -26,22 +25,14 @@ use Rattle.tk_fact.specs.declared.code_issued.CodeIssued as issued
 use Rattle.tk_fact.specs.declared.token_revoked.TokenRevoked as revoked
 use Rattle.tk_fact.specs.declared.reuse_seen.ReuseSeen as seen
 use Rattle.tk_fact.specs.declared.subject_out.SubjectOut as out
-use Rattle.tk_fact.specs.Tokens.{MintedFields, minted_of, uses_of}
+use Rattle.tk_fact.specs.Tokens.{MintedFields, uses_of}
 use Rattle.tk_store.specs.FactSet.{FactSet, IsSubset}
 use Rattle.tk_store.proofs.EntryLaws.{Passing, any_fact-held, any_fact-of}
 use Rattle.tk_ledger.specs.Bodies.{is_same_dot, is_same_token}
-use Rattle.tk_ledger.specs.Tokens.{link_of, links_in, code_in, issued_at, issued_in, Root, root_of, root_in, minted_in, uses, is_used, uses_elsewhere, uses_first, is_twice, IsRevoked, revoked_by, revokes, is_revoked, IsEnded, is_ended_by, is_ended, reuse_of, sees_reuse, is_reused, IsOut, is_out_by, is_out, IsStopped, is_stopped, IsMarked, is_marked, is_bad_grant, kills, is_dead}
+use Rattle.tk_ledger.specs.Tokens.{link_of, links_in, code_in, issued_at, issued_in, Root, root_in, minted_in, uses, is_used, uses_elsewhere, uses_first, is_twice, IsRevoked, revoked_by, revokes, is_revoked, IsEnded, is_ended_by, is_ended, reuse_of, sees_reuse, is_reused, IsOut, is_out_by, is_out, IsStopped, is_stopped, IsMarked, is_marked, is_bad_grant, kills, is_dead}
 use Rattle.tk_ledger.specs.SignOuts.{IsSignedOut, signs_out_in, signs_out, is_signed_out}
+use Rattle.tk_ledger.proofs.RootLaws.{from_some, below-and_then, links-below, minted-below, minted-under-below, root-sound, root-complete}
 use Rattle.tk_ledger.proofs.SameLaws.{same_dot-true, same_dot-false, same_dot-apart, same_dot-itself, same_token-true, same_token-itself, names_token-true, names_token-of, names_dot-true, names_dot-of}
-
--- a value of a function on an option is that of a value in the option
-pub from_some : {A B : Type 0} (f : A → Option B) (o : Option A) (y : B)
-    → option_and_then f o ≡ Some y → (x : A) × (o ≡ Some x) × (f x ≡ Some y)
-from_some f None y h = absurd (nothing h)
-  where
-    nothing : ¬ (None ≡ Some y)
-    nothing h = cc
-from_some f (Some x) y h = (x, refl, h)
 
 -- ---- uses
 
@@ -57,6 +48,7 @@ uses_agree (bodies.RefreshRotated f) = refl
 uses_agree (bodies.TokenRevoked f) = refl
 uses_agree (bodies.ReuseSeen f) = refl
 uses_agree (bodies.SubjectOut f) = refl
+uses_agree (bodies.AccessRefreshed f) = refl
 
 pub links_at : (F : FactSet) (d : Dot) (b : Body) → map.get F d ≡ Some b
     → links_in (map.get F) d ≡ link_of b
@@ -140,37 +132,6 @@ is_revoked-complete F k digest client r =
     any_fact-of (revokes k digest client) F r.place (TokenRevoked r.revocation) r.held
     (and_from _ _ (ap (λ (t : TokenId). is_same_token t k) r.token ∙ same_token-itself k)
     (and_from _ _ ((bytes_eq-Decides r.revocation.digest digest).1 r.digest_is) (ap (λ (d : Dot). is_same_dot d client) r.client_is ∙ same_dot-itself client)))
-
-pub root_at : (F : FactSet) (c : Dot) (o : Root) → root_of (map.get F) c ≡ Some o
-    → (c ≡ o.code) × (issued_at (map.get F) o.code ≡ Some o.issued)
-root_at F c o h = parts (issued_at (map.get F) c) refl h
-  where
-    parts : (i : Option issued.CodeIssued) → issued_at (map.get F) c ≡ i
-        → option_map (λ f. record { code = c; issued = f }) i ≡ Some o
-        → (c ≡ o.code) × (issued_at (map.get F) o.code ≡ Some o.issued)
-    parts None at h = absurd (nothing h)
-      where
-        nothing : ¬ (None ≡ Some o)
-        nothing h = cc
-    parts (Some f) at h = subst (λ (x : Root). (c ≡ x.code) × (issued_at (map.get F) x.code ≡ Some x.issued)) (same h) (refl, at)
-      where
-        same : Some (record { code = c; issued = f }) ≡ Some o → record { code = c; issued = f } ≡ o
-        same h = cc
-
--- the root that is found has the code that the dot is under, and the fact that issued that code
-pub root-sound : (F : FactSet) (d : Dot) (o : Root) → root_in (map.get F) d ≡ Some o
-    → IsUnder (links_in (map.get F)) d o.code × (issued_at (map.get F) o.code ≡ Some o.issued)
-root-sound F d o h =
-    let c : (c : Dot) × (code_in (map.get F) d ≡ Some c) × (root_of (map.get F) c ≡ Some o) = from_some (root_of (map.get F)) (code_in (map.get F) d) o h in
-    let p = root_at F c.0 o c.2 in
-    (subst (λ (x : Dot). IsUnder (links_in (map.get F)) d x) p.0 (code_of-sound (links_in (map.get F)) d c.0 c.1), p.1)
-
-pub root-complete : (F : FactSet) (d c : Dot) (code : issued.CodeIssued)
-    → IsUnder (links_in (map.get F)) d c → issued_at (map.get F) c ≡ Some code
-    → root_in (map.get F) d ≡ Some (record { code = c; issued = code })
-root-complete F d c code under issues =
-    ap (option_and_then (root_of (map.get F))) (code_of-complete (links_in (map.get F)) d c under)
-    ∙ ap (option_map (λ (f : issued.CodeIssued). record { code = c; issued = f })) issues
 
 ended_by-sound : (F : FactSet) (k : TokenId) (m : Option MintedFields) (o : Option Root)
     → minted_in (map.get F) k ≡ m → root_in (map.get F) k.dot ≡ o → is_ended_by F k m o ≡ true
@@ -321,21 +282,6 @@ is_dead-complete F c x =
 
 -- ---- more facts
 
-below-and_then : {B : Type 0} (f : Body → Option B) (F G : FactSet) → IsSubset F G
-    → (d : Dot) (y : B) → option_and_then f (map.get F d) ≡ Some y
-    → option_and_then f (map.get G d) ≡ Some y
-below-and_then f F G w d y h =
-    let x : (b : Body) × (map.get F d ≡ Some b) × (f b ≡ Some y) = from_some f (map.get F d) y h in
-    ap (option_and_then f) (w d x.0 x.1) ∙ x.2
-
-pub links-below : (F G : FactSet) → IsSubset F G
-    → LinksWithin (links_in (map.get F)) (links_in (map.get G))
-links-below F G w d l h = below-and_then link_of F G w d l h
-
-pub minted-below : (F G : FactSet) → IsSubset F G → (k : TokenId) (m : MintedFields)
-    → minted_in (map.get F) k ≡ Some m → minted_in (map.get G) k ≡ Some m
-minted-below F G w k m h = below-and_then (λ b. minted_of b k.kind) F G w k.dot m h
-
 -- a token that its client revoked stays revoked
 pub IsEnded-below : (F G : FactSet) → IsSubset F G → (k : TokenId) → IsEnded (map.get F) k
     → IsEnded (map.get G) k
@@ -344,7 +290,7 @@ IsEnded-below F G w k e = record {
   code = e.code;
   issued = e.issued;
   mints = minted-below F G w k e.minted e.mints;
-  under = IsUnder-within (links_in (map.get F)) (links_in (map.get G)) (links-below F G w) k.dot e.code e.under;
+  under = minted-under-below F G w k.dot e.code e.under;
   issues = below-and_then issued_in F G w e.code e.issued e.issues;
   by_client = record {
     place = e.by_client.place;

@@ -19,18 +19,20 @@ use Rattle.tk_family.specs.ForestFacts.{ForestFacts, links_at, marks_at}
 use Rattle.tk_family.specs.Tops.{IsTop}
 use Rattle.tk_family.proofs.WalkLaws.{code_of-complete}
 use Rattle.tk_fact.specs.declared.body.Body.{Body}
-use Rattle.tk_fact.specs.Tokens.{MintedFields, minted_of}
+use Rattle.tk_fact.specs.Tokens.{MintedFields, anchor_of, minted_of}
 use Rattle.tk_store.specs.FactSet.{FactSet}
 use Rattle.tk_ledger.specs.ByTop.{TopSays, state_by, by_root, by_top}
 use Rattle.tk_ledger.specs.Index.{IsTied}
 use Rattle.tk_ledger.specs.Status.{state_in, standing_in, with_digest, digest_of, minted_as}
 use Rattle.tk_ledger.specs.Status.{status_by, status_in}
-use Rattle.tk_ledger.specs.Tokens.{links_in, code_in, Root, root_of, root_in, minted_in, is_dead}
+use Rattle.tk_ledger.specs.Tokens.{links_in, code_in, anchor_by, anchor_in, Root, root_of, root_in}
+use Rattle.tk_ledger.specs.Tokens.{minted_in, is_dead}
 use Rattle.tk_ledger.specs.Tokens.{is_used, is_revoked, is_ended, is_ended_by, IsMarked}
 use Rattle.tk_ledger.specs.declared.status.State.{State}
 use Rattle.tk_ledger.specs.declared.status.Status.TheVariants.{Known}
 use Rattle.tk_ledger.proofs.TokenLaws.{is_marked-sound, is_marked-complete, is_dead-sound}
-use Rattle.tk_ledger.proofs.TokenLaws.{is_dead-complete, is_used-sound, is_used-complete, root_at}
+use Rattle.tk_ledger.proofs.RootLaws.{root_at}
+use Rattle.tk_ledger.proofs.TokenLaws.{is_dead-complete, is_used-sound, is_used-complete}
 use Rattle.tk_ledger.proofs.KeyLaws.{same_tests}
 use Rattle.tk_ledger.proofs.ForestLaws.{top_code}
 use Rattle.tk_ledger.proofs.WakeLaws.{links_path}
@@ -101,7 +103,7 @@ state_is : (F : FactSet) (now : ℕ) (k : TokenId) (m : MintedFields) (o : Root)
 state_is F now k m o dead h i = rw (h, i) refl
 
 root_is : (F : FactSet) (now : ℕ) (k : TokenId) (b : Body) (m : MintedFields) (c : Dot) (dead : Bool) (o : Option Root)
-    → minted_in (map.get F) k ≡ Some m → code_in (map.get F) k.dot ≡ Some c → is_dead F c ≡ dead → root_of (map.get F) c ≡ o
+    → minted_in (map.get F) k ≡ Some m → code_in (map.get F) (anchor_in (map.get F) k.dot) ≡ Some c → is_dead F c ≡ dead → root_of (map.get F) c ≡ o
     → by_root dead F now k b m o ≡ status_by F now k (Some b) (Some m) o
 root_is F now k b m c dead None h i j e = refl
 root_is F now k b m c dead (Some o) h i j e =
@@ -120,7 +122,7 @@ root_is F now k b m c dead (Some o) h i j e =
     })) (state_is F now k m o dead (ap (is_dead F) (sym (root_at F c o e).0) ∙ j) (ended_is F k m o h in_family))
 
 by_top_is : (F : FactSet) (now : ℕ) (k : TokenId) (b : Body) (m : MintedFields) (r : Top)
-    → minted_in (map.get F) k ≡ Some m → TopSays F k.dot r
+    → minted_in (map.get F) k ≡ Some m → TopSays F (anchor_in (map.get F) k.dot) r
     → by_top F now k b m r ≡ status_by F now k (Some b) (Some m) (root_in (map.get F) k.dot)
 by_top_is F now k b m top.Absent h t = sym (ap (λ (o : Option Dot). status_by F now k (Some b) (Some m) (option_and_then (root_of (map.get F)) o)) t)
 by_top_is F now k b m top.Broken h t = sym (ap (λ (o : Option Dot). status_by F now k (Some b) (Some m) (option_and_then (root_of (map.get F)) o)) t)
@@ -160,8 +162,9 @@ found_dot d (Some b) f h = ap (λ (p : Dot × Body). p.0) (some_first f (d, b) h
 -- the status of a token that the fact at its dot minted, by the top
 pub status_by_top : (F : FactSet) (now : ℕ) (h : Handle) (b : Body) (m : MintedFields) (r : Top)
     → map.get F h.id.dot ≡ Some b → with_digest (digest_of h) (minted_of b h.id.kind) ≡ Some m
-    → TopSays F h.id.dot r → by_top F now h.id b m r ≡ status_in F now h
-status_by_top F now h b m r held mints t =
+    → TopSays F (anchor_of h.id.dot b) r → by_top F now h.id b m r ≡ status_in F now h
+status_by_top F now h b m r held mints at =
+    let t : TopSays F (anchor_in (map.get F) h.id.dot) r = subst (λ (q : Dot). TopSays F q r) (sym (ap (anchor_by h.id.dot) held)) at in
     let minted : minted_in (map.get F) h.id ≡ Some m = ap (option_and_then (λ x. minted_of x h.id.kind)) held ∙ digest_kept (digest_of h) (minted_of b h.id.kind) m mints in
     by_top_is F now h.id b m r minted t
     ∙ ap (λ (o : Option MintedFields). status_by F now h.id (Some b) o (root_in (map.get F) h.id.dot)) (sym (ap (λ (o : Option Body). with_digest (digest_of h) (option_and_then (λ x. minted_of x h.id.kind) o)) held ∙ mints))

@@ -1,4 +1,4 @@
--- The status of a token by the top of its dot in a forest, and by the tables (own).
+-- The status of a token by the top of its anchor in a forest, and by the tables (own).
 --   code_in_top, root_by      the code of a top, and its root
 --   ended_in                  the client of the root revoked a token, by the table
 --   TopSays                   the top of a dot in a forest with the links and marks of a set
@@ -97,7 +97,7 @@ abbrev pub by_root : Bool → FactSet → ℕ → TokenId → Body → MintedFie
 by_root dead F now k body minted None = Broken minted.expiry
 by_root dead F now k body minted (Some root) = Known (standing_by dead F now k body minted root)
 
--- the status of a token that the body minted, by the top of its dot
+-- the status of a token that the body minted, by the top of its anchor
 abbrev pub by_top : FactSet → ℕ → TokenId → Body → MintedFields → Top → Status
 by_top F now k body minted top.Absent = Broken minted.expiry
 by_top F now k body minted top.Broken = Broken minted.expiry

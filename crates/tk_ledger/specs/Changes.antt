@@ -20,6 +20,7 @@ use Rattle.tk_fact.specs.declared.body.Body.TheVariants.{
   TokenRevoked,
   ReuseSeen,
   SubjectOut,
+  AccessRefreshed,
 }
 use Rattle.tk_ledger.specs.Bodies.{is_same_dot, is_same_token}
 use Rattle.tk_ledger.specs.declared.change.Change.{Change}
@@ -39,6 +40,7 @@ change_in (RefreshRotated f) = change.Put (link.Rotates f.parent f.generation)
 change_in (TokenRevoked f) = change.Revoke f
 change_in (ReuseSeen f) = change.Mark f.token
 change_in (SubjectOut f) = change.SignOut (sha256 f.subject) f.moment
+change_in (AccessRefreshed f) = change.Nothing
 
 -- the change adds a client
 abbrev pub adds : Change → Bool

@@ -43,6 +43,7 @@ use Rattle.tk_ledger.specs.Tokens.{
   IsEnded,
   IsOut,
   IsMarked,
+  IsMintedUnder,
 }
 use Rattle.tk_ledger.specs.Status.{IsActive, IsKnown, IsKnownToken, Says, status_in}
 use Rattle.tk_ledger.specs.declared.status.Status.TheVariants.{Unseen, Wrong, Broken}
@@ -158,13 +159,13 @@ RevokedInactive = (F G : FactSet) → IsSubset F G → (now : ℕ) (h : Handle) 
 abbrev pub FamilyInactive : Type 0
 FamilyInactive = (F G : FactSet) → IsSubset F G → (now : ℕ) (h : Handle) (d c : Dot)
     → IsBad (links_in (map.get F)) (IsMarked (map.get F)) d → IsUnder (links_in (map.get G)) d c
-    → IsUnder (links_in (map.get G)) h.id.dot c → ¬ IsActive (map.get G) now h
+    → IsMintedUnder (map.get G) h.id.dot c → ¬ IsActive (map.get G) now h
 
 -- a token under a code whose subject signed out, at the code's start or later, is never active once
 -- those facts are held
 abbrev pub SignedOutInactive : Type 0
 SignedOutInactive = (F G : FactSet) → IsSubset F G → (now : ℕ) (h : Handle) (c : Dot)
-    → IsOut (map.get F) c → IsUnder (links_in (map.get G)) h.id.dot c → ¬ IsActive (map.get G) now h
+    → IsOut (map.get F) c → IsMintedUnder (map.get G) h.id.dot c → ¬ IsActive (map.get G) now h
 
 -- a code or refresh token that is minted is a bad grant exactly if it is marked or used twice
 abbrev pub BadGrants : Type 0

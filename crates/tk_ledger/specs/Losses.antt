@@ -12,12 +12,14 @@ use Rattle.tk_ledger.specs.declared.change.Change.{Change}
 use Rattle.tk_ledger.specs.declared.change.Change.TheVariants as change
 use Rattle.tk_ledger.specs.declared.index.Index.{Index}
 
--- the change issues a code, redeems one, rotates a refresh token, revokes a token, or is a reuse
+-- the change issues a code, redeems one, rotates a refresh token, revokes a token, is a reuse, or
+-- is none
 abbrev pub passes : Change → Bool
 passes (change.Issue subject start) = true
 passes (change.Put link) = true
 passes (change.Revoke f) = true
 passes (change.Mark token) = true
+passes change.Nothing = true
 passes other = false
 
 -- F is a set without its fact at the dot, which makes the change; the tables are those of the set

@@ -1,5 +1,6 @@
 -- Which facts may be skipped: those of families that are over (own).
---   IsOverAt               the family that a dot is in is over
+--   mints                  a fact mints a token
+--   IsOverAt               the family of the tokens minted at a dot is over
 --   MintsNothing           the fact at a dot mints no token
 --   MaySkip, may_skip      the fact at a dot is kept for a token of a family that is over, or for
 --                          one that can't come any more
@@ -33,8 +34,13 @@ use Rattle.std.specs.Prelude.{
 use Rattle.std.specs.FinMap as map
 use Rattle.tk_handle.specs.declared.dot.Dot.{Dot}
 use Rattle.tk_handle.specs.declared.token_id.TokenId.{TokenId}
-use Rattle.tk_family.specs.Families.{IsUnder}
 use Rattle.tk_fact.specs.declared.body.Body.{Body}
+use Rattle.tk_fact.specs.declared.body.Body.TheVariants.{
+  CodeIssued,
+  CodeRedeemed,
+  RefreshRotated,
+  AccessRefreshed,
+}
 use Rattle.tk_fact.specs.declared.code_issued.CodeIssued as issued
 use Rattle.tk_fact.specs.Keeping.{kept_for}
 use Rattle.tk_store.specs.FactSet.{FactSet, Facts}
@@ -42,21 +48,29 @@ use Rattle.tk_store.specs.Skipping.{MayGo}
 use Rattle.tk_store.specs.Slots.{Skipped}
 use Rattle.tk_store.specs.StoreFields.{StoreFields, held_facts}
 use Rattle.tk_ledger.specs.Bodies.{Bodies}
-use Rattle.tk_ledger.specs.Tokens.{link_of, links_in, issued_in, issued_at, Root, root_in}
+use Rattle.tk_ledger.specs.Tokens.{IsMintedUnder, issued_in, issued_at, Root, root_in}
 
--- the family that the dot is in is over at the horizon
+-- the family that the tokens minted at the dot are in is over at the horizon
 pub record IsOverAt (body_at : Bodies) (horizon : ℕ) (d : Dot) : Type 0 where
   pub root : Dot
-  pub under : IsUnder (links_in body_at) d root
+  pub under : IsMintedUnder body_at d root
   pub code : issued.CodeIssued
   pub issues : issued_at body_at root ≡ Some code
   pub over : code.family_end ≤ horizon
+
+-- a fact with the body mints a token
+abbrev pub mints : Body → Bool
+mints (CodeIssued f) = true
+mints (CodeRedeemed f) = true
+mints (RefreshRotated f) = true
+mints (AccessRefreshed f) = true
+mints body = false
 
 -- a fact is at the dot, and it mints no token: none with the dot can come any more
 pub record MintsNothing (body_at : Bodies) (d : Dot) : Type 0 where
   pub fact : Body
   pub here : body_at d ≡ Some fact
-  pub barren : link_of fact ≡ None
+  pub barren : mints fact ≡ false
 
 -- the fact at the dot is kept for a token of a family that is over at the horizon, or for one that
 -- can't come any more
@@ -77,7 +91,7 @@ is_over_by horizon (Some root) = nat_le root.issued.family_end horizon
 -- there is a body, and it mints no token
 abbrev pub mints_nothing : Option Body → Bool
 mints_nothing None = false
-mints_nothing (Some body) = not (is_some (link_of body))
+mints_nothing (Some body) = not (mints body)
 
 -- the token is of a family that is over at the horizon, or can't come any more
 abbrev pub is_over : FactSet → ℕ → TokenId → Bool

@@ -36,7 +36,7 @@ use Rattle.tk_handle.specs.Kind.{is_access}
 use Rattle.tk_handle.specs.declared.token_id.TokenId.{TokenId}
 use Rattle.tk_handle.specs.declared.handle.Handle.{Handle}
 use Rattle.tk_handle.specs.Handle.{handle_bytes}
-use Rattle.tk_family.specs.Families.{IsUnder, IsInFamily, IsUsed, IsDead}
+use Rattle.tk_family.specs.Families.{IsInFamily, IsUsed, IsDead}
 use Rattle.tk_fact.specs.declared.body.Body.{Body}
 use Rattle.tk_fact.specs.declared.body.Body.TheVariants.{RefreshRotated}
 use Rattle.tk_fact.specs.declared.code_issued.CodeIssued as issued
@@ -52,6 +52,8 @@ use Rattle.tk_ledger.specs.Tokens.{
   root_in,
   minted_in,
   links_in,
+  anchor_in,
+  IsMintedUnder,
   issued_at,
   is_dead,
   is_used,
@@ -160,7 +162,8 @@ pub record IsMintedToken (body_at : Bodies) (h : Handle) : Type 0 where
 
 -- the token of the handle was minted, and is under a code (own)
 abbrev pub IsKnownToken : Bodies → Handle → Type 0
-IsKnownToken body_at h = IsMintedToken body_at h × IsInFamily (links_in body_at) h.id.dot
+IsKnownToken body_at h =
+    IsMintedToken body_at h × IsInFamily (links_in body_at) (anchor_in body_at h.id.dot)
 
 -- what each of the four statuses means for a handle. No two of them hold together (own)
 abbrev pub Says : Bodies → Handle → Status → Type 0
@@ -170,7 +173,7 @@ Says body_at h Unseen = body_at h.id.dot ≡ None
 Says body_at h Wrong = (body_at h.id.dot ≢ None) × ¬ IsMintedToken body_at h
 -- the token was minted, with the expiry, and is under no code
 Says body_at h (Broken expiry) = ((t : IsMintedToken body_at h) × (expiry ≡ t.minted.expiry))
-    × ¬ IsInFamily (links_in body_at) h.id.dot
+    × ¬ IsInFamily (links_in body_at) (anchor_in body_at h.id.dot)
 -- the token was minted, and is under a code
 Says body_at h (Known standing) = IsKnownToken body_at h
 
@@ -205,7 +208,7 @@ pub record IsActive (body_at : Bodies) (now : ℕ) (h : Handle) : Type 0 where
   pub mints : minted_in body_at h.id ≡ Some minted
   pub digest : minted.digest ≡ digest_of h
   pub early : now < minted.expiry
-  pub under : IsUnder (links_in body_at) h.id.dot code
+  pub under : IsMintedUnder body_at h.id.dot code
   pub issues : issued_at body_at code ≡ Some issued
   pub client : IsLiveClient body_at issued.client
   pub consent : IsLiveConsent body_at issued

@@ -3,6 +3,8 @@
 -- compute them.
 --   link_of, links_in       the link of a fact in a family
 --   code_in, issued_at      the code that a token is under, and the fact that issued it
+--   anchor_in               the dot by which the tokens minted at a dot are in a family
+--   IsMintedUnder           the tokens minted at a dot are under a code
 --   Root, root_in           the root of a family: its code, and the fact that issued it
 --   minted_in               what the fact at a token's dot mints of the token's kind
 --   is_used, is_twice       one fact, or two, use a code or refresh token
@@ -38,7 +40,7 @@ use Rattle.tk_fact.specs.declared.body.Body.TheVariants.{
 use Rattle.tk_fact.specs.declared.code_issued.CodeIssued as issued
 use Rattle.tk_fact.specs.declared.token_revoked.TokenRevoked as revoked
 use Rattle.tk_fact.specs.declared.reuse_seen.ReuseSeen as seen
-use Rattle.tk_fact.specs.Tokens.{MintedFields, minted_of}
+use Rattle.tk_fact.specs.Tokens.{MintedFields, anchor_of, minted_of}
 use Rattle.tk_store.specs.FactSet.{FactSet, any_fact}
 use Rattle.tk_ledger.specs.Bodies.{Bodies, is_same_dot, is_same_token, names_dot, names_token}
 use Rattle.tk_ledger.specs.SignOuts.{IsSignedOut, is_signed_out}
@@ -57,9 +59,22 @@ link_of body = None
 abbrev pub links_in : Bodies → Links
 links_in body_at d = option_and_then link_of (body_at d)
 
--- the code that the tokens minted at a dot are under (own)
+-- the code that the link at a dot is under (own)
 abbrev pub code_in : Bodies → Dot → Option Dot
 code_in body_at d = code_of (links_in body_at) d
+
+-- the dot by which the tokens of a fact are in a family, or the given dot if there is none (own)
+abbrev pub anchor_by : Dot → Option Body → Dot
+anchor_by d None = d
+anchor_by d (Some body) = anchor_of d body
+
+-- the dot by which the tokens minted at a dot are in a family (own)
+abbrev pub anchor_in : Bodies → Dot → Dot
+anchor_in body_at d = anchor_by d (body_at d)
+
+-- the tokens minted at d are under the code c (own)
+abbrev pub IsMintedUnder : Bodies → Dot → Dot → Type 0
+IsMintedUnder body_at d c = IsUnder (links_in body_at) (anchor_in body_at d) c
 
 -- the code that the body issues, if it issues one (RFC 6749, 4.1.2)
 abbrev pub issued_in : Body → Option issued.CodeIssued
@@ -96,7 +111,7 @@ root_of body_at c = option_map (λ f. record { code = c; issued = f }) (issued_a
 
 -- the root of the family of what is minted at a dot (own)
 abbrev pub root_in : Bodies → Dot → Option Root
-root_in body_at d = option_and_then (root_of body_at) (code_in body_at d)
+root_in body_at d = option_and_then (root_of body_at) (code_in body_at (anchor_in body_at d))
 
 -- ---- what is minted
 
@@ -159,7 +174,7 @@ pub record IsEnded (body_at : Bodies) (k : TokenId) : Type 0 where
   pub code : Dot
   pub issued : issued.CodeIssued
   pub mints : minted_in body_at k ≡ Some minted
-  pub under : IsUnder (links_in body_at) k.dot code
+  pub under : IsMintedUnder body_at k.dot code
   pub issues : issued_at body_at code ≡ Some issued
   pub by_client : IsRevoked body_at k minted.digest issued.client
 

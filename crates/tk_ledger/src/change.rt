@@ -37,6 +37,8 @@ pub(crate) enum Change {
         subject: [u8; 32],
         moment: Moment,
     },
+    // The tables stay as they are.
+    Nothing,
 }
 
 ghost use Rattle.std.specs.Prelude.{◌≡◌};
@@ -81,5 +83,6 @@ pub(crate) fn change_of(body: &Body) -> Change
             subject: subject_digest(&fact.subject),
             moment: fact.moment,
         },
+        Body::AccessRefreshed(_) => Change::Nothing,
     }
 }

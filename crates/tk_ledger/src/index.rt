@@ -18,16 +18,24 @@ use std::collections::{BTreeMap, BTreeSet};
 use tk_family::Forest;
 use tk_handle::Dot;
 
-// The tables: clients, consents, revocations, codes, sign-outs and reuses by key, and the families.
+// The tables of the facts that are held. `IsIndexed` of `specs/Index.antt` says what each has.
 #[derive(Drop)]
 pub(crate) struct Index {
+    // Each dot at which a client was added or which a retirement names, and which of both.
     pub(crate) clients: BTreeMap<Dot, ClientRow>,
+    // Each consent that was given and that no withdrawal names.
     pub(crate) consents: BTreeSet<ConsentKey>,
+    // Each dot that a withdrawal names.
     pub(crate) withdrawn: BTreeSet<Dot>,
+    // Each revocation, whether or not there is such a token.
     pub(crate) revocations: BTreeSet<Revocation>,
+    // Each code that was issued.
     pub(crate) codes: BTreeSet<CodeKey>,
+    // Each sign-out.
     pub(crate) outs: BTreeSet<OutKey>,
+    // Each reuse that was seen.
     pub(crate) reuses: BTreeSet<ReuseKey>,
+    // The links of codes, redemptions and rotations, and the marks of those in a family.
     pub(crate) forest: Forest,
 }
 
@@ -294,5 +302,6 @@ pub(crate) fn follow(
         Change::Revoke(fact) => revoke_token(facts, index, dot, fact),
         Change::Mark(token) => mark_token(facts, index, dot, *token),
         Change::SignOut { subject, moment } => sign_out(facts, index, dot, subject, *moment),
+        Change::Nothing => Ok(()),
     }
 }

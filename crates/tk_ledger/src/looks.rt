@@ -65,12 +65,22 @@ pub(crate) fn code_above(forest: &Forest, dot: Dot) -> Option<Dot>
     code_of_top(forest.top(dot, &mut Steps::new()))
 }
 
-// Returns the root of the family that the dot is in.
-pub(crate) fn root_above<'a>(facts: &'a FactStore, forest: &Forest, dot: Dot) -> Option<Root<'a>>
-    ensures { result
-        ≡ root_by (map.get (held_facts facts.now)) (code_of (links_at forest.now) dot) }
+// Returns the dot by which the tokens minted at a dot are in a family.
+pub(crate) fn anchor_at(facts: &FactStore, dot: Dot) -> Dot
+    ensures { result ≡ spec.anchor_in (map.get (held_facts facts.now)) dot }
 {
-    match code_above(forest, dot) {
+    match facts.get(dot) {
+        Some(fact) => fact.anchor(),
+        None => dot,
+    }
+}
+
+// Returns the root of the family of the tokens minted at the dot.
+pub(crate) fn root_above<'a>(facts: &'a FactStore, forest: &Forest, dot: Dot) -> Option<Root<'a>>
+    ensures { result ≡ root_by (map.get (held_facts facts.now)) (code_of (links_at forest.now)
+        (spec.anchor_in (map.get (held_facts facts.now)) dot)) }
+{
+    match code_above(forest, anchor_at(facts, dot)) {
         Some(code) => root_of(facts, code),
         None => None,
     }

@@ -1,12 +1,12 @@
 //! The facts of families that are over, which may be skipped.
 
-ghost use Rattle.std.specs.Prelude.{◌≡◌, ◌++◌, true, is_some, IfOk, OnOk};
+ghost use Rattle.std.specs.Prelude.{◌≡◌, ◌++◌, true, IfOk, OnOk};
 ghost use Rattle.std.specs.FinMap as map;
 ghost use Rattle.tk_handle.specs.declared.dot.Dot.{Dot as the_dot};
 ghost use Rattle.tk_family.specs.Dots.{has};
 ghost use Rattle.tk_store.specs.StoreFields.{held_facts};
 ghost use Rattle.tk_ledger.specs.Retention as spec;
-ghost use Rattle.tk_ledger.specs.Tokens.{link_of, links_in};
+ghost use Rattle.tk_ledger.specs.Tokens.{links_in};
 
 use crate::looks::{issued_in, root_above};
 use crate::root::Root;
@@ -28,10 +28,13 @@ fn is_over_by(horizon: Moment, root: &Option<Root<'_>>) -> bool
 
 // Returns whether a fact with the body mints a token.
 fn mints(body: &Body) -> bool
-    ensures { result ≡ is_some (link_of body.now) }
+    ensures { result ≡ spec.mints body.now }
 {
     match body {
-        Body::CodeIssued(_) | Body::CodeRedeemed(_) | Body::RefreshRotated(_) => true,
+        Body::CodeIssued(_)
+        | Body::CodeRedeemed(_)
+        | Body::RefreshRotated(_)
+        | Body::AccessRefreshed(_) => true,
         _ => false,
     }
 }

@@ -37,6 +37,7 @@ fn named(body: &Body) -> Option<Dot>
         Body::RefreshRotated(fact) => Some(fact.parent),
         Body::TokenRevoked(fact) => Some(fact.token.dot),
         Body::ReuseSeen(fact) => Some(fact.token.dot),
+        Body::AccessRefreshed(fact) => Some(fact.parent),
         _ => None,
     }
 }

@@ -268,7 +268,7 @@ impl Ledger {
         }
     }
 
-    // Returns the status of a token that the fact minted, by the top of its dot.
+    // Returns the status of a token that the fact minted, by the top of its anchor.
     fn of_top<'a>(
         &'a self,
         now: Moment,
@@ -309,7 +309,7 @@ impl Ledger {
         let Some(minted) = minted_as(fact, handle) else {
             return Status::Wrong;
         };
-        let top = self.top(handle.id.dot, steps);
+        let top = self.top(fact.anchor(), steps);
         self.of_top(now, &handle.id, fact, &minted, top, steps)
     }
 

@@ -55,6 +55,7 @@ pub(crate) fn unfollow(facts: &FactStore, index: &mut Index, dot: Dot, change: &
                 token.dot,
             );
         }
+        Change::Nothing => {}
         _ => unreachable!("no other change is undone"),
     }
 }

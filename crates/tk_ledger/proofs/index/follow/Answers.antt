@@ -2,7 +2,7 @@ use Rattle.std.proofs.Common.{ap, ◌∙◌, Some}
 use Rattle.tk_store.specs.StoreFields.{held_facts}
 use Rattle.tk_ledger.specs.declared.change.Change.{Change}
 use Rattle.tk_ledger.proofs.ChangeLaws.{on_ok, on_ok2}
-use Rattle.tk_ledger.proofs.IndexLaws.{index_add, index_retire, index_give, index_withdraw}
+use Rattle.tk_ledger.proofs.IndexLaws.{index_add, index_retire, index_give, index_withdraw, index_nothing}
 use Rattle.tk_ledger.proofs.index.follow.Goals as goal
 
 pub returns-in-Add-clause-ok : goal.returns-in-Add-clause-ok
@@ -20,3 +20,6 @@ returns-in-Give-clause-ok c = on_ok c.give.result _ _ c.give.ensures.ok
 pub returns-in-Withdraw-clause-ok : goal.returns-in-Withdraw-clause-ok
 returns-in-Withdraw-clause-ok c = on_ok2 c.withdraw.result _ _ _ c.withdraw.ensures.ok c.withdraw.ensures.unlisted
     (λ w u. index_withdraw (held_facts c.args.facts.now) c.args.dot c.in-Withdraw.consent c.args.index.now c.withdraw.new.consents c.withdraw.new.withdrawn (c.requires.change ∙ ap (λ (x : Change). Some x) c.in-Withdraw.is) c.requires.indexed w u)
+
+pub returns-in-Nothing-clause-ok : goal.returns-in-Nothing-clause-ok
+returns-in-Nothing-clause-ok c = index_nothing (held_facts c.args.facts.now) c.args.dot c.args.index.now (c.requires.change ∙ ap (λ (x : Change). Some x) c.in-Nothing.is) c.requires.indexed

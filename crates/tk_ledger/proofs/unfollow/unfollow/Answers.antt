@@ -6,6 +6,7 @@ use Rattle.tk_ledger.specs.declared.change.Change.TheVariants as change
 use Rattle.tk_ledger.proofs.LossLaws.{lost_code, lost_link, lost_revocations, lost_outs}
 use Rattle.tk_ledger.proofs.LossLaws.{lost_reuses, less_revocations, less_reuses, lost_links}
 use Rattle.tk_ledger.proofs.LossLaws.{lost_reuse, lost_revocation}
+use Rattle.tk_ledger.proofs.QuietLoss.{lost_nothing}
 use Rattle.tk_ledger.proofs.unfollow.unfollow.Goals as goal
 
 pub wake-requires-in-Mark-clause-revocations : goal.wake-requires-in-Mark-clause-revocations
@@ -55,3 +56,6 @@ returns-in-Revoke c =
     lost_revocation (held_facts c.args.facts.now) c.args.dot c.in-Revoke.fact c.args.index.now c.drop_revocation.new.revocations c.wake.new.forest
     (subst (λ (y : Change). WasIndexed (held_facts c.args.facts.now) c.args.dot y c.args.index.now) c.in-Revoke.is c.requires.lost)
     c.drop_revocation.ensures c.wake.ensures
+
+pub returns-in-Nothing : goal.returns-in-Nothing
+returns-in-Nothing c = lost_nothing (held_facts c.args.facts.now) c.args.dot c.args.index.now (subst (λ (y : Change). WasIndexed (held_facts c.args.facts.now) c.args.dot y c.args.index.now) c.in-Nothing.is c.requires.lost)
