@@ -40,6 +40,7 @@ use Rattle.tk_fact.specs.declared.client_kind.ClientKind.TheVariants.{
   Public,
   Confidential,
   Resource,
+  Keeping,
 }
 use Rattle.tk_fact.specs.Subject.{is_visible, is_subject}
 use Rattle.tk_store.specs.FactSet.{FactSet}
@@ -56,6 +57,7 @@ use Rattle.tk_authorize.specs.declared.admin_refusal.AdminRefusal.TheVariants.{
   DuplicateParameter,
   MissingParameter,
   UnknownKind,
+  WrongRefresh,
   UnwantedSecret,
   MissingSecret,
   MalformedSecret,
@@ -105,17 +107,40 @@ abbrev pub confidential_kind : Result (List ℕ) AdminRefusal → Result ClientK
 confidential_kind (Err why) = Err why
 confidential_kind (Ok digest) = Ok (Confidential digest)
 
+-- the kind of a confidential client that keeps its refresh token, with the digest of its secret
+-- (own; RFC 9700, 2.2.2)
+abbrev pub keeping_kind : Result (List ℕ) AdminRefusal → Result ClientKind AdminRefusal
+keeping_kind (Err why) = Err why
+keeping_kind (Ok digest) = Ok (Keeping digest)
+
+-- the kind of a confidential client by `refresh`, which may be `kept` (own; RFC 9700, 2.2.2)
+abbrev pub refreshing_kind : Option (List ℕ) → Result (List ℕ) AdminRefusal
+    → Result ClientKind AdminRefusal
+refreshing_kind None digest = confidential_kind digest
+refreshing_kind (Some refresh) digest =
+    if bytes_eq refresh (codes "kept") then keeping_kind digest else Err WrongRefresh
+
+-- the kind of a client that is not confidential, for which `refresh` may not be sent (own; RFC
+-- 9700, 2.2.2)
+abbrev pub rotating_kind : Option (List ℕ) → Result ClientKind AdminRefusal
+    → Result ClientKind AdminRefusal
+rotating_kind None kind = kind
+rotating_kind (Some refresh) kind = Err WrongRefresh
+
 -- the kind of a resource server, with the digest of its secret (own)
 abbrev pub resource_kind : Result (List ℕ) AdminRefusal → Result ClientKind AdminRefusal
 resource_kind (Err why) = Err why
 resource_kind (Ok digest) = Ok (Resource digest)
 
--- a client's kind by its name, with the digest of the secret if the kind has one (own)
-abbrev pub client_kind_asked : List ℕ → Option (List ℕ) → Result ClientKind AdminRefusal
-client_kind_asked kind secret =
-    if bytes_eq kind (codes "public") then public_kind secret
-    else if bytes_eq kind (codes "confidential") then confidential_kind (digest_asked secret)
-    else if bytes_eq kind (codes "resource") then resource_kind (digest_asked secret)
+-- a client's kind by its name and `refresh`, with the digest of the secret if the kind has one
+-- (own)
+abbrev pub client_kind_asked : List ℕ → Option (List ℕ) → Option (List ℕ)
+    → Result ClientKind AdminRefusal
+client_kind_asked kind refresh secret =
+    if bytes_eq kind (codes "public") then rotating_kind refresh (public_kind secret)
+    else if bytes_eq kind (codes "confidential") then refreshing_kind refresh (digest_asked secret)
+    else if bytes_eq kind (codes "resource")
+    then rotating_kind refresh (resource_kind (digest_asked secret))
     else Err UnknownKind
 
 -- the byte between two redirection URIs (own)
@@ -140,7 +165,7 @@ registered_with client_kind None redirects = Refused MalformedScope
 registered_with client_kind (Some scope) redirects =
     registered_to client_kind scope (registered (slice_split is_space redirects))
 
--- the judgement of a new client by its kind and secret (own; RFC 6749, 2)
+-- the judgement of a new client by its kind, with the digest of its secret (own; RFC 6749, 2)
 abbrev pub registered_as : Result ClientKind AdminRefusal → List ℕ → List ℕ → Administered
 registered_as (Err why) scope redirects = Refused why
 registered_as (Ok client_kind) scope redirects =
@@ -149,16 +174,17 @@ registered_as (Ok client_kind) scope redirects =
 -- the judgement of a new client by its parameters: kind, scope and redirection URIs are required
 -- (own; RFC 6749, 2)
 abbrev pub registered_by : Option (List ℕ) → Option (List ℕ) → Option (List ℕ) → Option (List ℕ)
-    → Administered
-registered_by None scope redirects secret = Refused MissingParameter
-registered_by (Some kind) None redirects secret = Refused MissingParameter
-registered_by (Some kind) (Some scope) None secret = Refused MissingParameter
-registered_by (Some kind) (Some scope) (Some redirects) secret =
-    registered_as (client_kind_asked kind secret) scope redirects
+    → Option (List ℕ) → Administered
+registered_by None scope redirects refresh secret = Refused MissingParameter
+registered_by (Some kind) None redirects refresh secret = Refused MissingParameter
+registered_by (Some kind) (Some scope) None refresh secret = Refused MissingParameter
+registered_by (Some kind) (Some scope) (Some redirects) refresh secret =
+    registered_as (client_kind_asked kind refresh secret) scope redirects
 
 -- the names of the parameters that POST /admin/client knows (own)
 abbrev pub registration_names : List (List ℕ)
-registration_names = codes "kind" ∷ codes "secret" ∷ codes "scope" ∷ codes "redirects" ∷ []
+registration_names =
+    codes "kind" ∷ codes "refresh" ∷ codes "secret" ∷ codes "scope" ∷ codes "redirects" ∷ []
 
 -- the judgement of POST /admin/client: no parameter that the endpoint knows may occur twice (own;
 -- RFC 6749, 2)
@@ -166,7 +192,8 @@ abbrev pub registered_of : Pairs → Administered
 registered_of params =
     if has_twice registration_names params then Refused DuplicateParameter
     else registered_by (value_of (codes "kind") params) (value_of (codes "scope") params)
-    (value_of (codes "redirects") params) (value_of (codes "secret") params)
+    (value_of (codes "redirects") params) (value_of (codes "refresh") params)
+    (value_of (codes "secret") params)
 
 -- ---- the client that an id names: show it, retire it
 

@@ -54,6 +54,7 @@ abbrev pub code_of : AdminRefusal → ErrorCode
 code_of refusal.DuplicateParameter = InvalidRequest
 code_of refusal.MissingParameter = InvalidRequest
 code_of refusal.UnknownKind = InvalidRequest
+code_of refusal.WrongRefresh = InvalidRequest
 code_of refusal.UnwantedSecret = InvalidRequest
 code_of refusal.MissingSecret = InvalidRequest
 code_of refusal.MalformedSecret = InvalidRequest

@@ -27,6 +27,7 @@ use Rattle.tk_fact.specs.declared.client_kind.ClientKind.TheVariants.{
   Public,
   Confidential,
   Resource,
+  Keeping,
 }
 use Rattle.tk_message.specs.declared.choices.ChallengeRules.{ChallengeRules}
 use Rattle.tk_authorize.specs.declared.denial.Denial.{Denial}
@@ -37,6 +38,7 @@ abbrev pub is_public : ClientKind → Bool
 is_public Public = true
 is_public (Confidential digest) = false
 is_public (Resource digest) = false
+is_public (Keeping digest) = false
 
 -- the method that was sent, or `plain` if none was sent (RFC 7636, 4.3)
 abbrev pub method_of : Option (List ℕ) → List ℕ

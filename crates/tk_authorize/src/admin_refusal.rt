@@ -15,6 +15,8 @@ pub(crate) enum AdminRefusal {
     MissingParameter,
     /// The kind of client is not `public`, `confidential` or `resource`.
     UnknownKind,
+    /// The parameter `refresh` is not `kept`, or the client is not confidential (RFC 9700, 2.2.2).
+    WrongRefresh,
     /// A secret was sent for a public client (RFC 6749, 2.1).
     UnwantedSecret,
     /// No secret was sent for a client of another kind.
@@ -47,6 +49,7 @@ impl AdminRefusal {
             AdminRefusal::DuplicateParameter
             | AdminRefusal::MissingParameter
             | AdminRefusal::UnknownKind
+            | AdminRefusal::WrongRefresh
             | AdminRefusal::UnwantedSecret
             | AdminRefusal::MissingSecret
             | AdminRefusal::MalformedSecret

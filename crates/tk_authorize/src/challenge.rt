@@ -60,6 +60,7 @@ fn is_public(client_kind: &ClientKind) -> bool
         ClientKind::Public => true,
         ClientKind::Confidential(_) => false,
         ClientKind::Resource(_) => false,
+        ClientKind::Keeping(_) => false,
     }
 }
 

@@ -31,14 +31,22 @@ pub(crate) fn register(alloc: Global, params: &Params) -> Result<Administered, A
     let kind = params.value("kind");
     let scope = params.value("scope");
     let redirects = params.value("redirects");
-    register_by(alloc, kind, scope, redirects, params.value("secret"))
+    let refresh = params.value("refresh");
+    register_by(
+        alloc,
+        kind,
+        scope,
+        redirects,
+        refresh,
+        params.value("secret"),
+    )
 }
 
 // Returns whether a parameter that the endpoint knows occurs twice.
 fn has_repeats(params: &Params) -> bool
     ensures { result ≡ has_twice spec.registration_names params.now }
 {
-    let names = ["kind", "secret", "scope", "redirects"];
+    let names = ["kind", "refresh", "secret", "scope", "redirects"];
     params.has_twice(&names)
 }
 
@@ -48,11 +56,13 @@ fn register_by(
     kind: Option<&str>,
     scope: Option<&str>,
     redirects: Option<&str>,
+    refresh: Option<&str>,
     secret: Option<&str>,
 ) -> Result<Administered, AllocError>
     ensures value { IfOk result (λ a.
         a ≡ spec.registered_by (option_copied kind.entry) (option_copied scope.entry)
-        (option_copied redirects.entry) (option_copied secret.entry)) }
+        (option_copied redirects.entry) (option_copied refresh.entry)
+        (option_copied secret.entry)) }
     ensures sound { IfOk result IsSoundAdministered }
 {
     let Some(kind) = kind else {
@@ -64,7 +74,7 @@ fn register_by(
     let Some(redirects) = redirects else {
         return Ok(Administered::Refused(AdminRefusal::MissingParameter));
     };
-    match client_kind_asked(kind, secret) {
+    match client_kind_asked(kind, refresh, secret) {
         Ok(client_kind) => register_as(alloc, client_kind, scope, redirects),
         Err(why) => Ok(Administered::Refused(why)),
     }
@@ -72,19 +82,51 @@ fn register_by(
 
 // ---- the kind and the secret
 
-fn client_kind_asked(kind: &str, secret: Option<&str>) -> Result<ClientKind, AdminRefusal>
-    ensures { result ≡ spec.client_kind_asked kind.now (option_copied secret.entry) }
+// Returns the kind of a client by its name, `refresh` and its secret.
+fn client_kind_asked(
+    kind: &str,
+    refresh: Option<&str>,
+    secret: Option<&str>,
+) -> Result<ClientKind, AdminRefusal>
+    ensures { result ≡ spec.client_kind_asked kind.now (option_copied refresh.entry)
+        (option_copied secret.entry) }
 {
     if kind == "public" {
-        return public_kind(secret);
+        return rotating_kind(refresh, public_kind(secret));
     }
     if kind == "confidential" {
-        return confidential_kind(secret);
+        return refreshing_kind(refresh, digest_asked(secret));
     }
     if kind == "resource" {
-        return resource_kind(secret);
+        return rotating_kind(refresh, resource_kind(digest_asked(secret)));
     }
     Err(AdminRefusal::UnknownKind)
+}
+
+// Returns the kind of a confidential client, which may keep its refresh token.
+fn refreshing_kind(
+    refresh: Option<&str>,
+    digest: Result<[u8; 32], AdminRefusal>,
+) -> Result<ClientKind, AdminRefusal>
+    ensures { result ≡ spec.refreshing_kind (option_copied refresh.entry) digest }
+{
+    match refresh {
+        None => confidential_kind(digest),
+        Some(refresh) => kept_kind(refresh, digest),
+    }
+}
+
+// Returns the kind of a client that is not confidential, for which `refresh` may not be sent.
+fn rotating_kind(
+    refresh: Option<&str>,
+    kind: Result<ClientKind, AdminRefusal>,
+) -> Result<ClientKind, AdminRefusal>
+    ensures { result ≡ spec.rotating_kind (option_copied refresh.entry) kind }
+{
+    match refresh {
+        Some(_) => Err(AdminRefusal::WrongRefresh),
+        None => kind,
+    }
 }
 
 // Returns the kind of a public client, which has no secret.
@@ -97,21 +139,45 @@ fn public_kind(secret: Option<&str>) -> Result<ClientKind, AdminRefusal>
     }
 }
 
-// Returns the kind of a confidential client with the secret.
-fn confidential_kind(secret: Option<&str>) -> Result<ClientKind, AdminRefusal>
-    ensures { result ≡ spec.confidential_kind (spec.digest_asked (option_copied secret.entry)) }
+// Returns the kind of a confidential client with the digest of its secret.
+fn confidential_kind(digest: Result<[u8; 32], AdminRefusal>) -> Result<ClientKind, AdminRefusal>
+    ensures { result ≡ spec.confidential_kind digest }
 {
-    match digest_asked(secret) {
+    match digest {
         Ok(digest) => Ok(ClientKind::Confidential(digest)),
         Err(why) => Err(why),
     }
 }
 
-// Returns the kind of a resource server with the secret.
-fn resource_kind(secret: Option<&str>) -> Result<ClientKind, AdminRefusal>
-    ensures { result ≡ spec.resource_kind (spec.digest_asked (option_copied secret.entry)) }
+// Returns the kind of a confidential client that sends `refresh`, which must be `kept`.
+fn kept_kind(
+    refresh: &str,
+    digest: Result<[u8; 32], AdminRefusal>,
+) -> Result<ClientKind, AdminRefusal>
+    ensures { result ≡ spec.refreshing_kind (Some refresh.now) digest }
 {
-    match digest_asked(secret) {
+    if refresh == "kept" {
+        keeping_kind(digest)
+    } else {
+        Err(AdminRefusal::WrongRefresh)
+    }
+}
+
+// Returns the kind of a client that keeps its refresh token, with the digest of its secret.
+fn keeping_kind(digest: Result<[u8; 32], AdminRefusal>) -> Result<ClientKind, AdminRefusal>
+    ensures { result ≡ spec.keeping_kind digest }
+{
+    match digest {
+        Ok(digest) => Ok(ClientKind::Keeping(digest)),
+        Err(why) => Err(why),
+    }
+}
+
+// Returns the kind of a resource server with the digest of its secret.
+fn resource_kind(digest: Result<[u8; 32], AdminRefusal>) -> Result<ClientKind, AdminRefusal>
+    ensures { result ≡ spec.resource_kind digest }
+{
+    match digest {
         Ok(digest) => Ok(ClientKind::Resource(digest)),
         Err(why) => Err(why),
     }

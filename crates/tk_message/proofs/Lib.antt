@@ -1,3 +1,4 @@
 pub mod MemberLaws
 pub mod PageLaws
 mod ReplyLaws
+pub mod ShownLaws

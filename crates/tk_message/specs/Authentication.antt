@@ -13,6 +13,7 @@ use Rattle.tk_fact.specs.declared.client_kind.ClientKind.TheVariants.{
   Public,
   Confidential,
   Resource,
+  Keeping,
 }
 use Rattle.tk_store.specs.FactSet.{FactSet}
 use Rattle.tk_ledger.specs.Views.{client_view}
@@ -32,6 +33,7 @@ proves Public None = true
 proves Public (Some secret) = false
 proves (Confidential digest) secret = is_digest_of digest secret
 proves (Resource digest) secret = is_digest_of digest secret
+proves (Keeping digest) secret = is_digest_of digest secret
 
 -- the client at the dot, if it is live and the secret is its own
 abbrev pub authenticated_as : Dot → Option (List ℕ) → Option ClientFields → Auth

@@ -3,16 +3,20 @@
 --   client_body     {"client_id":ID} (own)
 --   consent_body    {"consent_id":ID} (own)
 --   subject_body    {"subject":SUBJECT} (own)
---   shown_body      {"client_id":ID,"kind":KIND,"live":LIVE,"scope":SCOPE} (own)
+--   shown_body      {"client_id":ID,"kind":KIND,"live":LIVE,"scope":SCOPE}, with a member
+--                   "refresh":"kept" of a client that keeps its refresh token (own)
 --   token_body      an access token and a refresh token (RFC 6749, 5.1)
+--   refreshed_body  an access token without a refresh token (RFC 6749, 5.1)
 --   access_body     an active access token (RFC 7662, 2.2)
 --   refresh_body    an active refresh token (RFC 7662, 2.2)
 --   standing_body   the body of an active token, by its standing
 --   inactive_body   a token that is not active (RFC 7662, 2.2)
 --   taken_body      {"took":N} (own)
-use Rattle.std.specs.Prelude.{ℕ, Bool, true, false, List, codes}
+use Rattle.std.specs.Prelude.{ℕ, Bool, true, false, List, [], ◌∷◌, codes}
+use Rattle.json.specs.Token.{Token, key, string as a_string}
 use Rattle.serde_json.specs.Data.{
   Data,
+  Members,
   string,
   boolean,
   number,
@@ -31,6 +35,7 @@ use Rattle.tk_fact.specs.declared.client_kind.ClientKind.TheVariants.{
   Public,
   Confidential,
   Resource,
+  Keeping,
 }
 use Rattle.tk_ledger.specs.StandingFields.{StandingFields}
 
@@ -56,6 +61,17 @@ abbrev pub kind_name : ClientKind → List ℕ
 kind_name Public = codes "public"
 kind_name (Confidential digest) = codes "confidential"
 kind_name (Resource digest) = codes "resource"
+kind_name (Keeping digest) = codes "confidential"
+
+-- the members behind one that says that a client keeps its refresh token, if it does (own)
+abbrev pub with_refresh : ClientKind → Members → Members
+with_refresh (Keeping digest) rest = member (codes "refresh") (string (codes "kept")) rest
+with_refresh client_kind rest = rest
+
+-- the member that says that a client keeps its refresh token, as it is written (own)
+abbrev pub refresh_written : ClientKind → List Token
+refresh_written (Keeping digest) = key (codes "refresh") ∷ a_string (codes "kept") ∷ []
+refresh_written client_kind = []
 
 -- the body that shows a client (own)
 abbrev pub shown_body : Dot → ClientKind → Bool → List ℕ → Data
@@ -63,7 +79,7 @@ shown_body client client_kind live scope = object
     (member (codes "client_id") (string (client_text client))
     (member (codes "kind") (string (kind_name client_kind))
     (member (codes "live") (boolean live)
-    (member (codes "scope") (string scope) no_members))))
+    (with_refresh client_kind (member (codes "scope") (string scope) no_members)))))
 
 -- an access token, its life in seconds, a refresh token, and the scope of the access token (RFC
 -- 6749, 5.1 and 7.1)
@@ -74,6 +90,15 @@ token_body access lifetime refresh scope = object
     (member (codes "refresh_token") (string (handle_text refresh))
     (member (codes "scope") (string scope)
     (member (codes "token_type") (string (codes "Bearer")) no_members)))))
+
+-- an access token, its life in seconds, and its scope, for a client that keeps its refresh token
+-- (RFC 6749, 5.1 and 6: `refresh_token` is optional)
+abbrev pub refreshed_body : Handle → ℕ → List ℕ → Data
+refreshed_body access lifetime scope = object
+    (member (codes "access_token") (string (handle_text access))
+    (member (codes "expires_in") (number (unsigned lifetime))
+    (member (codes "scope") (string scope)
+    (member (codes "token_type") (string (codes "Bearer")) no_members))))
 
 -- an active access token: its client, expiry, start, scope and subject (RFC 7662, 2.2)
 abbrev pub access_body : Dot → ℕ → ℕ → List ℕ → List ℕ → Data

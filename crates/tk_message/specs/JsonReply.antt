@@ -16,6 +16,7 @@ use Rattle.tk_message.specs.declared.json_reply.JsonReply.TheVariants.{
   Consent,
   Subject,
   Tokens,
+  Refreshed,
   Access,
   Refresh,
   Inactive,
@@ -28,6 +29,7 @@ use Rattle.tk_message.specs.Bodies.{
   consent_body,
   subject_body,
   token_body,
+  refreshed_body,
   access_body,
   refresh_body,
   standing_body,
@@ -56,6 +58,7 @@ body_of (Consent status consent) = consent_body consent
 body_of (Subject subject) = subject_body subject.now
 body_of (Tokens access lifetime refresh scope) =
     token_body access.now lifetime refresh.now scope.now
+body_of (Refreshed access lifetime scope) = refreshed_body access.now lifetime scope.now
 body_of (Access s) = standing_body access_body s
 body_of (Refresh s) = standing_body refresh_body s
 body_of Inactive = inactive_body

@@ -66,6 +66,7 @@ fn proves(client_kind: &ClientKind, secret: Option<&str>) -> bool
         ClientKind::Public => secret.is_none(),
         ClientKind::Confidential(digest) => is_digest_of(digest, secret),
         ClientKind::Resource(digest) => is_digest_of(digest, secret),
+        ClientKind::Keeping(digest) => is_digest_of(digest, secret),
     }
 }
 

@@ -103,14 +103,28 @@ pub(crate) fn put_shown(
         ++ key (codes "client_id") ∷ string (client_name client)
         ∷ key (codes "kind") ∷ string (spec.kind_name client_kind.now)
         ∷ key (codes "live") ∷ a_flag live
-        ∷ key (codes "scope") ∷ string scope.now ∷ []) }
+        ∷ (spec.refresh_written client_kind.now
+        ++ key (codes "scope") ∷ string scope.now ∷ [])) }
     ensures before { OnOk result (out.new.before ≡ out.old.before) }
 {
     let id = client_text(alloc, client)?;
     put_text(out, "client_id", id.as_str())?;
     put_text(out, "kind", kind_name(client_kind))?;
     put_flag(out, "live", live)?;
+    put_refresh(out, client_kind)?;
     put_text(out, "scope", scope.text())
+}
+
+// Writes the member that says that a client keeps its refresh token, if it does.
+fn put_refresh(out: &mut Writer, client_kind: &ClientKind) -> Result<(), AllocError>
+    ensures ok { OnOk result
+        (out.new.tokens ≡ out.old.tokens ++ spec.refresh_written client_kind.now) }
+    ensures before { OnOk result (out.new.before ≡ out.old.before) }
+{
+    match client_kind {
+        ClientKind::Keeping(_) => put_text(out, "refresh", "kept"),
+        ClientKind::Public | ClientKind::Confidential(_) | ClientKind::Resource(_) => Ok(()),
+    }
 }
 
 // Returns the name of a client's kind.
@@ -119,7 +133,7 @@ fn kind_name(client_kind: &ClientKind) -> &'static str
 {
     match client_kind {
         ClientKind::Public => "public",
-        ClientKind::Confidential(_) => "confidential",
+        ClientKind::Confidential(_) | ClientKind::Keeping(_) => "confidential",
         ClientKind::Resource(_) => "resource",
     }
 }
@@ -141,6 +155,26 @@ pub(crate) fn token_body(
     put_handle(&mut out, "access_token", access)?;
     put_number(&mut out, "expires_in", lifetime)?;
     put_handle(&mut out, "refresh_token", refresh)?;
+    put_text(&mut out, "scope", scope)?;
+    put_text(&mut out, "token_type", "Bearer")?;
+    end(out)
+}
+
+// Returns the body with an access token that lives `lifetime` seconds, and its scope, without a
+// refresh token (RFC 6749, 5.1).
+pub(crate) fn refreshed_body(
+    alloc: Global,
+    access: &Handle,
+    lifetime: u64,
+    scope: &Scope,
+) -> Result<Vec<u8>, AllocError>
+    ensures { IfOk result (λ body. body.items
+        ≡ compact_text (spec.refreshed_body access.now lifetime scope.now)) }
+{
+    let scope = scope.text();
+    let mut out = begin(alloc, scope.len().saturating_add(ROOM))?;
+    put_handle(&mut out, "access_token", access)?;
+    put_number(&mut out, "expires_in", lifetime)?;
     put_text(&mut out, "scope", scope)?;
     put_text(&mut out, "token_type", "Bearer")?;
     end(out)

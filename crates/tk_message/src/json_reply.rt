@@ -14,7 +14,8 @@ pub enum JsonReply<'a> {
     Error(ErrorCode),
     /// The id of the client that was added at the dot (own).
     Client(StatusCode, Dot),
-    /// The client that was added at the dot: its id, kind, whether it is live, and its scope (own).
+    /// The client that was added at the dot: its id, kind, whether it is live, whether it keeps its
+    /// refresh token, and its scope (own).
     Shown(Dot, &'a ClientKind, bool, &'a Scope),
     /// A page of the clients of the ledger that are above the dot, or of the first (own).
     Clients(&'a Ledger, Option<Dot>),
@@ -25,6 +26,9 @@ pub enum JsonReply<'a> {
     /// An access token, its life in seconds, a refresh token, and the scope of the access token
     /// (RFC 6749, 5.1).
     Tokens(&'a Handle, u64, &'a Handle, &'a Scope),
+    /// An access token, its life in seconds, and its scope, for a client that keeps its refresh
+    /// token (RFC 6749, 5.1).
+    Refreshed(&'a Handle, u64, &'a Scope),
     /// An active access token: its client, expiry, start, scope and subject (RFC 7662, 2.2).
     Access(Standing<'a>),
     /// An active refresh token: its client, expiry, start, scope and subject (RFC 7662, 2.2).
@@ -41,7 +45,7 @@ ghost use Rattle.tk_message.specs.JsonReply as spec;
 
 use crate::bodies::{
     access_body, client_body, consent_body, one_flag, one_number, one_text, refresh_body,
-    shown_body, token_body,
+    refreshed_body, shown_body, token_body,
 };
 use crate::client_page::clients_body;
 use crate::reply::{Payload, Reply, asks_by};
@@ -92,6 +96,9 @@ impl JsonReply<'_> {
             JsonReply::Subject(subject) => one_text(alloc, "subject", subject.as_str()),
             JsonReply::Tokens(access, lifetime, refresh, scope) => {
                 token_body(alloc, access, lifetime, refresh, scope)
+            }
+            JsonReply::Refreshed(access, lifetime, scope) => {
+                refreshed_body(alloc, access, lifetime, scope)
             }
             JsonReply::Access(standing) => access_body(alloc, &standing),
             JsonReply::Refresh(standing) => refresh_body(alloc, &standing),

@@ -22,7 +22,7 @@ use Rattle.tk_ledger.specs.declared.status.State.TheVariants as state
 use Rattle.tk_ledger.specs.declared.status.Status.{Status}
 use Rattle.tk_ledger.specs.declared.status.Status.TheVariants.{Unseen, Wrong, Broken, Known}
 use Rattle.tk_ledger.specs.StandingFields.{StandingFields}
-use Rattle.tk_ledger.specs.Tokens.{links_in, issued_at}
+use Rattle.tk_ledger.specs.Tokens.{links_in, anchor_in, issued_at}
 use Rattle.tk_ledger.specs.Status.{status_here, status_in, IsActive, is_live}
 use Rattle.tk_ledger.proofs.HereLaws.{here_known, active_here}
 use Rattle.tk_ledger.proofs.StatusCases.{Knows, known_parts}
@@ -114,7 +114,7 @@ tells P now h a =
     let y : (s : StandingFields) × (status_in (held_facts P) now h ≡ Known s) × (s.state ≡ state.Live) = active_is_live (held_facts P) now h a in
     let x : Knows (held_facts P) now h y.0 = known_parts (held_facts P) now h y.0 y.1 in
     let m : x.minted ≡ a.minted = some_injective x.minted a.minted (sym x.mints ∙ a.mints) in
-    let c : x.root.code ≡ a.code = IsUnder-one (links_in (map.get (held_facts P))) h.id.dot x.root.code a.code x.under a.under in
+    let c : x.root.code ≡ a.code = IsUnder-one (links_in (map.get (held_facts P))) (anchor_in (map.get (held_facts P)) h.id.dot) x.root.code a.code x.under a.under in
     let i : x.root.issued ≡ a.issued = some_injective x.root.issued a.issued (sym x.issues ∙ ap (issued_at (map.get (held_facts P))) c ∙ a.issues) in (
       y.0,
       record {

@@ -14,7 +14,7 @@ use Rattle.tk_handle.specs.declared.kind.Kind.TheVariants as kind
 use Rattle.tk_handle.specs.declared.token_id.TokenId.{TokenId}
 use Rattle.tk_fact.specs.declared.client_kind.ClientKind.{ClientKind}
 use Rattle.tk_fact.specs.declared.client_kind.ClientKind.TheVariants.{Public, Confidential}
-use Rattle.tk_fact.specs.declared.client_kind.ClientKind.TheVariants.{Resource}
+use Rattle.tk_fact.specs.declared.client_kind.ClientKind.TheVariants.{Resource, Keeping}
 use Rattle.tk_fact.specs.declared.token_revoked.TokenRevoked.{TokenRevoked}
 use Rattle.tk_store.specs.FactSet.{FactSet}
 use Rattle.tk_store.specs.StoreFields.{StoreFields, held_facts}
@@ -107,6 +107,7 @@ module _ (P Q : StoreFields) (seen : RefreshSeen) (now : ℕ) (alike : (h : Hand
   told_as params asker Public = refl
   told_as params asker (Confidential digest) = told_by_text (Confidential digest) asker (value_of (codes "token") params)
   told_as params asker (Resource digest) = told_by_text (Resource digest) asker (value_of (codes "token") params)
+  told_as params asker (Keeping digest) = told_by_text (Keeping digest) asker (value_of (codes "token") params)
 
   told_by_client : (params : Pairs) (asker : Dot) (o : Option ClientFields)
       → introspected_by_client P seen now params asker o ≡ introspected_by_client Q seen now params asker o

@@ -28,6 +28,7 @@ use Rattle.tk_fact.specs.declared.client_kind.ClientKind.TheVariants.{
   Public,
   Confidential,
   Resource,
+  Keeping,
 }
 use Rattle.tk_store.specs.StoreFields.{StoreFields, held_facts}
 use Rattle.tk_ledger.specs.Bodies.{is_same_dot}
@@ -68,6 +69,7 @@ abbrev pub sees : RefreshSeen → ClientKind → Kind → Dot → Dot → Bool
 sees seen Public k asker client = false
 sees seen (Confidential digest) k asker client = is_same_dot client asker
 sees seen (Resource digest) k asker client = servers_see seen k
+sees seen (Keeping digest) k asker client = is_same_dot client asker
 
 -- the outcome for a token that is live: a code is never active
 abbrev pub active : Kind → StandingFields → Introspected
@@ -122,6 +124,8 @@ introspected_as P seen now params asker (Confidential digest) =
     introspected_by_text P seen now (Confidential digest) asker (value_of (codes "token") params)
 introspected_as P seen now params asker (Resource digest) =
     introspected_by_text P seen now (Resource digest) asker (value_of (codes "token") params)
+introspected_as P seen now params asker (Keeping digest) =
+    introspected_by_text P seen now (Keeping digest) asker (value_of (codes "token") params)
 
 -- the outcome for an authenticated client. Such a client was added: `None` never happens
 abbrev pub introspected_by_client : StoreFields → RefreshSeen → ℕ → Pairs → Dot

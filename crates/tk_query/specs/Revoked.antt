@@ -27,6 +27,7 @@ use Rattle.tk_fact.specs.declared.client_kind.ClientKind.TheVariants.{
   Public,
   Confidential,
   Resource,
+  Keeping,
 }
 use Rattle.tk_fact.specs.declared.token_revoked.TokenRevoked.{TokenRevoked}
 use Rattle.tk_store.specs.FactSet.{FactSet}
@@ -71,6 +72,7 @@ abbrev pub proves_secret : ClientKind → Bool
 proves_secret Public = false
 proves_secret (Confidential digest) = true
 proves_secret (Resource digest) = true
+proves_secret (Keeping digest) = true
 
 -- the sender proved a secret. A sender was added: `None` never happens
 abbrev pub is_authenticated : Option ClientFields → Bool

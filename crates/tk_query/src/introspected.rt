@@ -75,6 +75,14 @@ fn introspect_as<'a>(
             asker,
             params.value("token"),
         ),
+        ClientKind::Keeping(_) => introspect_token(
+            ledger,
+            seen,
+            now,
+            client_kind,
+            asker,
+            params.value("token"),
+        ),
     }
 }
 
@@ -171,6 +179,7 @@ fn sees(seen: RefreshSeen, client_kind: &ClientKind, kind: Kind, asker: Dot, cli
         ClientKind::Public => false,
         ClientKind::Confidential(_) => client == asker,
         ClientKind::Resource(_) => servers_see(seen, kind),
+        ClientKind::Keeping(_) => client == asker,
     }
 }
 

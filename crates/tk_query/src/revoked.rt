@@ -196,7 +196,7 @@ fn proves_secret(client_kind: &ClientKind) -> bool
 {
     match client_kind {
         ClientKind::Public => false,
-        ClientKind::Confidential(_) | ClientKind::Resource(_) => true,
+        ClientKind::Confidential(_) | ClientKind::Resource(_) | ClientKind::Keeping(_) => true,
     }
 }
 
