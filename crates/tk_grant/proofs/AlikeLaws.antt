@@ -1,4 +1,5 @@
--- Token requests are decided alike by two stores whose statuses are answered alike. Key results:
+-- Token requests are decided alike by two stores that answer each handle alike and have the same
+-- clients. Key results:
 --   lost_gate      a lost token is refused as an invalid grant
 --   grants_alike   the decisions
 use Rattle.std.proofs.Common.{◌≡◌, ◌≢◌, inl, inr, ℕ, Bool, true, false, ◌==◌, cond, List, codes}
@@ -16,6 +17,8 @@ use Rattle.tk_store.specs.StoreFields.{StoreFields, held_facts}
 use Rattle.tk_ledger.specs.Bodies.{is_same_dot}
 use Rattle.tk_ledger.specs.StandingFields.{StandingFields}
 use Rattle.tk_ledger.specs.Status.{status_here}
+use Rattle.tk_ledger.specs.Views.{client_view}
+use Rattle.tk_ledger.specs.ViewFields.{ClientFields}
 use Rattle.tk_ledger.specs.declared.status.State.{State}
 use Rattle.tk_ledger.specs.declared.status.State.TheVariants as state
 use Rattle.tk_ledger.specs.declared.status.Status.{Status}
@@ -34,7 +37,7 @@ use Rattle.tk_grant.specs.Granted.{granted_by, grant_of}
 use Rattle.tk_grant.specs.Judged.{judged_by_type, judged_by_caller, known_names}
 use Rattle.tk_grant.specs.Redeemed.{redeemed_of}
 use Rattle.tk_grant.specs.Refusal.{refusal_code}
-use Rattle.tk_grant.specs.Rotated.{rotated_of}
+use Rattle.tk_grant.specs.Renewed.{is_keeping, renewed_of}
 use Rattle.tk_grant.specs.declared.gate.Gate.{Gate}
 use Rattle.tk_grant.specs.declared.gate.Gate.TheVariants.{Shut}
 use Rattle.tk_grant.specs.declared.judged.Judged.{Judged}
@@ -90,7 +93,7 @@ module _ (place : Place) (now : ℕ) (words : List ℕ) where
       shut_leads (gate_by_status id client s) (lost_gate now h id client s lost.0) f refuses
       ∙ sym (shut_leads (gate_by_status id client r) (lost_gate now h id client r lost.1) f refuses)
 
-  module _ (P Q : StoreFields) (alike : (h : Handle) → AnsweredAlike now h (status_here P now h) (status_here Q now h)) where
+  module _ (P Q : StoreFields) (alike : (h : Handle) → AnsweredAlike now h (status_here P now h) (status_here Q now h)) (views : (d : Dot) → client_view (held_facts P) d ≡ client_view (held_facts Q) d) where
     by_handle : (client : Dot) (k : Kind) (h : Handle)
         → LeadAlike (gate_by_handle P now client k h) (gate_by_handle Q now client k h)
     by_handle client k h = elim (kind_number h.id.kind == kind_number k) as (λ t. LeadAlike (cond t (gate_by_status (record { dot = h.id.dot; kind = k }) client (status_here P now h)) (Shut UnknownGrant)) (cond t (gate_by_status (record { dot = h.id.dot; kind = k }) client (status_here Q now h)) (Shut UnknownGrant))) [
@@ -116,18 +119,30 @@ module _ (place : Place) (now : ℕ) (words : List ℕ) where
     both_ifs false true x y u v z one two = two
     both_ifs false false x y u v z one two = refl
 
+    -- what is shut is refused, whether the client keeps its refresh token or not
+    shut_refused : (keeping : Bool) (params : Pairs) (why : Refusal)
+        → renewed_of keeping params (Shut why) ≡ Refused why
+    shut_refused true params why = refl
+    shut_refused false params why = refl
+
+    by_keeping : (params : Pairs) (client : Dot)
+        → granted_by place now words (renewed_of (is_keeping (client_view (held_facts P) client)) params (gate_of P now client kind.Refresh (value_of (codes "refresh_token") params))) ≡ granted_by place now words (renewed_of (is_keeping (client_view (held_facts Q) client)) params (gate_of Q now client kind.Refresh (value_of (codes "refresh_token") params)))
+    by_keeping params client =
+        by_gate client kind.Refresh (value_of (codes "refresh_token") params) (renewed_of (is_keeping (client_view (held_facts P) client)) params) (shut_refused (is_keeping (client_view (held_facts P) client)) params)
+        ∙ ap (λ (o : Option ClientFields). granted_by place now words (renewed_of (is_keeping o) params (gate_of Q now client kind.Refresh (value_of (codes "refresh_token") params)))) (views client)
+
     by_type : (params : Pairs) (client : Dot) (o : Option (List ℕ))
         → granted_by place now words (judged_by_type P now params client o) ≡ granted_by place now words (judged_by_type Q now params client o)
     by_type params client None = refl
     by_type params client (Some name) =
         both_ifs (bytes_eq name (codes "authorization_code")) (bytes_eq name (codes "refresh_token"))
         (redeemed_of params (gate_of P now client kind.Code (value_of (codes "code") params)))
-        (rotated_of params (gate_of P now client kind.Refresh (value_of (codes "refresh_token") params)))
+        (renewed_of (is_keeping (client_view (held_facts P) client)) params (gate_of P now client kind.Refresh (value_of (codes "refresh_token") params)))
         (redeemed_of params (gate_of Q now client kind.Code (value_of (codes "code") params)))
-        (rotated_of params (gate_of Q now client kind.Refresh (value_of (codes "refresh_token") params)))
+        (renewed_of (is_keeping (client_view (held_facts Q) client)) params (gate_of Q now client kind.Refresh (value_of (codes "refresh_token") params)))
         (Refused UnsupportedGrantType)
         (by_gate client kind.Code (value_of (codes "code") params) (redeemed_of params) (λ why. refl))
-        (by_gate client kind.Refresh (value_of (codes "refresh_token") params) (rotated_of params) (λ why. refl))
+        (by_keeping params client)
 
     by_caller : (params : Pairs) (c : Caller)
         → granted_by place now words (judged_by_caller P now params c) ≡ granted_by place now words (judged_by_caller Q now params c)
@@ -145,6 +160,7 @@ module _ (place : Place) (now : ℕ) (words : List ℕ) where
 
 pub grants_alike : (P Q : StoreFields) (place : Place) (now : ℕ) (words : List ℕ) (request : RequestFields)
     → ((h : Handle) → AnsweredAlike now h (status_here P now h) (status_here Q now h))
+    → ((d : Dot) → client_view (held_facts P) d ≡ client_view (held_facts Q) d)
     → caller_of (held_facts P) known_names request ≡ caller_of (held_facts Q) known_names request
     → grant_of P place now words request ≡ grant_of Q place now words request
-grants_alike P Q place now words request alike same = grant_alike place now words P Q alike request same
+grants_alike P Q place now words request alike views same = grant_alike place now words P Q alike views request same

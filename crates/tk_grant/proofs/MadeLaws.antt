@@ -32,10 +32,12 @@ use Rattle.tk_ledger.specs.Bodies.{is_same_dot}
 use Rattle.tk_ledger.specs.StandingFields.{StandingFields}
 use Rattle.tk_ledger.specs.Status.{generation_of, status_here, status_in}
 use Rattle.tk_ledger.specs.Tokens.{link_of, links_in, issued_at, minted_in}
+use Rattle.tk_ledger.specs.Views.{client_view}
 use Rattle.tk_ledger.specs.declared.status.State.{State}
 use Rattle.tk_ledger.specs.declared.status.State.TheVariants as state
 use Rattle.tk_ledger.specs.declared.status.Status.{Status}
 use Rattle.tk_ledger.specs.declared.status.Status.TheVariants.{Unseen, Wrong, Broken, Known}
+use Rattle.tk_ledger.proofs.RootLaws.{anchor-linked}
 use Rattle.tk_ledger.proofs.StatusCases.{Knows, known_parts}
 use Rattle.tk_params.specs.Params.{Pairs, value_of}
 use Rattle.tk_message.specs.Caller.{caller_of}
@@ -50,6 +52,7 @@ use Rattle.tk_grant.specs.Gate.{gate_by_text, gate_of}
 use Rattle.tk_grant.specs.Granted.{earlier, ends_at, granted_by, grant_of}
 use Rattle.tk_grant.specs.Judged.{judged_by_type, judged_by_caller, judged_of, known_names}
 use Rattle.tk_grant.specs.Redeemed.{meets_challenge, names_uri, redeemed_of}
+use Rattle.tk_grant.specs.Renewed.{is_keeping, refreshed_by, refreshed_of, renewed_of}
 use Rattle.tk_grant.specs.Rotated.{rotated_by, rotated_of}
 use Rattle.tk_grant.specs.Within.{IsCodeOf, IsRotatable, IsWithin}
 use Rattle.tk_grant.specs.declared.gate.Gate.{Gate}
@@ -63,7 +66,7 @@ use Rattle.tk_grant.specs.declared.refusal.Refusal.TheVariants as refusal
 -- the standing is that of a minted token
 record IsOpenFor (F : FactSet) (id : TokenId) (s : StandingFields) : Type 0 where
   minted : minted_in (map.get F) id ≢ None
-  under : IsUnder (links_in (map.get F)) id.dot s.code
+  under : id.kind ≡ kind.Refresh → IsUnder (links_in (map.get F)) id.dot s.code
   issued : IsCodeOf F s.code s.family_end
   rotates : id.kind ≡ kind.Refresh → IsRotatable F id.dot (s.generation + 1)
 
@@ -108,6 +111,18 @@ rotatable (body.RefreshRotated f) m d h = (Rotates f.parent f.generation, refl, 
     same_number n = grind (arith, nat_tests)
 rotatable b m d h = absurd (none_is_not_some m h)
 
+-- a refresh token's fact is the parent of a rotation
+parent_of : (P : StoreFields) (now : ℕ) (h : Handle) (k : Kind) (s : StandingFields)
+    → h.id.kind ≡ k → Knows (held_facts P) now h s → k ≡ kind.Refresh
+    → IsRotatable (held_facts P) h.id.dot (s.generation + 1)
+parent_of P now h k s same x is =
+    let made = ap (option_and_then (λ (b : Body). minted_of b h.id.kind)) (sym x.here) ∙ x.mints in
+    let above = rotatable x.body x.minted h.id.dot (ap (minted_of x.body) (sym is ∙ sym same) ∙ made) in (
+      above.0,
+      ap (option_and_then link_of) x.here ∙ above.1,
+      ap (λ n. fits (Rotates h.id.dot (n + 1)) above.0) (sym (ap (λ (y : StandingFields). y.generation) x.standing)) ∙ above.2,
+    )
+
 open_for : (P : StoreFields) (now : ℕ) (h : Handle) (k : Kind) (s : StandingFields) → h.id.kind ≡ k
     → status_here P now h ≡ Known s
     → IsOpenFor (held_facts P) (record { dot = h.id.dot; kind = k }) s
@@ -115,14 +130,11 @@ open_for P now h k s same e =
     let x : Knows (held_facts P) now h s = known_parts (held_facts P) now h s (known_is P now h s e) in
     record {
       minted = some_known (minted_in (map.get (held_facts P)) (record { dot = h.id.dot; kind = k })) x.minted (ap (λ (y : Kind). minted_in (map.get (held_facts P)) (record { dot = h.id.dot; kind = y })) (sym same) ∙ x.mints);
-      under = subst (IsUnder (links_in (map.get (held_facts P))) h.id.dot) (ap (λ (y : StandingFields). y.code) x.standing) x.under;
-      rotates = λ is.
-          let made = ap (option_and_then (λ (b : Body). minted_of b h.id.kind)) (sym x.here) ∙ x.mints in
-          let above = rotatable x.body x.minted h.id.dot (ap (minted_of x.body) (sym is ∙ sym same) ∙ made) in (
-            above.0,
-            ap (option_and_then link_of) x.here ∙ above.1,
-            ap (λ n. fits (Rotates h.id.dot (n + 1)) above.0) (sym (ap (λ (y : StandingFields). y.generation) x.standing)) ∙ above.2,
-          );
+      under = λ is.
+          let above = parent_of P now h k s same x is in
+          subst (IsUnder (links_in (map.get (held_facts P))) h.id.dot) (ap (λ (y : StandingFields). y.code) x.standing)
+          (subst (λ (q : Dot). IsUnder (links_in (map.get (held_facts P))) q x.root.code) (anchor-linked (map.get (held_facts P)) h.id.dot above.0 above.1) x.under);
+      rotates = λ is. parent_of P now h k s same x is;
       issued = (x.root.issued, ap (issued_at (map.get (held_facts P))) (sym (ap (λ (y : StandingFields). y.code) x.standing)) ∙ x.issues, sym (ap (λ (y : StandingFields). y.family_end) x.standing));
     }
 
@@ -179,6 +191,8 @@ IsGrantFor F (judged.Reused id) = minted_in (map.get F) id ≢ None
 IsGrantFor F (judged.Redeems grant) = IsCodeOf F grant.from grant.family_end
 IsGrantFor F (judged.Rotates generation grant) =
     IsRotatable F grant.from generation × (c : Dot) × IsUnder (links_in (map.get F)) grant.from c × IsCodeOf F c grant.family_end
+IsGrantFor F (judged.Refreshes grant) =
+    (l : Link) × (links_in (map.get F) grant.from ≡ Some l) × (c : Dot) × IsUnder (links_in (map.get F)) grant.from c × IsCodeOf F c grant.family_end
 
 module _ (F : FactSet) where
   either : (t : Bool) (a b : Judged) → IsGrantFor F a → IsGrantFor F b → IsGrantFor F (cond t a b)
@@ -198,7 +212,18 @@ module _ (F : FactSet) where
   rotates_by id s (Some scope) k o = (
     o.rotates k,
     s.code,
-    o.under,
+    o.under k,
+    o.issued,
+  )
+
+  refreshes_by : (id : TokenId) (s : StandingFields) (scope : Option (List ℕ))
+      → id.kind ≡ kind.Refresh → IsOpenFor F id s → IsGrantFor F (refreshed_by id.dot s scope)
+  refreshes_by id s None k o = tt
+  refreshes_by id s (Some scope) k o = (
+    (o.rotates k).0,
+    (o.rotates k).1,
+    s.code,
+    o.under k,
     o.issued,
   )
 
@@ -214,6 +239,18 @@ module _ (F : FactSet) where
   rotates params (Open id s) k o =
       either (nat_le max_generations s.generation) (judged.Refused refusal.LastGeneration) _ tt
       (rotates_by id s (scope_asked s.scope (value_of (codes "scope") params)) k o)
+
+  refreshes : (params : Pairs) (g : Gate) → IsOfKind kind.Refresh g → OpensFor F g
+      → IsGrantFor F (refreshed_of params g)
+  refreshes params (Shut why) k o = tt
+  refreshes params (Reuse id) k o = o
+  refreshes params (Open id s) k o =
+      refreshes_by id s (scope_asked s.scope (value_of (codes "scope") params)) k o
+
+  renews : (keeping : Bool) (params : Pairs) (g : Gate) → IsOfKind kind.Refresh g → OpensFor F g
+      → IsGrantFor F (renewed_of keeping params g)
+  renews keeping params g k o =
+      either keeping (refreshed_of params g) (rotated_of params g) (refreshes params g k o) (rotates params g k o)
 
 module _ (P : StoreFields) (now : ℕ) where
   kind_by_state : (id : TokenId) (s : StandingFields) (x : State)
@@ -256,7 +293,7 @@ module _ (P : StoreFields) (now : ℕ) where
       either (held_facts P) (bytes_eq name (codes "authorization_code")) _ _
       (redeems (held_facts P) params (gate_of P now client kind.Code (value_of (codes "code") params)) (by_gate P now client kind.Code (value_of (codes "code") params)))
       (either (held_facts P) (bytes_eq name (codes "refresh_token")) _ _
-      (rotates (held_facts P) params (gate_of P now client kind.Refresh (value_of (codes "refresh_token") params))
+      (renews (held_facts P) (is_keeping (client_view (held_facts P) client)) params (gate_of P now client kind.Refresh (value_of (codes "refresh_token") params))
       (kind_by_gate client kind.Refresh (value_of (codes "refresh_token") params)) (by_gate P now client kind.Refresh (value_of (codes "refresh_token") params)))
       tt)
 
@@ -286,6 +323,8 @@ granted_within F place now words (judged.Reused id) g = g
 granted_within F place now words (judged.Redeems grant) g = (grant.family_end, g, cut now place.lives.access grant.family_end, cut now place.lives.refresh grant.family_end)
 granted_within F place now words (judged.Rotates generation grant) g =
     (g.0, g.1, g.2, grant.family_end, g.3, cut now place.lives.access grant.family_end, cut now place.lives.refresh grant.family_end)
+granted_within F place now words (judged.Refreshes grant) g =
+    (g.0, g.1, g.2, g.3, grant.family_end, g.4, cut now place.lives.access grant.family_end)
 
 pub grants_within : (P : StoreFields) (place : Place) (now : ℕ) (words : List ℕ) (request : RequestFields)
     → IfSome (grant_of P place now words request).made (IsWithin (held_facts P))

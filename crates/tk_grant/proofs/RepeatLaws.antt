@@ -1,6 +1,7 @@
 -- A refresh that is repeated gets the reply of its grant. Key result:
 --   same_among      comparing each borrowed name is comparing their texts
 --   repeats_reply   the reply, of which `expires_in` alone differs
+--   refreshes_anew  what minted no refresh token isn't repeated
 use Rattle.std.proofs.Common.{◌≡◌, ℕ, ◌-◌, ◌&&◌, List, [], ◌∷◌, map, Option, Some, None, inl, inr}
 use Rattle.std.proofs.Common.{refl, sym, ap, subst, ◌∙◌}
 use Rattle.std.proofs.lemmas.Bool.{cases_Bool, cond-true, cond-false}
@@ -28,7 +29,7 @@ use Rattle.tk_message.specs.Reply.{json_reply}
 use Rattle.tk_message.specs.ReplyFields.{ReplyFields}
 use Rattle.tk_message.specs.declared.status_code.StatusCode.TheVariants.{Ok}
 use Rattle.tk_grant.specs.Granted.{access_handle, access_token, granted_by, refresh_handle}
-use Rattle.tk_grant.specs.Laws.{RepeatsReply}
+use Rattle.tk_grant.specs.Laws.{RefreshesAnew, RepeatsReply}
 use Rattle.tk_grant.specs.Repeat.{has_same, have_same, live_as, live_in, repeat_by}
 
 -- comparing each borrowed name is comparing their texts
@@ -83,3 +84,19 @@ repeats_reply P Q place now later words request generation grant body reply judg
     let m = known_minted (held_facts Q) later a p.0 body (minted_at now (access_token place now words grant)) (known_parts (held_facts Q) later a p.0 known) held mints in
     sym p.2 ∙ ap (λ e. json_reply Ok (token_body a (e - later) b p.0.scope)) m.0
     ∙ ap (λ scope. json_reply Ok (token_body a ((access_token place now words grant).expiry - later) b scope)) m.1
+
+-- no reply is given again without a live refresh token
+without_refresh : (now : ℕ) (a b : Handle) (o p : Option StandingFields)
+    → ((s : StandingFields) → p ≡ Some s → ⊥) → repeat_by now a b o p ≡ None
+without_refresh now a b (Some s) (Some t) none = absurd (none t refl)
+without_refresh now a b (Some s) None none = refl
+without_refresh now a b None (Some t) none = refl
+without_refresh now a b None None none = refl
+
+pub refreshes_anew : RefreshesAnew
+refreshes_anew Q later dot words fact held =
+    let b = refresh_handle dot words in
+    without_refresh later (access_handle dot words) b (live_in (status_here Q later (access_handle dot words))) (live_in (status_here Q later b))
+    (λ s live.
+    let known = known_parts (held_facts Q) later b s (here_known Q later b s (live_known (status_here Q later b) s live)) in
+    none_is_not_some known.minted (sym (ap (option_and_then (λ (x : Body). minted_of x kind.Refresh)) held) ∙ known.mints))

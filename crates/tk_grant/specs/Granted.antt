@@ -2,7 +2,7 @@
 --   ends_at         a token's expiry: its life after the moment, cut at the family's end
 --   access_token    the access token that a fact mints
 --   refresh_token   the refresh token that a fact mints
---   redemption, rotation   the fact that is made of a grant
+--   redemption, rotation, access_refresh   the fact that is made of a grant
 --   granted_by      the decision by a judgement
 --   grant_of        the decision of a request
 use Rattle.std.specs.Prelude.{ℕ, ◌-◌, nat_le, List, [], ◌∷◌, Some, slice_index, if◌then◌else◌}
@@ -10,7 +10,13 @@ use Rattle.tk_handle.specs.declared.dot.Dot.{Dot}
 use Rattle.tk_handle.specs.declared.kind.Kind.TheVariants as kind
 use Rattle.tk_handle.specs.declared.handle.Handle.{Handle}
 use Rattle.tk_handle.specs.Moment.{moment_plus}
-use Rattle.tk_fact.specs.declared.body.Body.TheVariants.{CodeRedeemed, RefreshRotated, ReuseSeen}
+use Rattle.tk_fact.specs.declared.body.Body.TheVariants.{
+  CodeRedeemed,
+  RefreshRotated,
+  ReuseSeen,
+  AccessRefreshed,
+}
+use Rattle.tk_fact.specs.declared.access_refreshed.AccessRefreshed as refreshed
 use Rattle.tk_fact.specs.declared.code_redeemed.CodeRedeemed as redeemed
 use Rattle.tk_fact.specs.declared.minted_token.MintedToken.{MintedToken}
 use Rattle.tk_fact.specs.declared.refresh_rotated.RefreshRotated as rotated
@@ -20,7 +26,7 @@ use Rattle.tk_message.specs.declared.decision.Decision.{Decision}
 use Rattle.tk_message.specs.declared.error_code.ErrorCode.TheVariants.{InvalidGrant}
 use Rattle.tk_message.specs.declared.place.Place.{Place}
 use Rattle.tk_message.specs.declared.status_code.StatusCode.TheVariants.{Ok}
-use Rattle.tk_message.specs.Bodies.{token_body}
+use Rattle.tk_message.specs.Bodies.{refreshed_body, token_body}
 use Rattle.tk_message.specs.Decision.{refused}
 use Rattle.tk_message.specs.Place.{next_in}
 use Rattle.tk_message.specs.Reply.{error_reply, json_reply}
@@ -28,7 +34,13 @@ use Rattle.tk_message.specs.ReplyFields.{ReplyFields}
 use Rattle.tk_message.specs.RequestFields.{RequestFields}
 use Rattle.tk_grant.specs.declared.judged.Grant.{Grant}
 use Rattle.tk_grant.specs.declared.judged.Judged.{Judged}
-use Rattle.tk_grant.specs.declared.judged.Judged.TheVariants.{Refused, Reused, Redeems, Rotates}
+use Rattle.tk_grant.specs.declared.judged.Judged.TheVariants.{
+  Refused,
+  Reused,
+  Redeems,
+  Rotates,
+  Refreshes,
+}
 use Rattle.tk_grant.specs.Judged.{judged_of}
 use Rattle.tk_grant.specs.Refusal.{refusal_code}
 
@@ -96,9 +108,25 @@ rotation place now words generation grant = record {
   refresh = refresh_token place now words grant;
 }
 
+-- the reply with the access token's handle and its life, to a client that keeps its refresh token
+-- (RFC 6749, 5.1 and 6)
+abbrev pub refreshed_reply : Place → ℕ → List ℕ → Grant → ReplyFields
+refreshed_reply place now words grant = json_reply Ok
+    (refreshed_body (access_handle (next_in place) words)
+    (ends_at now place.lives.access grant.family_end - now) grant.access)
+
+-- the access token that is minted for a refresh token that is kept starts at the moment (RFC 6749,
+-- 6)
+abbrev pub access_refresh : Place → ℕ → List ℕ → Grant → refreshed.AccessRefreshed
+access_refresh place now words grant = record {
+  parent = grant.from;
+  start = now;
+  access = access_token place now words grant;
+}
+
 -- the decision by a judgement: an error (RFC 6749, 5.2); a reuse, which is an error and makes a
 -- fact (RFC 6749, 4.1.2 and 10.4); tokens for a code (RFC 6749, 4.1.4) or for a refresh token (RFC
--- 6749, 6), with the fact that minted them
+-- 6749, 6), or an access token for a refresh token that is kept, with the fact that minted them
 abbrev pub granted_by : Place → ℕ → List ℕ → Judged → Decision
 granted_by place now words (Refused why) = refused (refusal_code why)
 granted_by place now words (Reused id) =
@@ -110,6 +138,10 @@ granted_by place now words (Redeems grant) = record {
 granted_by place now words (Rotates generation grant) = record {
   reply = granted_reply place now words grant;
   made = Some (RefreshRotated (rotation place now words generation grant));
+}
+granted_by place now words (Refreshes grant) = record {
+  reply = refreshed_reply place now words grant;
+  made = Some (AccessRefreshed (access_refresh place now words grant));
 }
 
 -- the decision of a token request

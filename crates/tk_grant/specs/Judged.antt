@@ -6,6 +6,7 @@ use Rattle.std.specs.Str.{bytes_eq}
 use Rattle.tk_handle.specs.declared.dot.Dot.{Dot}
 use Rattle.tk_handle.specs.declared.kind.Kind.TheVariants as kind
 use Rattle.tk_store.specs.StoreFields.{StoreFields, held_facts}
+use Rattle.tk_ledger.specs.Views.{client_view}
 use Rattle.tk_params.specs.Params.{Pairs, value_of}
 use Rattle.tk_message.specs.Caller.{caller_of}
 use Rattle.tk_message.specs.RequestFields.{RequestFields}
@@ -22,7 +23,7 @@ use Rattle.tk_grant.specs.declared.refusal.Refusal.TheVariants.{
 }
 use Rattle.tk_grant.specs.Gate.{gate_of}
 use Rattle.tk_grant.specs.Redeemed.{redeemed_of}
-use Rattle.tk_grant.specs.Rotated.{rotated_of}
+use Rattle.tk_grant.specs.Renewed.{is_keeping, renewed_of}
 
 -- the judgement by the grant type, which is required (RFC 6749, 4.1.3 and 6) and must be known (RFC
 -- 6749, 5.2)
@@ -32,8 +33,8 @@ judged_by_type P now params client (Some name) =
     if bytes_eq name (codes "authorization_code")
     then redeemed_of params (gate_of P now client kind.Code (value_of (codes "code") params))
     else if bytes_eq name (codes "refresh_token")
-    then rotated_of params (gate_of P now client kind.Refresh
-    (value_of (codes "refresh_token") params))
+    then renewed_of (is_keeping (client_view (held_facts P) client)) params
+    (gate_of P now client kind.Refresh (value_of (codes "refresh_token") params))
     else Refused UnsupportedGrantType
 
 -- the judgement by the sender: no parameter that the endpoint knows may occur twice, no credentials

@@ -9,7 +9,12 @@ use Rattle.tk_family.specs.declared.link.Link.{Link}
 use Rattle.tk_family.specs.declared.link.Link.TheVariants.{Rotates}
 use Rattle.tk_family.specs.Families.{IsUnder, fits}
 use Rattle.tk_fact.specs.declared.body.Body.{Body}
-use Rattle.tk_fact.specs.declared.body.Body.TheVariants.{CodeRedeemed, RefreshRotated, ReuseSeen}
+use Rattle.tk_fact.specs.declared.body.Body.TheVariants.{
+  CodeRedeemed,
+  RefreshRotated,
+  ReuseSeen,
+  AccessRefreshed,
+}
 use Rattle.tk_fact.specs.declared.code_issued.CodeIssued.{CodeIssued}
 use Rattle.tk_store.specs.FactSet.{FactSet}
 use Rattle.tk_ledger.specs.Tokens.{links_in, issued_at, minted_in}
@@ -27,7 +32,8 @@ IsRotatable F parent generation =
 
 -- a redemption is of a code that was issued, and a rotation of a refresh token that was minted
 -- under a code, a generation before; the tokens of both end with the family of that code at the
--- latest. A reuse is of a token that was minted
+-- latest. A reuse is of a token that was minted. An access token that is refreshed is for a refresh
+-- token under a code, and ends with the family of that code at the latest
 abbrev pub IsWithin : FactSet → Body → Type 0
 IsWithin F (CodeRedeemed f) =
     (moment : ℕ) × IsCodeOf F f.code moment
@@ -37,4 +43,8 @@ IsWithin F (RefreshRotated f) =
     × (c : Dot) × IsUnder (links_in (map.get F)) f.parent c
     × (moment : ℕ) × IsCodeOf F c moment × (f.access.expiry ≤ moment) × (f.refresh.expiry ≤ moment)
 IsWithin F (ReuseSeen f) = minted_in (map.get F) f.token ≢ None
+IsWithin F (AccessRefreshed f) =
+    (l : Link) × (links_in (map.get F) f.parent ≡ Some l)
+    × (c : Dot) × IsUnder (links_in (map.get F)) f.parent c
+    × (moment : ℕ) × IsCodeOf F c moment × (f.access.expiry ≤ moment)
 IsWithin F body = ⊤

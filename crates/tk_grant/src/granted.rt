@@ -7,7 +7,7 @@ ghost use Rattle.tk_grant.specs.SoundJudged.{IsSoundJudged};
 
 use crate::judged::{Grant, Judged, judge};
 use std::alloc::{AllocError, Global};
-use tk_fact::{Body, CodeRedeemed, MintedToken, RefreshRotated, ReuseSeen};
+use tk_fact::{AccessRefreshed, Body, CodeRedeemed, MintedToken, RefreshRotated, ReuseSeen};
 use tk_handle::{Dot, Handle, Kind, Moment, TokenId};
 use tk_ledger::Ledger;
 use tk_message::{Decision, ErrorCode, JsonReply, Place, Reply, Request};
@@ -15,9 +15,10 @@ use tk_message::{Decision, ErrorCode, JsonReply, Place, Reply, Request};
 /// Decides a token request at a moment (RFC 6749, 4.1.3, 4.1.4, 5, 6 and 10.4; RFC 7636, 4.5 and
 /// 4.6). Returns the reply, and the fact that the request makes, if any.
 ///
-/// The fact, at the place's dot, is that a code was redeemed, a refresh token rotated, or the reuse
-/// of either seen. The access token's handle is made of the first three random words, the refresh
-/// token's of the last three. Returns an error if memory runs out.
+/// The fact, at the place's dot, is that a code was redeemed, a refresh token rotated, an access
+/// token minted for a refresh token that is kept, or the reuse of a code or refresh token seen. The
+/// access token's handle is made of the first three random words, the refresh token's of the last
+/// three. Returns an error if memory runs out.
 pub fn decide_token(
     alloc: Global,
     ledger: &Ledger,
@@ -61,6 +62,7 @@ fn decide_by(
         Judged::Rotates(generation, grant) => {
             decide_rotated(alloc, place, now, words, generation, grant)
         }
+        Judged::Refreshes(grant) => decide_refreshed(alloc, place, now, words, grant),
     }
 }
 
@@ -125,6 +127,38 @@ fn decide_rotated(
     Ok(Decision {
         reply,
         made: Some(Body::RefreshRotated(fact)),
+    })
+}
+
+// Mints an access token for a refresh token that its client keeps.
+fn decide_refreshed(
+    alloc: Global,
+    place: &Place,
+    now: Moment,
+    words: &[u64; 6],
+    grant: Grant,
+) -> Result<Decision, AllocError>
+    requires { IsSoundJudged now (Judged.Refreshes grant) }
+    ensures value { IfOk result (λ d.
+        d ≡ spec.granted_by place.now now words.now (Judged.Refreshes grant)) }
+    ensures passes { IfOk result (λ d. Passes d.made) }
+{
+    let access = access_handle(place.next_dot(), words);
+    let expiry = ends_at(now, place.lives.access, grant.family_end);
+    let lifetime = expiry.seconds() - now.seconds();
+    let reply = JsonReply::Refreshed(&access, lifetime, &grant.access).reply(alloc)?;
+    let fact = AccessRefreshed {
+        parent: grant.from,
+        start: now,
+        access: MintedToken {
+            digest: access.digest(),
+            expiry,
+            scope: grant.access,
+        },
+    };
+    Ok(Decision {
+        reply,
+        made: Some(Body::AccessRefreshed(fact)),
     })
 }
 

@@ -26,6 +26,8 @@ pub(crate) enum Judged {
     Redeems(Grant),
     // A refresh token is rotated, into the given generation.
     Rotates(u16, Grant),
+    // An access token is minted for a refresh token that its client keeps.
+    Refreshes(Grant),
 }
 
 ghost use Rattle.std.specs.Prelude.{◌≡◌, IfOk, map};
@@ -38,7 +40,7 @@ ghost use Rattle.tk_grant.specs.SoundJudged.{IsSoundJudged};
 use crate::gate::find_gate;
 use crate::redeem::redeem;
 use crate::refusal::Refusal;
-use crate::rotate::rotate;
+use crate::renew::{keeps_token, renew};
 use std::alloc::{AllocError, Global};
 use tk_handle::Kind;
 use tk_ledger::Ledger;
@@ -135,7 +137,7 @@ fn judge_by_type(
             Kind::Refresh,
             params.value("refresh_token"),
         );
-        return rotate(alloc, now, params, gate);
+        return renew(alloc, now, params, keeps_token(ledger, client), gate);
     }
     Ok(Judged::Refused(Refusal::UnsupportedGrantType))
 }

@@ -1,4 +1,5 @@
-//! Decisions of token requests: codes are redeemed, and refresh tokens rotated.
+//! Decisions of token requests: codes are redeemed, and refresh tokens rotated or, by clients that
+//! keep them, used again.
 //!
 //! `decide_token` (RFC 6749, 4.1.3, 4.1.4, 5 and 6; RFC 7636, 4.5 and 4.6) decides a request to
 //! `/token`. First the request is judged, by the facts, the moment and the parameters:
@@ -11,10 +12,11 @@
 //! `Gate`: whether the code or refresh token that was sent can be redeemed. The crate adds no fact
 //! and draws no random words: the region does the one, and the other come with each request.
 //!
-//! In reading order: `Refusal`, `Gate`, `Grant`, `Judged`, `redeem`, `rotate`, `decide_token`,
-//! `repeat_of`, `grants_alike`, `grants_within`, `repeats_reply`. The definitions are in `specs/`:
-//! `Refusal`, `Gate`, `Redeemed`, `Rotated`, `Judged`, `Granted`, `Repeat`, `Within`. `SoundGate`
-//! and `SoundJudged` define what makes each fact pass its check.
+//! In reading order: `Refusal`, `Gate`, `Grant`, `Judged`, `redeem`, `rotate`, `renew`,
+//! `decide_token`, `repeat_of`, `grants_alike`, `grants_within`, `repeats_reply`, `refreshes_anew`.
+//! The definitions are in `specs/`: `Refusal`, `Gate`, `Redeemed`, `Rotated`, `Renewed`, `Judged`,
+//! `Granted`, `Repeat`, `Within`. `SoundGate` and `SoundJudged` define what makes each fact pass its
+//! check.
 #![tactic(auto)]
 
 mod gate;
@@ -23,9 +25,10 @@ mod judged;
 mod laws;
 mod redeem;
 mod refusal;
+mod renew;
 mod repeat;
 mod rotate;
 
 pub use granted::decide_token;
-pub use laws::{grants_alike, grants_within, repeats_reply};
+pub use laws::{grants_alike, grants_within, refreshes_anew, repeats_reply};
 pub use repeat::{is_again, is_refresh_request, repeat_of};

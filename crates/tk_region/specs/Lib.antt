@@ -3,7 +3,8 @@
 --   RegionFields     RegionFields, what contracts see of a region; place_in, IsCapped,
 --                    with_made, Gains
 --   Decision         decision_of, the decision of a request; capped, the serial cap
---   Repeating        repeat_in, the reply to a refresh that is repeated
+--   Repeating        repeat_in, the reply to a refresh that is repeated; minted_refresh, a fact by
+--                    which a refresh may be repeated
 --   Step             prepared_of, what a region prepares for a request; Commits, adding the fact
 --   Taking           TakesIn, the outcomes of taking in a bundle
 pub mod Decision

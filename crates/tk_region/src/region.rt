@@ -47,7 +47,7 @@ ghost use Rattle.tk_bundle.specs.News.{news_of, record_of};
 ghost use Rattle.tk_bundle.specs.Page as pages;
 ghost use Rattle.tk_message.specs.Place.{next_in};
 ghost use Rattle.tk_region.specs.RegionFields.{place_in};
-ghost use Rattle.tk_region.specs.Repeating.{repeat_in};
+ghost use Rattle.tk_region.specs.Repeating.{minted_refresh, repeat_in};
 ghost use Rattle.tk_region.specs.Step.{prepared_of, IsNextFact, Commits};
 ghost use Rattle.tk_region.specs.Taking.{TakesIn};
 
@@ -58,7 +58,7 @@ use std::alloc::{AllocError, Global};
 use tk_bundle::{Bundle, Page, make, news};
 use tk_fact::Fact;
 use tk_grant::repeat_of;
-use tk_handle::{Dot, Moment};
+use tk_handle::{Dot, Kind, Moment};
 use tk_message::{Choices, Place, Reply, Request};
 use tk_store::{AddError, Added};
 use tk_vector::VersionVector;
@@ -206,6 +206,17 @@ impl Region {
             return Ok(None);
         }
         repeat_of(alloc, &self.ledger, now, dot, words)
+    }
+
+    /// Returns whether the fact at the dot is held and minted a refresh token (RFC 6749, 6). The
+    /// refresh of a client that keeps its refresh token has no such fact.
+    pub fn minted_refresh(&self, dot: Dot) -> bool
+        ensures { result ≡ minted_refresh self.now dot }
+    {
+        match self.ledger.store().get(dot) {
+            Some(fact) => fact.minted(Kind::Refresh).is_some(),
+            None => false,
+        }
     }
 
     /// Adds the prepared fact, and returns the reply only then. If memory runs out, the region is
