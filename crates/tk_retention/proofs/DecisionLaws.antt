@@ -86,7 +86,7 @@ module _ (P : StoreFields) (U F : FactSet) (S : StandsFor P U F) (sound : AreSou
   by_endpoint endpoint.Authorize request = inl (
       authorizations_same H F place now words request (client_view_same P U F S) (consent_for_same P U F S)
       ∙ ap (λ (G : FactSet). authorization_of G place now words request) (sym back))
-  by_endpoint endpoint.Token request = inl (grants_alike P (whole_store F) place now words request alike (caller_back grants.known_names request))
+  by_endpoint endpoint.Token request = inl (grants_alike P (whole_store F) place now words request alike view_back (caller_back grants.known_names request))
   by_endpoint endpoint.Introspect request = inl (ap answered (introspections_alike P (whole_store F) place.choices.refresh_seen now request alike view_back (caller_back queries.known_names request)))
   by_endpoint endpoint.Revoke request = revoked_alike request
   by_endpoint endpoint.AddClient request = inl (administered request)

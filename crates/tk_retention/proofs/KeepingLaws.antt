@@ -13,11 +13,12 @@ use Rattle.tk_handle.specs.declared.kind.Kind.TheVariants as kind
 use Rattle.tk_handle.specs.declared.token_id.TokenId.{TokenId}
 use Rattle.tk_family.specs.declared.link.Link.{Link}
 use Rattle.tk_family.specs.declared.link.Link.TheVariants.{Code, Redeems, Rotates}
-use Rattle.tk_family.specs.Families.{Links, used_by, named_by, IsParent, IsTrail, use_of}
+use Rattle.tk_family.specs.Families.{Links, used_by, named_by, IsParent, IsTrail, IsUnder, use_of}
 use Rattle.tk_family.proofs.DotLaws.{cases_dots}
-use Rattle.tk_family.proofs.FamilyLaws.{IsParent-within, IsUnder-within}
+use Rattle.tk_family.proofs.FamilyLaws.{IsParent-within}
 use Rattle.tk_fact.specs.Tokens.{MintedFields, minted_of}
 use Rattle.tk_fact.specs.declared.body.Body.{Body}
+use Rattle.tk_fact.specs.declared.body.Body.TheVariants as body
 use Rattle.tk_store.specs.FactSet.{FactSet, IsSubset}
 use Rattle.tk_store.specs.Slots.{Slot, Slots, Held, Skipped, is_skipped}
 use Rattle.tk_store.specs.StoreFields.{StoreFields, held_facts, with_fact, with_skipped}
@@ -25,15 +26,21 @@ use Rattle.tk_store.specs.StoreFields.{with_horizon}
 use Rattle.tk_store.proofs.PutLaws.{by_dot, get_here, none_is_not_some, some_injective}
 use Rattle.std.specs.Option.{option_and_then}
 use Rattle.tk_ledger.specs.Retention.{IsOverAt, MintsNothing, MaySkip, Prunes}
-use Rattle.tk_ledger.specs.Tokens.{link_of, links_in, minted_in, issued_in}
-use Rattle.tk_ledger.proofs.TokenLaws.{links-below, minted-below, from_some}
+use Rattle.tk_ledger.specs.Tokens.{anchor_by, anchor_in, link_of, links_in, minted_in, issued_in}
+use Rattle.tk_ledger.proofs.RootLaws.{links-below, minted-below, minted-under-below, from_some}
 use Rattle.tk_retention.specs.StandsFor.{SlotStands, StandsFor, AreSound, AddsOne, MeetsFamily}
-use Rattle.tk_retention.proofs.StandingLaws.{at_skipped, held_made, held_part, none_some}
+use Rattle.tk_retention.proofs.OverLaws.{none_some}
+use Rattle.tk_retention.proofs.StandingLaws.{at_skipped, held_made, held_part}
 
 pub minted_more : (F G : FactSet) → IsSubset F G → (k : TokenId) (o : Option MintedFields)
     → minted_in (map.get F) k ≡ o → o ≢ None → minted_in (map.get G) k ≢ None
 minted_more F G w k None h some = absurd (some refl)
 minted_more F G w k (Some m) h some = λ none. none_some (minted_in (map.get G) k) m none (minted-below F G w k m h)
+
+link_more : (F G : FactSet) → IsSubset F G → (d : Dot) (o : Option Link)
+    → links_in (map.get F) d ≡ o → o ≢ None → links_in (map.get G) d ≢ None
+link_more F G w d None h some = absurd (some refl)
+link_more F G w d (Some l) h some = λ none. none_some (links_in (map.get G) d) l none (links-below F G w d l h)
 
 -- what may be skipped may be skipped where more facts are made, and later
 pub may_more : (U V : FactSet) → IsSubset U V → (t s : ℕ) → t ≤ s → (d : Dot)
@@ -45,7 +52,7 @@ may_more U V w t s h d may = record { fact = may.fact; here = w d may.fact may.h
     by q (inr none) = inr (record { fact = none.fact; here = w q none.fact none.here; barren = none.barren })
     by q (inl o) = (let code = from_some issued_in (map.get U o.root) o.code o.issues in inl (record {
       root = o.root;
-      under = IsUnder-within (links_in (map.get U)) (links_in (map.get V)) (links-below U V w) q o.root o.under;
+      under = minted-under-below U V w q o.root o.under;
       code = o.code;
       issues = ap (option_and_then issued_in) (w o.root code.0 code.1) ∙ code.2;
       over = (let a = o.over in omega (arith, a, h));
@@ -167,15 +174,36 @@ module _ (U V : FactSet) (d : Dot) (b : Body) (A : AddsOne U d b V) (sound : Are
   root_old q [] c ne m = λ same. ne (m ∙ same)
   root_old q (p ∷ ps) c ne m = root_old p ps c (parent_old q p ne m.0) m.1
 
+  -- the anchor of a fact made before is not the new dot
+  anchor_old : (q : Dot) → q ≢ d → anchor_in (map.get U) q ≢ d
+  anchor_old q ne = by (map.get U q) refl
+    where
+      refreshed : (p : Dot) → links_in (map.get U) p ≢ None → p ≢ d
+      refreshed p some same = some (ap (links_in (map.get U)) same ∙ ap (option_and_then link_of) A.free)
+
+      by : (o : Option Body) → map.get U q ≡ o → anchor_by q o ≢ d
+      by None at = ne
+      by (Some (body.AccessRefreshed f)) at = refreshed f.parent (sound.refreshed q f at)
+      by (Some b) at = ne
+
+  -- what was minted before is under the codes that it was under
+  under_old : (q c : Dot) → q ≢ d → IsUnder (links_in (map.get V)) q c
+      → IsUnder (links_in (map.get U)) q c
+  under_old q c ne under =
+      let away : c ≢ d = root_old q under.path c ne under.leads.0 in
+      record { path = under.path; leads = (trail_old q under.path c ne under.leads.0, sym (links_old c away) ∙ under.leads.1) }
+
   pub sound_stays : MeetsFamily U d V → AreSound V
   sound_stays meets = record {
     ends = λ k m c code other minted under is. elim (cases_dots k.dot d) [
       | inl same ↦ meets.cut k m c code same other minted under is
       | inr ne ↦
-          let away : c ≢ d = root_old k.dot under.path c ne under.leads.0 in
+          let a : Dot = anchor_in (map.get U) k.dot in
+          let old : IsUnder (links_in (map.get V)) a c = subst (λ (x : Dot). IsUnder (links_in (map.get V)) x c) (ap (anchor_by k.dot) (A.others k.dot ne)) under in
+          let away : c ≢ d = root_old a old.path c (anchor_old k.dot ne) old.leads.0 in
           sound.ends k m c code other
           (ap (option_and_then (λ (x : Body). minted_of x k.kind)) (sym (A.others k.dot ne)) ∙ minted)
-          (record { path = under.path; leads = (trail_old k.dot under.path c ne under.leads.0, sym (links_old c away) ∙ under.leads.1) })
+          (under_old a c (anchor_old k.dot ne) old)
           (ap (option_and_then issued_in) (sym (A.others c away)) ∙ is)
     ];
     parents = λ e k u. elim (cases_dots e d) [
@@ -185,6 +213,10 @@ module _ (U V : FactSet) (d : Dot) (b : Body) (A : AddsOne U d b V) (sound : Are
     reuses = λ e reuse at. elim (cases_dots e d) [
       | inl same ↦ minted_more U V part reuse.token (minted_in (map.get U) reuse.token) refl (meets.reused reuse (ap (map.get V) (sym same) ∙ at))
       | inr ne ↦ minted_more U V part reuse.token (minted_in (map.get U) reuse.token) refl (sound.reuses e reuse (sym (A.others e ne) ∙ at))
+    ];
+    refreshed = λ e f at. elim (cases_dots e d) [
+      | inl same ↦ link_more U V part f.parent (links_in (map.get U) f.parent) refl (meets.refreshed f (ap (map.get V) (sym same) ∙ at))
+      | inr ne ↦ link_more U V part f.parent (links_in (map.get U) f.parent) refl (sound.refreshed e f (sym (A.others e ne) ∙ at))
     ];
   }
     where

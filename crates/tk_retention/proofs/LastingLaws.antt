@@ -37,7 +37,8 @@ use Rattle.tk_message.specs.RequestFields.{RequestFields}
 use Rattle.tk_message.specs.declared.caller.Caller.{Caller}
 use Rattle.tk_message.specs.declared.caller.Caller.TheVariants.{DuplicateParameter}
 use Rattle.tk_retention.specs.StandsFor.{StandsFor}
-use Rattle.tk_retention.proofs.StandingLaws.{none_some, at_skipped, at_held, apart, may_skip}
+use Rattle.tk_retention.proofs.OverLaws.{none_some}
+use Rattle.tk_retention.proofs.StandingLaws.{at_skipped, at_held, apart, may_skip}
 use Rattle.tk_retention.proofs.StandingLaws.{held_part, lasting_held}
 
 module _ (P : StoreFields) (U F : FactSet) (S : StandsFor P U F) where

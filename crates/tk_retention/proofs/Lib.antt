@@ -2,6 +2,7 @@ pub mod DecisionLaws
 pub mod KeepingLaws
 pub mod LastingLaws
 pub mod MadeLaws
+pub mod OverLaws
 pub mod SliceStands
 pub mod StandingLaws
 pub mod StatusStandsLaws

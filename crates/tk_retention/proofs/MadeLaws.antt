@@ -14,7 +14,8 @@ use Rattle.tk_family.specs.declared.link.Link.TheVariants.{Code, Redeems, Rotate
 use Rattle.tk_family.specs.Families.{IsParent, IsPath, IsUnder, named_by, use_of}
 use Rattle.tk_family.proofs.FamilyLaws.{IsUnder-one, IsUnder-within}
 use Rattle.tk_fact.specs.Keeping.{names_of}
-use Rattle.tk_fact.specs.Tokens.{MintedFields, minted_of}
+use Rattle.tk_fact.specs.Tokens.{MintedFields, anchor_of, minted_of}
+use Rattle.tk_fact.specs.declared.access_refreshed.AccessRefreshed as renewed
 use Rattle.tk_fact.specs.declared.body.Body.{Body}
 use Rattle.tk_fact.specs.declared.body.Body.TheVariants as body
 use Rattle.tk_fact.specs.declared.code_issued.CodeIssued as issued
@@ -22,8 +23,9 @@ use Rattle.tk_fact.specs.declared.reuse_seen.ReuseSeen as seen
 use Rattle.tk_store.specs.FactSet.{FactSet, IsSubset}
 use Rattle.tk_store.specs.StoreFields.{StoreFields, held_facts}
 use Rattle.tk_store.proofs.PutLaws.{none_is_not_some, some_injective}
-use Rattle.tk_ledger.specs.Tokens.{link_of, links_in, issued_in, issued_at, minted_in}
-use Rattle.tk_ledger.proofs.TokenLaws.{from_some, links-below}
+use Rattle.tk_ledger.specs.Tokens.{IsMintedUnder, anchor_by, link_of, links_in}
+use Rattle.tk_ledger.specs.Tokens.{issued_in, issued_at, minted_in}
+use Rattle.tk_ledger.proofs.RootLaws.{from_some, links-below}
 use Rattle.tk_message.specs.Decision.{refused}
 use Rattle.tk_message.specs.Place.{next_in}
 use Rattle.tk_message.specs.RequestFields.{RequestFields}
@@ -41,7 +43,7 @@ use Rattle.tk_region.specs.RegionFields.{RegionFields, place_in}
 use Rattle.tk_region.specs.Step.{at_dot, early_in, prepared_at, prepared_by, prepared_of}
 use Rattle.tk_retention.specs.StandsFor.{AddsOne, MeetsFamily}
 use Rattle.tk_retention.proofs.KeepingLaws.{minted_more}
-use Rattle.tk_retention.proofs.StandingLaws.{code_under}
+use Rattle.tk_retention.proofs.OverLaws.{code_under}
 
 some_known : {A : Type 0} (o : Option A) (a : A) → o ≡ Some a → o ≢ None
 some_known o a h none = none_is_not_some a (sym none ∙ h)
@@ -59,6 +61,7 @@ alone_within F None alone = tt
 alone_within F (Some (body.CodeRedeemed f)) alone = absurd (none_is_not_some _ (sym alone))
 alone_within F (Some (body.RefreshRotated f)) alone = absurd (none_is_not_some _ (sym alone))
 alone_within F (Some (body.ReuseSeen f)) alone = absurd (none_is_not_some _ (sym alone))
+alone_within F (Some (body.AccessRefreshed f)) alone = absurd (none_is_not_some _ (sym alone))
 alone_within F (Some b) alone = tt
 
 -- a revocation is within
@@ -117,6 +120,13 @@ module _ (F U V : FactSet) (d : Dot) (b : Body) (part : IsSubset F U) (adds : Ad
   link_here : links_in (map.get V) d ≡ link_of b
   link_here = ap (option_and_then link_of) adds.here
 
+  -- what is minted at the new dot is under the codes that its anchor is under
+  anchored : (x c : Dot) → x ≡ d → IsMintedUnder (map.get V) x c
+      → IsUnder (links_in (map.get V)) (anchor_of d b) c
+  anchored x c same under =
+      subst (λ (q : Dot). IsUnder (links_in (map.get V)) q c) (ap (anchor_by d) adds.here)
+      (subst (λ (q : Dot). IsMintedUnder (map.get V) q c) same under)
+
   code_grown : (c : Dot) (code : issued.CodeIssued) → issued_at (map.get F) c ≡ Some code
       → issued_at (map.get V) c ≡ Some code
   code_grown c code h =
@@ -160,20 +170,22 @@ module _ (F U V : FactSet) (d : Dot) (b : Body) (part : IsSubset F U) (adds : Ad
   ends_within b' access refresh kind.Access m moment other a r x y h = subst (λ n. n ≤ moment) (sym (a m h)) x
   ends_within b' access refresh kind.Refresh m moment other a r x y h = subst (λ n. n ≤ moment) (sym (r m h)) y
 
--- a fact that is no redemption and no rotation mints codes alone, and uses nothing; a reuse is of
--- what was minted
+-- a fact that mints codes alone, and uses and refreshes nothing; a reuse is of what was minted
 abbrev Alone : FactSet → Body → Type 0
-Alone U b = ((k : Kind) → k ≢ kind.Code → minted_of b k ≡ None) × (use_of (link_of b) ≡ None) × ((reuse : seen.ReuseSeen) → b ≡ body.ReuseSeen reuse → minted_in (map.get U) reuse.token ≢ None)
+Alone U b = ((k : Kind) → k ≢ kind.Code → minted_of b k ≡ None) × (use_of (link_of b) ≡ None)
+    × ((reuse : seen.ReuseSeen) → b ≡ body.ReuseSeen reuse → minted_in (map.get U) reuse.token ≢ None)
+    × ((f : renewed.AccessRefreshed) → b ≡ body.AccessRefreshed f → ⊥)
 
 alone_meets : (U V : FactSet) (d : Dot) (b : Body) → AddsOne U d b V → Alone U b → MeetsFamily U d V
 alone_meets U V d b adds alone = record {
   cut = λ k m c code same other minted under issues. absurd (none_is_not_some m (sym (alone.0 k.kind other) ∙ sym (minted_here U U V d b (λ q x h. h) adds k same) ∙ minted));
   parent = λ k u. absurd (none_is_not_some k (sym alone.1 ∙ ap use_of (sym (link_here U U V d b (λ q x h. h) adds)) ∙ u));
   reused = λ reuse at. alone.2 reuse (some_injective b (body.ReuseSeen reuse) (sym adds.here ∙ at));
+  refreshed = λ f at. absurd (alone.3 f (some_injective b (body.AccessRefreshed f) (sym adds.here ∙ at)));
 }
 
 codes_alone : (U : FactSet) (f : issued.CodeIssued) → Alone U (body.CodeIssued f)
-codes_alone U f = (none, refl, λ reuse same. absurd (cc))
+codes_alone U f = (none, refl, λ reuse same. absurd (cc), λ g same. cc)
   where
     none : (k : Kind) → k ≢ kind.Code → minted_of (body.CodeIssued f) k ≡ None
     none kind.Code other = absurd (other refl)
@@ -187,7 +199,7 @@ meets F U V d (body.CodeRedeemed f) part adds within =
     let of = within.1 in
     record {
       cut = λ k m c code same other minted under_k issues.
-          let under = subst (λ (x : Dot). IsUnder (links_in (map.get V)) x c) same under_k in
+          let under = anchored F U V d b part adds k.dot c same under_k in
           let up = above_code F U V d b part adds (Redeems f.code) f.code c refl (λ e. no_code e) refl under in
           let moment : within.0 ≡ code.family_end = ends_by F U V d b part adds f.code f.code c within.0 code (code_itself F U V d b part adds f.code of.0 of.1) of up issues in
           subst (λ n. m.expiry ≤ n) moment
@@ -204,6 +216,7 @@ meets F U V d (body.CodeRedeemed f) part adds within =
             fitting = refl;
           });
       reused = λ reuse at. absurd (no_reuse reuse (some_injective b (body.ReuseSeen reuse) (sym adds.here ∙ at)));
+      refreshed = λ g at. absurd (no_refresh g (some_injective b (body.AccessRefreshed g) (sym adds.here ∙ at)));
     }
   where
     no_code : Redeems f.code ≡ Code → ⊥
@@ -211,6 +224,9 @@ meets F U V d (body.CodeRedeemed f) part adds within =
 
     no_reuse : (reuse : seen.ReuseSeen) → body.CodeRedeemed f ≡ body.ReuseSeen reuse → ⊥
     no_reuse reuse e = cc
+
+    no_refresh : (g : renewed.AccessRefreshed) → body.CodeRedeemed f ≡ body.AccessRefreshed g → ⊥
+    no_refresh g e = cc
 
     code_link : (code : issued.CodeIssued) → issued_at (map.get V) f.code ≡ Some code
         → links_in (map.get V) f.code ≡ Some Code
@@ -228,7 +244,7 @@ meets F U V d (body.RefreshRotated f) part adds within =
     let of = within.4 in
     record {
       cut = λ k m c code same other minted under_k issues.
-          let under = subst (λ (x : Dot). IsUnder (links_in (map.get V)) x c) same under_k in
+          let under = anchored F U V d b part adds k.dot c same under_k in
           let up = above_code F U V d b part adds (Rotates f.parent f.generation) f.parent c refl (λ e. no_code e) refl under in
           let old = IsUnder-within (links_in (map.get F)) (links_in (map.get V)) (links-below F V (grown F U V d b part adds)) f.parent root within.2 in
           let ends : moment ≡ code.family_end = ends_by F U V d b part adds f.parent root c moment code old of up issues in
@@ -246,6 +262,7 @@ meets F U V d (body.RefreshRotated f) part adds within =
             fitting = within.0.2;
           });
       reused = λ reuse at. absurd (no_reuse reuse (some_injective b (body.ReuseSeen reuse) (sym adds.here ∙ at)));
+      refreshed = λ g at. absurd (no_refresh g (some_injective b (body.AccessRefreshed g) (sym adds.here ∙ at)));
     }
   where
     no_code : Rotates f.parent f.generation ≡ Code → ⊥
@@ -253,6 +270,40 @@ meets F U V d (body.RefreshRotated f) part adds within =
 
     no_reuse : (reuse : seen.ReuseSeen) → body.RefreshRotated f ≡ body.ReuseSeen reuse → ⊥
     no_reuse reuse e = cc
+
+    no_refresh : (g : renewed.AccessRefreshed) → body.RefreshRotated f ≡ body.AccessRefreshed g → ⊥
+    no_refresh g e = cc
+meets F U V d (body.AccessRefreshed f) part adds within =
+    let b : Body = body.AccessRefreshed f in
+    let root = within.2 in
+    let moment = within.4 in
+    let of = within.5 in
+    record {
+      cut = λ k m c code same other minted under_k issues.
+          let up = anchored F U V d b part adds k.dot c same under_k in
+          let old = IsUnder-within (links_in (map.get F)) (links_in (map.get V)) (links-below F V (grown F U V d b part adds)) f.parent root within.3 in
+          let ends : moment ≡ code.family_end = ends_by F U V d b part adds f.parent root c moment code old of up issues in
+          subst (λ n. m.expiry ≤ n) ends
+          (by k.kind m moment other within.6 (sym (minted_here F U V d b part adds k same) ∙ minted));
+      parent = λ k u. absurd (none_is_not_some k (ap use_of (sym (link_here F U V d b part adds)) ∙ u));
+      reused = λ reuse at. absurd (no_reuse reuse (some_injective b (body.ReuseSeen reuse) (sym adds.here ∙ at)));
+      refreshed = λ g at.
+          let is : f ≡ g = one g (some_injective b (body.AccessRefreshed g) (sym adds.here ∙ at)) in
+          subst (λ (x : renewed.AccessRefreshed). links_in (map.get U) x.parent ≢ None) is
+          (some_known (links_in (map.get U) f.parent) within.0 (links-below F U part f.parent within.0 within.1));
+    }
+  where
+    by : (k : Kind) (m : MintedFields) (moment : ℕ) → k ≢ kind.Code → f.access.expiry ≤ moment
+        → minted_of (body.AccessRefreshed f) k ≡ Some m → m.expiry ≤ moment
+    by kind.Code m moment other early h = absurd (other refl)
+    by kind.Access m moment other early h = subst (λ n. n ≤ moment) (ap (λ (y : MintedFields). y.expiry) (some_injective _ m h)) early
+    by kind.Refresh m moment other early h = absurd (none_is_not_some m h)
+
+    no_reuse : (reuse : seen.ReuseSeen) → body.AccessRefreshed f ≡ body.ReuseSeen reuse → ⊥
+    no_reuse reuse e = cc
+
+    one : (g : renewed.AccessRefreshed) → body.AccessRefreshed f ≡ body.AccessRefreshed g → f ≡ g
+    one g e = cc
 meets F U V d (body.CodeIssued f) part adds within = alone_meets U V d (body.CodeIssued f) adds (codes_alone U f)
 meets F U V d (body.ReuseSeen f) part adds within = alone_meets U V d (body.ReuseSeen f) adds (
   λ k other. refl,
@@ -260,8 +311,9 @@ meets F U V d (body.ReuseSeen f) part adds within = alone_meets U V d (body.Reus
   λ reuse same.
       let is : f ≡ reuse = cc in
       subst (λ (x : seen.ReuseSeen). minted_in (map.get U) x.token ≢ None) is (minted_more F U part f.token (minted_in (map.get F) f.token) refl within),
+  λ g same. cc,
 )
-meets F U V d b part adds within = alone_meets U V d b adds (λ k other. refl, refl, λ reuse same. absurd (cc))
+meets F U V d b part adds within = alone_meets U V d b adds (λ k other. refl, refl, λ reuse same. absurd (cc), λ g same. cc)
 
 -- a fact that a region makes ends with its family, and names what was minted for it
 pub made_meets : (r : RegionFields) (U V : FactSet) (now : ℕ) (words : List ℕ) (request : RequestFields)

@@ -2,8 +2,8 @@
 --   goes_soundly   a fact that may go may be skipped by all facts made
 --   slice_stands   a store of which a slice was pruned stands for the same facts
 --   progresses     as long as a fact that may be skipped is held, some fact may go
-use Rattle.std.proofs.Common.{◌≡◌, ◌≢◌, ◌⊎◌, inl, inr, true, false, ℕ, ◌≤◌, max, List, [], ◌∷◌}
-use Rattle.std.proofs.Common.{Option, None, Some, refl, sym, ap, subst, ◌∙◌, arith}
+use Rattle.std.proofs.Common.{◌≡◌, ◌≢◌, ◌⊎◌, inl, inr, Bool, true, false, ℕ, ◌≤◌, max, List, []}
+use Rattle.std.proofs.Common.{◌∷◌, Option, None, Some, refl, sym, ap, subst, ◌∙◌, arith}
 use Rattle.std.proofs.lemmas.Bool.{true≢false, cases_Bool}
 use Rattle.std.specs.Option.{option_and_then}
 use Rattle.std.specs.FinMap as map
@@ -13,7 +13,7 @@ use Rattle.tk_handle.specs.declared.token_id.TokenId.{TokenId}
 use Rattle.tk_family.specs.declared.link.Link.{Link}
 use Rattle.tk_family.specs.declared.link.Link.TheVariants.{Code, Redeems, Rotates}
 use Rattle.tk_family.specs.Families.{named_by, use_of, IsParent, IsPath, IsUnder}
-use Rattle.tk_fact.specs.Keeping.{kept_for, names_of}
+use Rattle.tk_fact.specs.Keeping.{kept_for, names_of, refresh_at}
 use Rattle.tk_fact.specs.declared.body.Body.{Body}
 use Rattle.tk_fact.specs.declared.body.Body.TheVariants as body
 use Rattle.tk_fact.specs.declared.code_issued.CodeIssued as issued
@@ -21,15 +21,15 @@ use Rattle.tk_store.specs.FactSet.{FactSet}
 use Rattle.tk_store.specs.Slots.{Skipped, is_skipped}
 use Rattle.tk_store.specs.StoreFields.{StoreFields, held_facts, with_horizon, with_skipped}
 use Rattle.tk_store.proofs.PutLaws.{none_is_not_some, some_injective}
-use Rattle.tk_ledger.specs.Retention.{IsOverAt, MintsNothing, MaySkip}
+use Rattle.tk_ledger.specs.Retention.{IsOverAt, MintsNothing, MaySkip, mints}
 use Rattle.tk_ledger.specs.Slices.{Goes, PrunesSome, Steps}
-use Rattle.tk_ledger.specs.Tokens.{link_of, links_in, issued_in, issued_at}
+use Rattle.tk_ledger.specs.Tokens.{IsMintedUnder, anchor_by, link_of, links_in, issued_in, issued_at}
 use Rattle.tk_ledger.specs.declared.slices.Slice.{Slice}
-use Rattle.tk_ledger.proofs.TokenLaws.{from_some}
+use Rattle.tk_ledger.proofs.RootLaws.{from_some, under-minted}
 use Rattle.tk_retention.specs.StandsFor.{StandsFor, AreSound}
 use Rattle.tk_retention.proofs.KeepingLaws.{may_more, slot_more, slot_put}
-use Rattle.tk_retention.proofs.StandingLaws.{kept_linked, link_from, code_under, at_held, may_skip}
-use Rattle.tk_retention.proofs.StandingLaws.{held_made, held_part}
+use Rattle.tk_retention.proofs.OverLaws.{link_from, linked_mints, minted_linked, over_here, code_under}
+use Rattle.tk_retention.proofs.StandingLaws.{at_held, may_skip, held_made, held_part}
 
 module _ (P : StoreFields) (U F : FactSet) (S : StandsFor P U F) where
   abbrev H : FactSet
@@ -37,24 +37,15 @@ module _ (P : StoreFields) (U F : FactSet) (S : StandsFor P U F) where
 
   -- ---- what may go may be skipped
 
-  -- what mints at a skipped dot is of a family that is over
-  over_skipped : (q : Dot) (l : Link) → links_in (map.get U) q ≡ Some l
-      → MaySkip (map.get U) P.horizon q → IsOverAt (map.get U) P.horizon q
-  over_skipped q l at may = by may.token.dot (kept_linked q may.fact l may.token (link_from (map.get U q) may.fact may.here l at) may.kept) may.why
-    where
-      by : (e : Dot) → e ≡ q → IsOverAt (map.get U) P.horizon e ⊎ MintsNothing (map.get U) e
-          → IsOverAt (map.get U) P.horizon q
-      by e own (inl o) = subst (λ (x : Dot). IsOverAt (map.get U) P.horizon x) own o
-      by e own (inr none) =
-          let here : MintsNothing (map.get U) q = subst (λ (x : Dot). MintsNothing (map.get U) x) own none in
-          absurd (none_is_not_some l (sym (ap (option_and_then link_of) here.here ∙ here.barren) ∙ at))
-
   -- a fact whose parent may be skipped may be skipped
-  child_skips : (d q : Dot) (b : Body) (k : TokenId) → map.get U d ≡ Some b → kept_for d b ≡ Some k
-      → k.dot ≡ d → IsParent (links_in (map.get U)) d q → MaySkip (map.get U) P.horizon q
-      → MaySkip (map.get U) P.horizon d
-  child_skips d q b k here kept own parent may =
-      let o = over_skipped q parent.above parent.there may in
+  child_skips : AreSound U → (d q : Dot) (b : Body) (k : TokenId) → map.get U d ≡ Some b
+      → kept_for d b ≡ Some k → k.dot ≡ d → IsParent (links_in (map.get U)) d q
+      → MaySkip (map.get U) P.horizon q → MaySkip (map.get U) P.horizon d
+  child_skips sound d q b k here kept own parent may =
+      let mint = linked_mints may.fact parent.above (link_from (map.get U q) may.fact may.here parent.above parent.there) in
+      let o = over_here U P.horizon sound q may mint in
+      let above : IsUnder (links_in (map.get U)) q o.root = minted_linked (map.get U) q o.root parent.above parent.there o.under in
+      let under : IsUnder (links_in (map.get U)) d o.root = record { path = q ∷ above.path; leads = ((parent, above.leads.0), above.leads.1) } in
       record {
         fact = b;
         here = here;
@@ -62,7 +53,7 @@ module _ (P : StoreFields) (U F : FactSet) (S : StandsFor P U F) where
         kept = kept;
         why = inl (record {
           root = o.root;
-          under = subst (λ (x : Dot). IsUnder (links_in (map.get U)) x o.root) (sym own) (record { path = q ∷ o.under.path; leads = ((parent, o.under.leads.0), o.under.leads.1) });
+          under = subst (λ (x : Dot). IsMintedUnder (map.get U) x o.root) (sym own) (under-minted (map.get U) d o.root under);
           code = o.code;
           issues = o.issues;
           over = o.over;
@@ -70,24 +61,24 @@ module _ (P : StoreFields) (U F : FactSet) (S : StandsFor P U F) where
       }
 
   -- a token whose dot may be skipped is of a family that is over, or can't come
-  named_over : (q : Dot) → MaySkip (map.get U) P.horizon q
+  named_over : AreSound U → (q : Dot) → MaySkip (map.get U) P.horizon q
       → IsOverAt (map.get U) P.horizon q ⊎ MintsNothing (map.get U) q
-  named_over q may = by (link_of may.fact) refl
+  named_over sound q may = by (mints may.fact) refl
     where
-      by : (o : Option Link) → link_of may.fact ≡ o
+      by : (t : Bool) → mints may.fact ≡ t
           → IsOverAt (map.get U) P.horizon q ⊎ MintsNothing (map.get U) q
-      by None none = inr (record { fact = may.fact; here = may.here; barren = none })
-      by (Some l) link = inl (over_skipped q l (ap (option_and_then link_of) may.here ∙ link) may)
+      by false none = inr (record { fact = may.fact; here = may.here; barren = none })
+      by true some = inl (over_here U P.horizon sound q may some)
 
   module _ (sound : AreSound U) (d : Dot) where
     names_soundly : (b : Body) (q : Dot) → map.get U d ≡ Some b → names_of b ≡ Some q
         → is_skipped P.slots q ≡ true → MaySkip (map.get U) P.horizon d
     names_soundly (body.CodeRedeemed f) q here names skipped =
-        child_skips d f.code (body.CodeRedeemed f) (record { dot = d; kind = kind.Refresh }) here refl refl
+        child_skips sound d f.code (body.CodeRedeemed f) (record { dot = d; kind = kind.Refresh }) here refl refl
         (sound.parents d (record { dot = f.code; kind = kind.Code }) (ap (λ o. use_of (option_and_then link_of o)) here))
         (may_skip P U F S f.code (ap (is_skipped P.slots) (some_injective f.code q names) ∙ skipped))
     names_soundly (body.RefreshRotated f) q here names skipped =
-        child_skips d f.parent (body.RefreshRotated f) (record { dot = d; kind = kind.Refresh }) here refl refl
+        child_skips sound d f.parent (body.RefreshRotated f) (record { dot = d; kind = kind.Refresh }) here refl refl
         (sound.parents d (record { dot = f.parent; kind = kind.Refresh }) (ap (λ o. use_of (option_and_then link_of o)) here))
         (may_skip P U F S f.parent (ap (is_skipped P.slots) (some_injective f.parent q names) ∙ skipped))
     names_soundly (body.TokenRevoked f) q here names skipped = record {
@@ -95,14 +86,21 @@ module _ (P : StoreFields) (U F : FactSet) (S : StandsFor P U F) where
       here = here;
       token = f.token;
       kept = refl;
-      why = named_over f.token.dot (may_skip P U F S f.token.dot (ap (is_skipped P.slots) (some_injective f.token.dot q names) ∙ skipped));
+      why = named_over sound f.token.dot (may_skip P U F S f.token.dot (ap (is_skipped P.slots) (some_injective f.token.dot q names) ∙ skipped));
     }
     names_soundly (body.ReuseSeen f) q here names skipped = record {
       fact = body.ReuseSeen f;
       here = here;
       token = f.token;
       kept = refl;
-      why = named_over f.token.dot (may_skip P U F S f.token.dot (ap (is_skipped P.slots) (some_injective f.token.dot q names) ∙ skipped));
+      why = named_over sound f.token.dot (may_skip P U F S f.token.dot (ap (is_skipped P.slots) (some_injective f.token.dot q names) ∙ skipped));
+    }
+    names_soundly (body.AccessRefreshed f) q here names skipped = record {
+      fact = body.AccessRefreshed f;
+      here = here;
+      token = refresh_at f.parent;
+      kept = refl;
+      why = named_over sound f.parent (may_skip P U F S f.parent (ap (is_skipped P.slots) (some_injective f.parent q names) ∙ skipped));
     }
     names_soundly b q here names skipped = absurd (none_is_not_some q names)
 
@@ -151,7 +149,7 @@ module _ (P : StoreFields) (U F : FactSet) (S : StandsFor P U F) where
         here = here;
         token = record { dot = c; kind = kind.Code };
         kept = refl;
-        why = inl (record { root = c; under = code_under H c code held; code = code; issues = held; over = over });
+        why = inl (record { root = c; under = under-minted (map.get H) c c (code_under H c code held); code = code; issues = held; over = over });
       })
       by b here is = absurd (none_is_not_some code is)
 
@@ -169,6 +167,19 @@ module _ (P : StoreFields) (U F : FactSet) (S : StandsFor P U F) where
         (d, inr (record { fact = x.0; here = sym (unskipped d off) ∙ x.1; named = p; names = names_link x.0 m.0.0.link p x.2 m.0.0.names; skipped = skipped }))
   ]
 
+  -- along the chain of a token whose fact is held: an access token that was refreshed goes once the
+  -- fact that minted its refresh token is skipped
+  from_token : (q c : Dot) (code : issued.CodeIssued) (o : Option Body) → map.get F q ≡ o
+      → IsUnder (links_in (map.get F)) (anchor_by q o) c → issued_at (map.get F) c ≡ Some code
+      → code.family_end ≤ P.horizon
+      → is_skipped P.slots q ≢ true → (e : Dot) × Goes P e
+  from_token q c code None at under issues over off = on_path q under.path c code under.leads issues over off
+  from_token q c code (Some (body.AccessRefreshed f)) at under issues over off = elim (cases_Bool (is_skipped P.slots f.parent)) [
+    | inr held ↦ on_path f.parent under.path c code under.leads issues over (λ on. true≢false (sym on ∙ held))
+    | inl skipped ↦ (q, inr (record { fact = body.AccessRefreshed f; here = sym (unskipped q off) ∙ at; named = f.parent; names = refl; skipped = skipped }))
+  ]
+  from_token q c code (Some b) at under issues over off = on_path q under.path c code under.leads issues over off
+
   -- a fact is kept for a token of its own, or names the token's dot
   own_or_named : (d : Dot) (b : Body) (k : TokenId) → kept_for d b ≡ Some k
       → (k.dot ≡ d) ⊎ (names_of b ≡ Some k.dot)
@@ -177,6 +188,7 @@ module _ (P : StoreFields) (U F : FactSet) (S : StandsFor P U F) where
   own_or_named d (body.RefreshRotated f) k h = inl (ap (λ (x : TokenId). x.dot) (sym (some_injective _ k h)))
   own_or_named d (body.TokenRevoked f) k h = inr (ap (λ (x : TokenId). Some x.dot) (some_injective f.token k h))
   own_or_named d (body.ReuseSeen f) k h = inr (ap (λ (x : TokenId). Some x.dot) (some_injective f.token k h))
+  own_or_named d (body.AccessRefreshed f) k h = inr (ap (λ (x : TokenId). Some x.dot) (some_injective _ k h))
   own_or_named d b k h = absurd (none_is_not_some k h)
 
   pub progresses : (d : Dot) → MaySkip (map.get F) P.horizon d → is_skipped P.slots d ≢ true
@@ -191,7 +203,7 @@ module _ (P : StoreFields) (U F : FactSet) (S : StandsFor P U F) where
     where
       by : IsOverAt (map.get F) P.horizon may.token.dot ⊎ MintsNothing (map.get F) may.token.dot
           → is_skipped P.slots may.token.dot ≢ true → (e : Dot) × Goes P e
-      by (inl o) held = on_path may.token.dot o.under.path o.root o.code o.under.leads o.issues o.over held
+      by (inl o) held = from_token may.token.dot o.root o.code (map.get F may.token.dot) refl o.under o.issues o.over held
       by (inr none) held = (
         d,
         inl (record {

@@ -4,19 +4,18 @@
 --   held_made, all_made, held_part    the sets within each other
 --   lasting_held                      a fact that is kept for no token is held
 --   skipped_over                      what is skipped is under a code whose family is over
---   under_held, mint_held, code_held, revoked_held, ended_held, used_held, dead_held
+--   under_held, minted_held, mint_held, code_held, revoked_held, ended_held, used_held, dead_held
 --                                     it is held, or the family is over
-use Rattle.std.proofs.Common.{◌≡◌, ◌≢◌, ◌⊎◌, inl, inr, ℕ, ◌≤◌, true, false, Option, None, Some}
+use Rattle.std.proofs.Common.{◌≡◌, ◌≢◌, ◌⊎◌, inl, inr, ℕ, true, false, Option, None, Some}
 use Rattle.std.proofs.Common.{List, [], ◌∷◌, refl, sym, ap, subst, ◌∙◌}
 use Rattle.std.proofs.lemmas.Bool.{true≢false, cases_Bool}
 use Rattle.std.specs.Option.{option_and_then}
 use Rattle.std.specs.FinMap as map
 use Rattle.tk_handle.specs.declared.dot.Dot.{Dot}
-use Rattle.tk_handle.specs.declared.kind.Kind.TheVariants as kind
 use Rattle.tk_handle.specs.declared.token_id.TokenId.{TokenId}
 use Rattle.tk_family.specs.declared.link.Link.{Link}
-use Rattle.tk_family.specs.declared.link.Link.TheVariants.{Code, Redeems, Rotates}
-use Rattle.tk_family.specs.Families.{Links, used_by, named_by, grant_at, IsParent, IsPath, IsUnder}
+use Rattle.tk_family.specs.declared.link.Link.TheVariants.{Code}
+use Rattle.tk_family.specs.Families.{grant_at, IsParent, IsPath, IsUnder}
 use Rattle.tk_family.specs.Families.{use_of, IsUsed, IsTwice, IsDead}
 use Rattle.tk_family.proofs.FamilyLaws.{IsUnder-one, IsUnder-within, use_of-within}
 use Rattle.tk_fact.specs.Keeping.{kept_for}
@@ -29,84 +28,16 @@ use Rattle.tk_store.specs.Slots.{Slot, Held, Skipped, held_slot, is_skipped, is_
 use Rattle.tk_store.specs.StoreFields.{StoreFields, held_facts}
 use Rattle.tk_store.proofs.PutLaws.{none_is_not_some, some_injective}
 use Rattle.tk_store.proofs.SlotLaws.{get_held}
-use Rattle.tk_ledger.specs.Bodies.{Bodies}
 use Rattle.tk_ledger.specs.Retention.{IsOverAt, MintsNothing, MaySkip}
 use Rattle.tk_ledger.specs.SignOuts.{IsSignedOut}
 use Rattle.tk_ledger.specs.Tokens.{link_of, links_in, issued_in, issued_at, minted_in, IsRevoked}
+use Rattle.tk_ledger.specs.Tokens.{anchor_by, anchor_in, IsMintedUnder}
 use Rattle.tk_ledger.specs.Tokens.{IsEnded, IsReused, IsOut, IsMarked}
-use Rattle.tk_ledger.proofs.TokenLaws.{links-below}
+use Rattle.tk_ledger.proofs.RootLaws.{links-below, minted-under-below, under-minted}
 use Rattle.tk_retention.specs.StandsFor.{SlotStands, StandsFor}
-
--- the family of the code at c is over at the moment
-pub record IsOver (U : FactSet) (t : ℕ) (c : Dot) : Type 0 where
-  pub code : issued.CodeIssued
-  pub is : issued_at (map.get U) c ≡ Some code
-  pub over : code.family_end ≤ t
-
--- ---- small facts
-
-pub none_some : {A : Type 0} (o : Option A) (a : A) → o ≡ None → o ≡ Some a → ⊥
-none_some o a n s = none_is_not_some a (sym n ∙ s)
-
--- what makes a link is kept for a token of its own
-pub kept_linked : (d : Dot) (b : Body) (l : Link) (k : TokenId) → link_of b ≡ Some l → kept_for d b ≡ Some k → k.dot ≡ d
-kept_linked d (body.CodeIssued c) l k h e = ap (λ (x : TokenId). x.dot) (sym (some_injective _ k e))
-kept_linked d (body.CodeRedeemed r) l k h e = ap (λ (x : TokenId). x.dot) (sym (some_injective _ k e))
-kept_linked d (body.RefreshRotated r) l k h e = ap (λ (x : TokenId). x.dot) (sym (some_injective _ k e))
-kept_linked d b l k h e = absurd (none_is_not_some l h)
-
-grant_dot : (d : Dot) (l : Link) → (grant_at d l).dot ≡ d
-grant_dot d Code = refl
-grant_dot d (Redeems c) = refl
-grant_dot d (Rotates p g) = refl
-
-used_named : (l : Link) (k : TokenId) → used_by l ≡ Some k → named_by l ≡ Some k.dot
-used_named Code k h = absurd (none_is_not_some k h)
-used_named (Redeems c) k h = ap (λ (x : TokenId). Some x.dot) (some_injective _ k h)
-used_named (Rotates p g) k h = ap (λ (x : TokenId). Some x.dot) (some_injective _ k h)
-
-use_named : (o : Option Link) (k : TokenId) (l : Link) (p : Dot) → use_of o ≡ Some k → o ≡ Some l → named_by l ≡ Some p → k.dot ≡ p
-use_named None k l p u e n = absurd (none_is_not_some k u)
-use_named (Some m) k l p u e n = some_injective k.dot p (sym (used_named m k u) ∙ ap named_by (some_injective m l e) ∙ n)
-
-pub link_from : (o : Option Body) (b : Body) → o ≡ Some b → (l : Link) → option_and_then link_of o ≡ Some l → link_of b ≡ Some l
-link_from o b h l e = sym (ap (option_and_then link_of) h) ∙ e
-
-path_link : (f : Links) (d : Dot) (ps : List Dot) (c : Dot) → IsPath f d ps c → (l : Link) × (f d ≡ Some l)
-path_link f d [] c m = (Code, ap f m.0 ∙ m.1)
-path_link f d (p ∷ ps) c m = (m.0.0.link, m.0.0.here)
-
-used_link : (o : Option Link) (k : TokenId) → use_of o ≡ Some k → (l : Link) × (o ≡ Some l)
-used_link None k h = absurd (none_is_not_some k h)
-used_link (Some l) k h = (l, refl)
-
-under_at : (f : Links) (d e c : Dot) → d ≡ e → IsUnder f d c → IsUnder f e c
-under_at f d e c same u = subst (λ (q : Dot). IsUnder f q c) same u
-
-over_at : (U : FactSet) (t : ℕ) (b c : Dot) (code : issued.CodeIssued) → b ≡ c → issued_at (map.get U) b ≡ Some code → code.family_end ≤ t → IsOver U t c
-over_at U t b c code same is over = subst (λ (q : Dot). IsOver U t q) same (record { code = code; is = is; over = over })
-
-issues_link : (o : Option Body) (code : issued.CodeIssued) → option_and_then issued_in o ≡ Some code → option_and_then link_of o ≡ Some Code
-issues_link None code h = absurd (none_is_not_some code h)
-issues_link (Some (body.CodeIssued c)) code h = refl
-issues_link (Some b) code h = absurd (none_is_not_some code h)
-
--- where a dot is under a code, its fact mints a token
-under_mints : (body_at : Bodies) (d c : Dot) → IsUnder (links_in body_at) d c → MintsNothing body_at d → ⊥
-under_mints body_at d c under none =
-    let link = path_link (links_in body_at) d under.path c under.leads in
-    none_some (links_in body_at d) link.0 (ap (option_and_then link_of) none.here ∙ none.barren) link.1
-
--- a family that is over, by a token's dot
-over_from : (U : FactSet) (t : ℕ) (e d c : Dot) → IsOverAt (map.get U) t e ⊎ MintsNothing (map.get U) e → e ≡ d → IsUnder (links_in (map.get U)) d c → IsOver U t c
-over_from U t e d c (inl o) same under =
-    over_at U t o.root c o.code (IsUnder-one (links_in (map.get U)) d o.root c (under_at (links_in (map.get U)) e d o.root same o.under) under) o.issues o.over
-over_from U t e d c (inr none) same under =
-    absurd (under_mints (map.get U) d c under (subst (λ (q : Dot). MintsNothing (map.get U) q) same none))
-
--- a code is under itself
-pub code_under : (F : FactSet) (c : Dot) (code : issued.CodeIssued) → issued_at (map.get F) c ≡ Some code → IsUnder (links_in (map.get F)) c c
-code_under F c code is = record { path = []; leads = (refl, issues_link (map.get F c) code is) }
+use Rattle.tk_retention.proofs.OverLaws.{IsOver, none_some, kept_linked, grant_dot, use_named, link_from}
+use Rattle.tk_retention.proofs.OverLaws.{used_link, under_at, over_at, minted_to, barren_unlinked, anchor_here}
+use Rattle.tk_retention.proofs.OverLaws.{minting, minted_linked, kept_anchor, over_from, code_under}
 
 -- ---- what a slot stands for
 
@@ -174,19 +105,20 @@ module _ (P : StoreFields) (U F : FactSet) (S : StandsFor P U F) where
   ]
 
   -- what is skipped is under a code whose family is over
-  pub skipped_over : (d c : Dot) → is_skipped P.slots d ≡ true → IsUnder (links_in (map.get U)) d c → IsOver U P.horizon c
+  pub skipped_over : (d c : Dot) → is_skipped P.slots d ≡ true → IsMintedUnder (map.get U) d c → IsOver U P.horizon c
   skipped_over d c skipped under =
       let may = may_skip d skipped in
-      let link = path_link (links_in (map.get U)) d under.path c under.leads in
-      let own : may.token.dot ≡ d = kept_linked d may.fact link.0 may.token (link_from (map.get U d) may.fact may.here link.0 link.1) may.kept in
-      over_from U P.horizon may.token.dot d c may.why own under
+      let a : Dot = anchor_in (map.get U) d in
+      let mint = minting (map.get U) d c may.fact may.here under in
+      let own : may.token.dot ≡ a = kept_anchor d may.fact may.token mint may.kept ∙ sym (anchor_here (map.get U) d may.fact may.here) in
+      over_from U P.horizon may.token.dot a c may.why own (under-minted (map.get U) a c under)
 
   made_up : (d c : Dot) → IsUnder (links_in (map.get F)) d c → IsUnder (links_in (map.get U)) d c
   made_up d c u = IsUnder-within (links_in (map.get F)) (links_in (map.get U)) (links-below F U all_made) d c u
 
   link_held : (d c : Dot) (l : Link) → links_in (map.get F) d ≡ Some l → IsUnder (links_in (map.get U)) d c → (links_in (map.get H) d ≡ Some l) ⊎ IsOver U P.horizon c
   link_held d c l h under = elim (cases_Bool (is_skipped P.slots d)) [
-    | inl skipped ↦ inr (skipped_over d c skipped under)
+    | inl skipped ↦ inr (skipped_over d c skipped (under-minted (map.get U) d c under))
     | inr held ↦ inl (ap (option_and_then link_of) (sym (at_held d held)) ∙ h)
   ]
 
@@ -213,6 +145,16 @@ module _ (P : StoreFields) (U F : FactSet) (S : StandsFor P U F) where
   pub under_held : (d c : Dot) → IsUnder (links_in (map.get F)) d c → IsUnder (links_in (map.get H)) d c ⊎ IsOver U P.horizon c
   under_held d c u = elim (path_held d u.path c u.leads) [ inl held ↦ inl (record { path = u.path; leads = held }) | inr over ↦ inr over ]
 
+  -- a token's whole chain is held, or its family is over
+  pub minted_held : (d c : Dot) → IsMintedUnder (map.get F) d c → IsMintedUnder (map.get H) d c ⊎ IsOver U P.horizon c
+  minted_held d c u = elim (cases_Bool (is_skipped P.slots d)) [
+    | inl skipped ↦ inr (skipped_over d c skipped (minted-under-below F U all_made d c u))
+    | inr held ↦ elim (under_held (anchor_in (map.get F) d) c u) [
+      | inr over ↦ inr over
+      | inl under ↦ inl (under_at (links_in (map.get H)) (anchor_in (map.get F) d) (anchor_in (map.get H) d) c (ap (anchor_by d) (at_held d held)) under)
+    ]
+  ]
+
   user_over : (e c : Dot) (k : TokenId) (r : Dot) (ps : List Dot) → use_of (links_in (map.get U) e) ≡ Some k → IsPath (links_in (map.get U)) e ps r → IsUnder (links_in (map.get U)) k.dot c → r ≡ c
   user_over e c k r [] u m under = absurd (none_some (use_of (links_in (map.get U) e)) k (ap use_of (ap (links_in (map.get U)) m.0 ∙ m.1)) u)
   user_over e c k r (p ∷ ps) u m under =
@@ -235,11 +177,10 @@ module _ (P : StoreFields) (U F : FactSet) (S : StandsFor P U F) where
     where
       by : (q : Dot) → q ≡ e → (l : Link) → links_in (map.get U) e ≡ Some l → IsOverAt (map.get U) P.horizon q ⊎ MintsNothing (map.get U) q → IsOver U P.horizon c
       by q own l at (inl o) =
-          let here : IsUnder (links_in (map.get U)) e o.root = under_at (links_in (map.get U)) q e o.root own o.under in
+          let here : IsUnder (links_in (map.get U)) e o.root = minted_linked (map.get U) e o.root l at (minted_to (map.get U) q e o.root own o.under) in
           over_at U P.horizon o.root c o.code (user_over e c k o.root here.path (made_use e k u) here.leads under) o.issues o.over
       by q own l at (inr none) =
-          let here : MintsNothing (map.get U) e = subst (λ (x : Dot). MintsNothing (map.get U) x) own none in
-          absurd (none_some (links_in (map.get U) e) l (ap (option_and_then link_of) here.here ∙ here.barren) at)
+          absurd (barren_unlinked (map.get U) e l at (subst (λ (x : Dot). MintsNothing (map.get U) x) own none))
 
   twice_held : (c : Dot) (k : TokenId) → IsTwice (links_in (map.get F)) k → IsUnder (links_in (map.get U)) k.dot c → IsTwice (links_in (map.get H)) k ⊎ IsOver U P.horizon c
   twice_held c k t under = elim (use_held t.one c k t.by_one under) [
@@ -257,10 +198,10 @@ module _ (P : StoreFields) (U F : FactSet) (S : StandsFor P U F) where
         let may = may_skip s.place skipped in
         let fact : may.fact ≡ body.ReuseSeen s.reuse = some_injective may.fact (body.ReuseSeen s.reuse) (sym may.here ∙ sym (at_skipped s.place skipped) ∙ s.held) in
         let token : may.token ≡ s.reuse.token = some_injective may.token s.reuse.token (sym may.kept ∙ ap (kept_for s.place) fact) in
-        inr (over_from U P.horizon may.token.dot k.dot c may.why (ap (λ (x : TokenId). x.dot) (token ∙ s.token)) under)
+        inr (over_from U P.horizon may.token.dot k.dot c may.why (ap (λ (x : TokenId). x.dot) (token ∙ s.token)) (under-minted (map.get U) k.dot c under))
   ]
 
-  pub mint_held : (c : Dot) (k : TokenId) (m : MintedFields) → minted_in (map.get F) k ≡ Some m → IsUnder (links_in (map.get U)) k.dot c → (minted_in (map.get H) k ≡ Some m) ⊎ IsOver U P.horizon c
+  pub mint_held : (c : Dot) (k : TokenId) (m : MintedFields) → minted_in (map.get F) k ≡ Some m → IsMintedUnder (map.get U) k.dot c → (minted_in (map.get H) k ≡ Some m) ⊎ IsOver U P.horizon c
   mint_held c k m h under = elim (cases_Bool (is_skipped P.slots k.dot)) [
     | inl skipped ↦ inr (skipped_over k.dot c skipped under)
     | inr held ↦ inl (ap (option_and_then (λ (b : Body). minted_of b k.kind)) (sym (at_held k.dot held)) ∙ h)
@@ -268,7 +209,7 @@ module _ (P : StoreFields) (U F : FactSet) (S : StandsFor P U F) where
 
   pub code_held : (c : Dot) (code : issued.CodeIssued) → issued_at (map.get F) c ≡ Some code → (issued_at (map.get H) c ≡ Some code) ⊎ IsOver U P.horizon c
   code_held c code is = elim (cases_Bool (is_skipped P.slots c)) [
-    | inl skipped ↦ inr (skipped_over c c skipped (made_up c c (code_under F c code is)))
+    | inl skipped ↦ inr (skipped_over c c skipped (under-minted (map.get U) c c (made_up c c (code_under F c code is))))
     | inr held ↦ inl (ap (option_and_then issued_in) (sym (at_held c held)) ∙ is)
   ]
 
@@ -299,12 +240,12 @@ module _ (P : StoreFields) (U F : FactSet) (S : StandsFor P U F) where
     not_before = s.not_before;
   }
 
-  pub ended_held : (c : Dot) (k : TokenId) → IsEnded (map.get F) k → IsUnder (links_in (map.get U)) k.dot c → IsEnded (map.get H) k ⊎ IsOver U P.horizon c
+  pub ended_held : (c : Dot) (k : TokenId) → IsEnded (map.get F) k → IsMintedUnder (map.get U) k.dot c → IsEnded (map.get H) k ⊎ IsOver U P.horizon c
   ended_held c k e under =
-      let same : e.code ≡ c = IsUnder-one (links_in (map.get U)) k.dot e.code c (made_up k.dot e.code e.under) under in
+      let same : e.code ≡ c = IsUnder-one (links_in (map.get U)) (anchor_in (map.get U) k.dot) e.code c (minted-under-below F U all_made k.dot e.code e.under) under in
       elim (mint_held c k e.minted e.mints under) [
         | inr over ↦ inr over
-        | inl mints ↦ elim (under_held k.dot e.code e.under) [
+        | inl held ↦ elim (minted_held k.dot e.code e.under) [
           | inr over ↦ inr (subst (λ (q : Dot). IsOver U P.horizon q) same over)
           | inl above ↦ elim (code_held e.code e.issued e.issues) [
             | inr over ↦ inr (subst (λ (q : Dot). IsOver U P.horizon q) same over)
@@ -314,7 +255,7 @@ module _ (P : StoreFields) (U F : FactSet) (S : StandsFor P U F) where
                 minted = e.minted;
                 code = e.code;
                 issued = e.issued;
-                mints = mints;
+                mints = held;
                 under = above;
                 issues = is;
                 by_client = by;
@@ -334,7 +275,7 @@ module _ (P : StoreFields) (U F : FactSet) (S : StandsFor P U F) where
 
   marked_held : (c : Dot) (k : TokenId) → IsMarked (map.get F) k → IsUnder (links_in (map.get U)) k.dot c → IsMarked (map.get H) k ⊎ IsOver U P.horizon c
   marked_held c k (inl seen) under = elim (reuse_held c k seen under) [ inl s ↦ inl (inl s) | inr over ↦ inr over ]
-  marked_held c k (inr (inl ended)) under = elim (ended_held c k ended.1 under) [ inl e ↦ inl (inr (inl (ended.0, e))) | inr over ↦ inr over ]
+  marked_held c k (inr (inl ended)) under = elim (ended_held c k ended.1 (under-minted (map.get U) k.dot c under)) [ inl e ↦ inl (inr (inl (ended.0, e))) | inr over ↦ inr over ]
   marked_held c k (inr (inr out)) under = elim (out_held c k.dot out.1 under) [ inl o ↦ inl (inr (inr (out.0, o))) | inr over ↦ inr over ]
 
   why_held : (c : Dot) (k : TokenId) → IsMarked (map.get F) k ⊎ IsTwice (links_in (map.get F)) k → IsUnder (links_in (map.get U)) k.dot c → (IsMarked (map.get H) k ⊎ IsTwice (links_in (map.get H)) k) ⊎ IsOver U P.horizon c

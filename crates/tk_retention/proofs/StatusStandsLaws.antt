@@ -5,7 +5,7 @@
 --   revoked_early             the revocations of a token that is known and hasn't expired
 use Rattle.std.proofs.Common.{◌≡◌, ◌≢◌, ◌⊎◌, inl, inr, ℕ, ◌≤◌, ◌<◌, Bool, true, false, ◌&&◌, not, nat_le, cond, if◌then◌else◌, List, Option, None, Some, refl, sym, ap, subst, ◌∙◌, arith}
 use borrow.Author.Tests.{le-leb}
-use Rattle.std.proofs.lemmas.Bool.{cases_lt}
+use Rattle.std.proofs.lemmas.Bool.{true≢false, cases_lt}
 use Rattle.std.specs.Option.{option_and_then}
 use Rattle.std.specs.Str.{bytes_eq}
 use Rattle.std.specs.FinMap as map
@@ -15,10 +15,8 @@ use Rattle.tk_handle.specs.declared.kind.Kind.{Kind}
 use Rattle.tk_handle.specs.declared.kind.Kind.TheVariants as kind
 use Rattle.tk_handle.specs.declared.token_id.TokenId.{TokenId}
 use Rattle.tk_handle.specs.Kind.{is_access}
-use Rattle.tk_family.specs.declared.link.Link.{Link}
-use Rattle.tk_family.specs.declared.link.Link.TheVariants.{Code, Redeems, Rotates}
-use Rattle.tk_family.specs.Families.{IsUnder}
-use Rattle.tk_family.proofs.FamilyLaws.{IsUnder-one, IsUnder-within, use_of-within}
+use Rattle.tk_family.specs.Families.{IsUnder, IsUsed}
+use Rattle.tk_family.proofs.FamilyLaws.{IsUnder-one, use_of-within}
 use Rattle.tk_fact.specs.Tokens.{MintedFields, minted_of}
 use Rattle.tk_fact.specs.declared.body.Body.{Body}
 use Rattle.tk_fact.specs.declared.body.Body.TheVariants as body
@@ -30,22 +28,25 @@ use Rattle.tk_store.proofs.PutLaws.{none_is_not_some, some_injective}
 use Rattle.tk_store.proofs.SlotLaws.{get_held}
 use Rattle.tk_ledger.specs.Bodies.{Bodies}
 use Rattle.tk_ledger.specs.Clients.{is_live_client, gives, is_live_consent}
-use Rattle.tk_ledger.specs.Retention.{IsOverAt, MintsNothing}
+use Rattle.tk_ledger.specs.Retention.{IsOverAt, MintsNothing, mints}
 use Rattle.tk_ledger.specs.StandingFields.{StandingFields}
 use Rattle.tk_ledger.specs.Status.{generation_of, state_in, standing_in, digest_of, with_digest, minted_as, status_by, status_in, status_here}
-use Rattle.tk_ledger.specs.Tokens.{link_of, links_in, issued_in, issued_at, minted_in, Root, root_in, is_used, is_revoked, is_ended, is_dead}
+use Rattle.tk_ledger.specs.Tokens.{links_in, anchor_in, IsMintedUnder, issued_in, issued_at, minted_in, Root, root_in, is_used, is_revoked, is_ended, is_dead}
 use Rattle.tk_ledger.specs.declared.status.State.{State}
 use Rattle.tk_ledger.specs.declared.status.State.TheVariants as state
 use Rattle.tk_ledger.specs.declared.status.Status.{Status}
 use Rattle.tk_ledger.specs.declared.status.Status.TheVariants.{Broken, Known}
 use Rattle.tk_ledger.proofs.HereLaws.{here_held, here_skipped, here_unknown}
 use Rattle.tk_ledger.proofs.KeyLaws.{same_tests}
-use Rattle.tk_ledger.proofs.TokenLaws.{from_some, links-below, minted-below, root-sound, root-complete, is_dead-sound, is_dead-complete, is_used-sound, is_used-complete, is_ended-sound, is_ended-complete, is_revoked-sound, is_revoked-complete, IsDead-below, IsEnded-below}
+use Rattle.tk_ledger.proofs.RootLaws.{from_some, links-below, minted-below, minted-under-below, under-minted, root-sound, root-complete}
+use Rattle.tk_ledger.proofs.TokenLaws.{is_dead-sound, is_dead-complete, is_used-sound, is_used-complete, is_ended-sound, is_ended-complete, is_revoked-sound, is_revoked-complete, IsDead-below, IsEnded-below}
 use Rattle.tk_ledger.specs.Alike.{is_closed, IsLost, AnsweredAlike}
 use Rattle.tk_query.specs.Anew.{IsEarly}
 use Rattle.tk_retention.specs.StandsFor.{StandsFor, AreSound}
 use Rattle.tk_retention.proofs.LastingLaws.{live_client_same, consent_same, withdrawn_same, revoked_up}
-use Rattle.tk_retention.proofs.StandingLaws.{IsOver, none_some, kept_linked, all_made, at_skipped, at_held, may_skip, held_made, held_part, under_held, code_held, revoked_held, ended_held, used_held, dead_held, code_under}
+use Rattle.tk_retention.proofs.OverLaws.{IsOver, none_some, minted_linked, over_here, code_under}
+use Rattle.tk_retention.proofs.StandingLaws.{all_made, at_skipped, at_held, may_skip, held_made, held_part}
+use Rattle.tk_retention.proofs.StandingLaws.{minted_held, code_held, revoked_held, ended_held, used_held, dead_held}
 
 later : (a b c : ℕ) → a ≤ b → b ≤ c → a ≤ c
 later a b c h k = omega (arith, h, k)
@@ -107,19 +108,19 @@ digest_kept digest (Some x) m h = kept (bytes_eq x.digest digest) h
     kept true e = e
     kept false e = absurd (none_is_not_some m e)
 
-pub mint_link : (b : Body) (k : Kind) (m : MintedFields) → minted_of b k ≡ Some m
-    → (l : Link) × (link_of b ≡ Some l)
-mint_link (body.CodeIssued c) k m h = (Code, refl)
-mint_link (body.CodeRedeemed r) k m h = (Redeems r.code, refl)
-mint_link (body.RefreshRotated r) k m h = (Rotates r.parent r.generation, refl)
-mint_link b k m h = absurd (none_is_not_some m h)
+-- what mints a token of a kind mints
+pub mint_mints : (b : Body) (k : Kind) (m : MintedFields) → minted_of b k ≡ Some m → mints b ≡ true
+mint_mints (body.CodeIssued c) k m h = refl
+mint_mints (body.CodeRedeemed r) k m h = refl
+mint_mints (body.RefreshRotated r) k m h = refl
+mint_mints (body.AccessRefreshed r) k m h = refl
+mint_mints b k m h = absurd (none_is_not_some m h)
 
 -- a token that was minted is at no dot that mints nothing
 pub mints_some : (body_at : Bodies) (k : TokenId) (m : MintedFields) → minted_in body_at k ≡ Some m
     → MintsNothing body_at k.dot → ⊥
 mints_some body_at k m is none =
-    let link = mint_link none.fact k.kind m (sym (ap (option_and_then (λ (x : Body). minted_of x k.kind)) none.here) ∙ is) in
-    none_some (link_of none.fact) link.0 none.barren link.1
+    true≢false (sym (mint_mints none.fact k.kind m (sym (ap (option_and_then (λ (x : Body). minted_of x k.kind)) none.here) ∙ is)) ∙ none.barren)
 
 -- the fact that minted a code issued it
 mint_code : (F : FactSet) (k : TokenId) (m : MintedFields) → k.kind ≡ kind.Code
@@ -135,15 +136,11 @@ code_root : (F : FactSet) (k : TokenId) (m : MintedFields) → k.kind ≡ kind.C
     → minted_in (map.get F) k ≡ Some m → root_in (map.get F) k.dot ≢ None
 code_root F k m is h none =
     let code = mint_code F k m is h in
-    none_some (root_in (map.get F) k.dot) (record { code = k.dot; issued = code.0 }) none (root-complete F k.dot k.dot code.0 (code_under F k.dot code.0 code.1) code.1)
+    none_some (root_in (map.get F) k.dot) (record { code = k.dot; issued = code.0 }) none (root-complete F k.dot k.dot code.0 (under-minted (map.get F) k.dot k.dot (code_under F k.dot code.0 code.1)) code.1)
 
 issued_below : (F G : FactSet) → IsSubset F G → (c : Dot) (code : issued.CodeIssued)
     → issued_at (map.get F) c ≡ Some code → issued_at (map.get G) c ≡ Some code
 issued_below F G w c code is = (let x = from_some issued_in (map.get F c) code is in ap (option_and_then issued_in) (w c x.0 x.1) ∙ x.2)
-
-under_below : (F G : FactSet) → IsSubset F G → (d c : Dot) → IsUnder (links_in (map.get F)) d c
-    → IsUnder (links_in (map.get G)) d c
-under_below F G w d c u = IsUnder-within (links_in (map.get F)) (links_in (map.get G)) (links-below F G w) d c u
 
 -- ---- a family that is not over
 
@@ -164,14 +161,20 @@ module _ (P : StoreFields) (U F : FactSet) (S : StandsFor P U F) where
         (λ h. is_dead-complete F root.code (IsDead-below H F (held_part P U F S) root.code (is_dead-sound H root.code h)))
         (λ h. elim (dead_held P U F S root.code (is_dead-sound F root.code h)) [ inl dead ↦ is_dead-complete H root.code dead | inr over ↦ absurd (never_over over) ])
 
-    module _ (k : TokenId) (under : IsUnder (links_in (map.get F)) k.dot root.code) where
-      made : IsUnder (links_in (map.get U)) k.dot root.code
-      made = under_below F U (all_made P U F S) k.dot root.code under
+    module _ (sound : AreSound U) (k : TokenId) (under : IsMintedUnder (map.get F) k.dot root.code) where
+      made : IsMintedUnder (map.get U) k.dot root.code
+      made = minted-under-below F U (all_made P U F S) k.dot root.code under
+
+      -- a token that is used has a link at its dot
+      made_used : IsUsed (links_in (map.get F)) k → IsUnder (links_in (map.get U)) k.dot root.code
+      made_used u =
+          let parent = sound.parents u.user k (use_of-within (links_in (map.get F)) (links_in (map.get U)) (links-below F U (all_made P U F S)) u.user (links_in (map.get F) u.user) k refl u.by) in
+          minted_linked (map.get U) k.dot root.code parent.above parent.there made
 
       used_same : is_used H k ≡ is_used F k
       used_same = same_tests (is_used H k) (is_used F k)
           (λ h. any_more h)
-          (λ h. elim (used_held P U F S root.code k (is_used-sound F k h) made) [ inl used ↦ is_used-complete H k used | inr over ↦ absurd (never_over over) ])
+          (λ h. elim (used_held P U F S root.code k (is_used-sound F k h) (made_used (is_used-sound F k h))) [ inl used ↦ is_used-complete H k used | inr over ↦ absurd (never_over over) ])
         where
           any_more : is_used H k ≡ true → is_used F k ≡ true
           any_more h =
@@ -210,7 +213,7 @@ module _ (P : StoreFields) (U F : FactSet) (S : StandsFor P U F) where
   module _ (sound : AreSound U) (now : ℕ) (soon : P.horizon ≤ now) (h : Handle) where
     -- an access or refresh token of a family that is over is past
     past_by : (m : MintedFields) (c : Dot) (code : issued.CodeIssued)
-        → minted_in (map.get U) h.id ≡ Some m → IsUnder (links_in (map.get U)) h.id.dot c
+        → minted_in (map.get U) h.id ≡ Some m → IsMintedUnder (map.get U) h.id.dot c
         → issued_at (map.get U) c ≡ Some code → code.family_end ≤ now → h.id.kind ≢ kind.Code
         → m.expiry ≤ now
     past_by m c code mints under issues over other = later m.expiry code.family_end now (sound.ends h.id m c code other mints under issues) over
@@ -222,7 +225,7 @@ module _ (P : StoreFields) (U F : FactSet) (S : StandsFor P U F) where
     -- what is known of a token whose family is over, whatever its root is taken to be
     lost_by : (G : FactSet) → IsSubset G U
         → (b : Body) (m : MintedFields) (c : Dot) (code : issued.CodeIssued)
-        → minted_in (map.get U) h.id ≡ Some m → IsUnder (links_in (map.get U)) h.id.dot c
+        → minted_in (map.get U) h.id ≡ Some m → IsMintedUnder (map.get U) h.id.dot c
         → issued_at (map.get U) c ≡ Some code → code.family_end ≤ now
         → (r : Option Root) → root_in (map.get G) h.id.dot ≡ r → (h.id.kind ≡ kind.Code → r ≢ None) → IsLost now h (status_by G now h.id (Some b) (Some m) r)
     lost_by G w b m c code mints under issues over None is rooted =
@@ -232,7 +235,7 @@ module _ (P : StoreFields) (U F : FactSet) (S : StandsFor P U F) where
         ]
     lost_by G w b m c code mints under issues over (Some root) is rooted =
         let p = root-sound G h.id.dot root is in
-        let same : root.code ≡ c = IsUnder-one (links_in (map.get U)) h.id.dot root.code c (under_below G U w h.id.dot root.code p.0) under in
+        let same : root.code ≡ c = IsUnder-one (links_in (map.get U)) (anchor_in (map.get U) h.id.dot) root.code c (minted-under-below G U w h.id.dot root.code p.0) under in
         let one : root.issued ≡ code = some_injective root.issued code (sym (issued_below G U w root.code root.issued p.1) ∙ ap (issued_at (map.get U)) same ∙ issues) in
         let end : root.issued.family_end ≤ now = subst (λ (x : issued.CodeIssued). x.family_end ≤ now) (sym one) over in
         lost_known G now h b m root end (past_by m c code mints under issues over)
@@ -252,22 +255,12 @@ module _ (P : StoreFields) (U F : FactSet) (S : StandsFor P U F) where
     lost_skipped skipped (Some b) None at is = tt
     lost_skipped skipped (Some b) (Some m) at is =
         let may = may_skip P U F S h.id.dot skipped in
-        let mints : minted_in (map.get F) h.id ≡ Some m = digest_kept (digest_of h) (minted_in (map.get F) h.id) m is in
+        let minted : minted_in (map.get F) h.id ≡ Some m = digest_kept (digest_of h) (minted_in (map.get F) h.id) m is in
         let same : may.fact ≡ b = some_injective may.fact b (sym may.here ∙ sym (at_skipped P U F S h.id.dot skipped) ∙ at) in
-        let link = mint_link b h.id.kind m (sym (ap (option_and_then (λ (x : Body). minted_of x h.id.kind)) at) ∙ mints) in
-        let own : may.token.dot ≡ h.id.dot = kept_linked h.id.dot may.fact link.0 may.token (ap link_of same ∙ link.1) may.kept in
-        by may.token.dot own may.why b m mints is link
-      where
-        by : (q : Dot) → q ≡ h.id.dot
-            → IsOverAt (map.get U) P.horizon q ⊎ MintsNothing (map.get U) q
-            → (b : Body) (m : MintedFields) → minted_in (map.get F) h.id ≡ Some m
-            → minted_as (map.get F) h ≡ Some m → (l : Link) × (link_of b ≡ Some l)
-            → IsLost now h (status_by F now h.id (Some b) (Some m) (root_in (map.get F) h.id.dot))
-        by q own (inl o) b m mints is link =
-            lost_by F (all_made P U F S) b m o.root o.code (minted_up m is)
-            (subst (λ (x : Dot). IsUnder (links_in (map.get U)) x o.root) own o.under) o.issues (later o.code.family_end P.horizon now o.over soon)
-            (root_in (map.get F) h.id.dot) refl (rooted F m mints (root_in (map.get F) h.id.dot) refl)
-        by q own (inr none) b m mints is link = absurd (mints_some (map.get U) h.id m (minted_up m is) (subst (λ (x : Dot). MintsNothing (map.get U) x) own none))
+        let mint : mints may.fact ≡ true = ap mints same ∙ mint_mints b h.id.kind m (sym (ap (option_and_then (λ (x : Body). minted_of x h.id.kind)) at) ∙ minted) in
+        let o = over_here U P.horizon sound h.id.dot may mint in
+        lost_by F (all_made P U F S) b m o.root o.code (minted_up m is) o.under o.issues (later o.code.family_end P.horizon now o.over soon)
+        (root_in (map.get F) h.id.dot) refl (rooted F m minted (root_in (map.get F) h.id.dot) refl)
 
     -- ---- a fact that is held
 
@@ -279,7 +272,7 @@ module _ (P : StoreFields) (U F : FactSet) (S : StandsFor P U F) where
     broken_same b m (Some root) none is =
         let p = root-sound H h.id.dot root is in
         absurd (none_some (root_in (map.get F) h.id.dot) (record { code = root.code; issued = root.issued }) none
-        (root-complete F h.id.dot root.code root.issued (under_below H F (held_part P U F S) h.id.dot root.code p.0) (issued_below H F (held_part P U F S) root.code root.issued p.1)))
+        (root-complete F h.id.dot root.code root.issued (minted-under-below H F (held_part P U F S) h.id.dot root.code p.0) (issued_below H F (held_part P U F S) root.code root.issued p.1)))
 
     by_root : (b : Body) (m : MintedFields) → minted_in (map.get F) h.id ≡ Some m
         → minted_in (map.get H) h.id ≡ Some m → (r : Option Root) → root_in (map.get F) h.id.dot ≡ r
@@ -296,11 +289,11 @@ module _ (P : StoreFields) (U F : FactSet) (S : StandsFor P U F) where
         some_none : (x : Root) → Some x ≡ None → ⊥
         some_none x e = cc
 
-        p : IsUnder (links_in (map.get F)) h.id.dot root.code × (issued_at (map.get F) root.code ≡ Some root.issued)
+        p : IsMintedUnder (map.get F) h.id.dot root.code × (issued_at (map.get F) root.code ≡ Some root.issued)
         p = root-sound F h.id.dot root is
 
-        made : IsUnder (links_in (map.get U)) h.id.dot root.code
-        made = under_below F U (all_made P U F S) h.id.dot root.code p.0
+        made : IsMintedUnder (map.get U) h.id.dot root.code
+        made = minted-under-below F U (all_made P U F S) h.id.dot root.code p.0
 
         issued : issued_at (map.get U) root.code ≡ Some root.issued
         issued = issued_below F U (all_made P U F S) root.code root.issued p.1
@@ -309,10 +302,10 @@ module _ (P : StoreFields) (U F : FactSet) (S : StandsFor P U F) where
         open_root : now < root.issued.family_end
             → status_by H now h.id (Some b) (Some m) (root_in (map.get H) h.id.dot) ≡ Known (standing_in F now h.id b m root)
         open_root early =
-            let under : IsUnder (links_in (map.get H)) h.id.dot root.code = elim (under_held P U F S h.id.dot root.code p.0) [ inl u ↦ u | inr over ↦ absurd (never_over now soon root p.1 early over) ] in
+            let under : IsMintedUnder (map.get H) h.id.dot root.code = elim (minted_held P U F S h.id.dot root.code p.0) [ inl u ↦ u | inr over ↦ absurd (never_over now soon root p.1 early over) ] in
             let issues : issued_at (map.get H) root.code ≡ Some root.issued = elim (code_held P U F S root.code root.issued p.1) [ inl i ↦ i | inr over ↦ absurd (never_over now soon root p.1 early over) ] in
             ap (status_by H now h.id (Some b) (Some m)) (root-complete H h.id.dot root.code root.issued under issues)
-            ∙ ap (λ (s : StandingFields). Known s) (standing_same now soon root p.1 early h.id p.0 b m)
+            ∙ ap (λ (s : StandingFields). Known s) (standing_same now soon root p.1 early sound h.id p.0 b m)
 
     by_mint : (b : Body) → map.get F h.id.dot ≡ Some b → map.get H h.id.dot ≡ Some b
         → (m : Option MintedFields) → minted_as (map.get F) h ≡ m

@@ -13,7 +13,7 @@
 --                   what a store stands for once a dot was skipped, and once a fact came
 --   SoundStays      all facts made stay sound with one more
 --   MadeMeets       a fact that a region makes ends with its family, and names what was minted
---                   for it
+--                   for it, or a link
 use Rattle.std.specs.Prelude.{◌≡◌, ◌≢◌, ◌≤◌, ℕ, true, List, Option, Some, IfSome}
 use Rattle.std.specs.FinMap as map
 use Rattle.tk_handle.specs.declared.dot.Dot.{Dot}
@@ -111,13 +111,14 @@ DropStands = (P : StoreFields) (U F G : FactSet) (d : Dot) → is_skipped P.slot
     → GainsMade U F d G → StandsFor P U F → StandsFor P U G
 
 -- all facts made stay sound with one more whose tokens end with their family, and which names what
--- was minted for it
+-- was minted for it, or a link if it refreshed an access token
 abbrev pub SoundStays : Type 0
 SoundStays = (U V : FactSet) (d : Dot) (b : Body) → AddsOne U d b V → AreSound U
     → MeetsFamily U d V → AreSound V
 
 -- The fact that a region makes for a request, if it makes one, ends with its family, and names what
--- was minted for it. U has all facts that the region holds, and V is U with the new one.
+-- was minted for it, or a link if it refreshed an access token. U has all facts that the region
+-- holds, and V is U with the new one.
 abbrev pub MadeMeets : Type 0
 MadeMeets =
     (r : RegionFields) (U V : FactSet) (now : ℕ) (words : List ℕ) (request : RequestFields)

@@ -66,7 +66,8 @@ pub fn standing_kept()
 {}
 
 /// States laws: all facts made stay sound with one more that ends with its family and names what
-/// was minted for it, and each fact that a region makes is one.
+/// was minted for it, or a link if it refreshed an access token. Each fact that a region makes is
+/// one.
 pub fn soundness_stays()
     ensures stays { SoundStays }
     ensures made { MadeMeets }

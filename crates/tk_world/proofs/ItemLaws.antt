@@ -256,6 +256,7 @@ passing_kept d (body.CodeRedeemed f) k h = refl
 passing_kept d (body.RefreshRotated f) k h = refl
 passing_kept d (body.TokenRevoked f) k h = refl
 passing_kept d (body.ReuseSeen f) k h = refl
+passing_kept d (body.AccessRefreshed f) k h = refl
 passing_kept d b k h = absurd (none_is_not_some k h)
 
 passes_of : (U : FactSet) (t : ℕ) (d : Dot) (b : Body) → MaySkip (sets.get U) t d

@@ -13,7 +13,7 @@ use Rattle.tk_handle.specs.declared.token_id.TokenId.{TokenId}
 use Rattle.tk_family.specs.Families.{use_of}
 use Rattle.tk_fact.specs.Tokens.{MintedFields, minted_of}
 use Rattle.tk_fact.specs.declared.body.Body.{Body}
-use Rattle.tk_fact.specs.declared.body.Body.TheVariants.{ReuseSeen}
+use Rattle.tk_fact.specs.declared.body.Body.TheVariants.{ReuseSeen, AccessRefreshed}
 use Rattle.tk_ledger.specs.Tokens.{link_of, links_in, minted_in}
 use Rattle.tk_store.specs.FactSet.{FactSet, IsSubset}
 use Rattle.tk_store.specs.Slots.{Slot}
@@ -119,7 +119,7 @@ pub new_stands : (settings : SettingsFields) → settings.cap ≤ greatest_cap
 new_stands settings low = record {
   settings = refl;
   consists = new_consists settings low;
-  sound = record { ends = λ k m c code other minted under issues. absurd (nothing_minted k m minted); parents = λ d k u. absurd (nothing_used d k u); reuses = λ d reuse at. absurd (none_is_not_some (ReuseSeen reuse) (sym (map.get-empty dot_cmp d) ∙ at)) };
+  sound = record { ends = λ k m c code other minted under issues. absurd (nothing_minted k m minted); parents = λ d k u. absurd (nothing_used d k u); reuses = λ d reuse at. absurd (none_is_not_some (ReuseSeen reuse) (sym (map.get-empty dot_cmp d) ∙ at)); refreshed = λ d f at. absurd (none_is_not_some (AccessRefreshed f) (sym (map.get-empty dot_cmp d) ∙ at)) };
   regions = λ r. subst (λ (o : Option StoreFields). RegionFor no_facts o (map.get no_kept r)) (sym (map.get-empty nat_cmp r))
       (subst (λ (o : Option Kept). RegionFor no_facts None o) (sym (map.get-empty nat_cmp r)) tt);
   bundles = tt;

@@ -21,7 +21,7 @@ use Rattle.tk_store.specs.FactSet.{FactSet, Facts, IsSubset, set_of, joined}
 use Rattle.tk_store.specs.StoreFields.{StoreFields, held_facts}
 use Rattle.tk_store.specs.WholeStores.{whole_store}
 use Rattle.tk_ledger.specs.Status.{IsActive}
-use Rattle.tk_ledger.specs.Tokens.{links_in, IsEnded, IsMarked}
+use Rattle.tk_ledger.specs.Tokens.{links_in, IsEnded, IsMarked, IsMintedUnder}
 use Rattle.tk_message.specs.declared.choices.RefreshSeen.{RefreshSeen}
 use Rattle.tk_message.specs.declared.request.Endpoint.TheVariants.{Introspect}
 use Rattle.tk_message.specs.Reply.{inactive_reply}
@@ -106,10 +106,11 @@ RevokedInactive store =
     → IsEnded (map.get F) h.id → IsInactive (store r) h
 
 -- A token is inactive in each region that holds facts by which a grant of its family is bad: used
--- twice, seen to be reused, revoked, or a code whose subject signed out.
+-- twice, seen to be reused, revoked, or a code whose subject signed out. Access tokens that were
+-- refreshed for a refresh token that is kept are among them.
 abbrev pub FamiliesInactive : (ℕ → StoreFields) → Type 0
 FamiliesInactive store =
     (r : ℕ) (F : FactSet) → IsSubset F (held_facts (store r)) → (h : Handle) (d c : Dot)
     → IsBad (links_in (map.get F)) (IsMarked (map.get F)) d
     → IsUnder (links_in (map.get (held_facts (store r)))) d c
-    → IsUnder (links_in (map.get (held_facts (store r)))) h.id.dot c → IsInactive (store r) h
+    → IsMintedUnder (map.get (held_facts (store r))) h.id.dot c → IsInactive (store r) h
