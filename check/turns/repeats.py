@@ -140,6 +140,25 @@ class Repeats(unittest.TestCase):
         after.enrol_as(server)
         self.assert_reused(after, sent, first)
 
+    def test_a_client_that_keeps_its_refresh_token(self):
+        """Each request gets an access token of its own."""
+        server = self.enterContext(Running("--repeat", "60")).enrol(refresh="kept")
+        sent = refreshing(server, server.log_in()["refresh_token"])
+        said = [said_in(server.wanted(200, sent)) for _ in range(3)]
+        self.assertEqual(len({it["access_token"] for it in said}), 3)
+        for it in said:
+            self.assertNotIn("refresh_token", it)
+            self.assertTrue(server.is_active(it["access_token"]))
+
+    def test_refreshes_of_kept_tokens_take_no_place(self):
+        server = self.started("--repeat", "60")
+        sent, first = self.refreshed(server)
+        server.enrol(refresh="kept")
+        kept = refreshing(server, server.log_in()["refresh_token"])
+        for _ in range(MOST):
+            server.wanted(200, kept)
+        self.assert_again(server, sent, first)
+
     def test_the_oldest_goes(self):
         server = self.started("--repeat", "60")
         sent, first = self.refreshed(server)

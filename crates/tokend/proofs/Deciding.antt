@@ -42,7 +42,7 @@ use Rattle.tokend.specs.declared.repeats.Refreshed.{Refreshed}
 use Rattle.tokend.specs.declared.repeating.Refresh.{Refresh}
 use Rattle.tk_handle.specs.declared.dot.Dot.{Dot}
 use Rattle.tk_message.specs.Place.{next_in}
-use Rattle.tk_region.specs.RegionFields.{place_in}
+use Rattle.tk_region.specs.RegionFields.{RegionFields, place_in}
 use Rattle.tokend.specs.Draw.{six, past_six}
 use Rattle.tokend.specs.Growing.{Grows}
 use Rattle.tokend.specs.declared.server.Server.{Server}
@@ -212,12 +212,12 @@ none_stays keeps (Ok Nothing) asking old outcome h off = ap goes_on h.2
 none_stays keeps (Ok (Done status)) asking old outcome h off = ap goes_on h.2 ∙ ap (λ b. b && h.0.stays) off
 
 -- the refresh that is kept of a request came and was granted
-pub may_grant : (asking : Asking) (old : EdgeFields) (refresh : Option Refresh) (served : Served) (now : ℕ) (dot : Dot) (words : List ℕ) (granted : Option Refreshed)
+pub may_grant : (asking : Asking) (old : EdgeFields) (region : RegionFields) (refresh : Option Refresh) (served : Served) (now : ℕ) (dot : Dot) (words : List ℕ) (granted : Option Refreshed)
     → IfSome refresh (IsCome asking.reach asking.bytes asking.over)
-    → IsKept refresh served now dot words granted → now ≡ asking.now → dot ≡ next_in (place_in old.region) → words ≡ asking.words → MayGrant asking old (Ok served) granted
-may_grant asking old refresh served now dot words None came h at is six_words = tt
-may_grant asking old None served now dot words (Some it) came h at is six_words = absurd h
-may_grant asking old (Some refresh) served now dot words (Some it) came h at is six_words = (
+    → IsKept region refresh served now dot words granted → now ≡ asking.now → dot ≡ next_in (place_in old.region) → words ≡ asking.words → MayGrant asking old (Ok served) granted
+may_grant asking old region refresh served now dot words None came h at is six_words = tt
+may_grant asking old region None served now dot words (Some it) came h at is six_words = absurd h
+may_grant asking old region (Some refresh) served now dot words (Some it) came h at is six_words = (
   refresh,
   came.0,
   came.1,

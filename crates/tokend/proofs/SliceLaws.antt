@@ -41,6 +41,7 @@ passing_kept d (bodies.RefreshRotated f) k e = refl
 passing_kept d (bodies.TokenRevoked f) k e = refl
 passing_kept d (bodies.ReuseSeen f) k e = refl
 passing_kept d (bodies.SubjectOut f) k e = absurd (cc)
+passing_kept d (bodies.AccessRefreshed f) k e = refl
 
 -- a fact that names a dot may be skipped
 passing_named : (b : Body) (q : Dot) → names_of b ≡ Some q → is_passing b ≡ true
@@ -54,6 +55,7 @@ passing_named (bodies.RefreshRotated f) q e = refl
 passing_named (bodies.TokenRevoked f) q e = refl
 passing_named (bodies.ReuseSeen f) q e = refl
 passing_named (bodies.SubjectOut f) q e = absurd (cc)
+passing_named (bodies.AccessRefreshed f) q e = refl
 
 -- a fact that may go is held, and is of a kind that may be skipped
 abbrev IsPassing : StoreFields → Dot → Type 0

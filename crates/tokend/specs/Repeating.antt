@@ -19,6 +19,8 @@ use Rattle.tk_turn.specs.Outcomes.{goes_on}
 use Rattle.tk_turn.specs.declared.service.Outcome.{Outcome}
 use Rattle.tk_turn.specs.declared.service.Outcome.TheVariants.{Ended}
 use Rattle.tk_grant.specs.Repeat.{is_refresh_request}
+use Rattle.tk_region.specs.RegionFields.{RegionFields}
+use Rattle.tk_region.specs.Repeating.{minted_refresh}
 use Rattle.tk_message.specs.RequestFields.{RequestFields}
 use Rattle.tk_message.specs.declared.status_code.StatusCode.{StatusCode}
 use Rattle.tk_message.specs.declared.status_code.StatusCode.TheVariants as code
@@ -81,17 +83,21 @@ abbrev pub is_granted : Served → Bool
 is_granted Nothing = false
 is_granted (Done status) = is_ok status
 
--- what is kept of a refresh, if anything: it was granted
-abbrev pub IsKept : Option Refresh → Served → ℕ → Dot → List ℕ → Option Refreshed → Type 0
-IsKept refresh served now dot words None = ⊤
-IsKept None served now dot words (Some it) = ⊥
-IsKept (Some refresh) served now dot words (Some it) =
+-- what is kept of a refresh, if anything: it was granted, and minted a refresh token
+abbrev pub IsKept : RegionFields → Option Refresh → Served → ℕ → Dot → List ℕ → Option Refreshed
+    → Type 0
+IsKept region refresh served now dot words None = ⊤
+IsKept region None served now dot words (Some it) = ⊥
+IsKept region (Some refresh) served now dot words (Some it) =
     (it ≡ granted_at refresh now dot words) × (served ≡ Done code.Ok)
+    × (minted_refresh region dot ≡ true)
 
--- a server keeps a refresh that was granted, unless memory is short for it; else it is unchanged
+-- a server keeps a refresh that was granted a refresh token, unless memory is short for it; else it
+-- is unchanged
 abbrev pub Keeps : Server → Option Refresh → Served → Dot → List ℕ → Server → Type 0
 Keeps old refresh served dot words new =
-    (granted : Option Refreshed) × IsKept refresh served old.now dot words granted
+    (granted : Option Refreshed)
+    × IsKept old.edge.region refresh served old.now dot words granted
     × (new ≡ record old { repeats = kept_by granted old.repeats })
 
 -- this refresh came at the front of the bytes

@@ -137,7 +137,8 @@ pub fn revoked_tokens_are_inactive(world: &World)
 /// - a code whose subject signed out at the code's start or later
 ///
 /// Each token under the same code is active at no moment, and introspection reports it as inactive
-/// to everyone.
+/// to everyone. An access token that was refreshed for a refresh token that its client keeps is
+/// under the code of that refresh token.
 pub fn families_with_a_bad_grant_are_inactive(world: &World)
     ensures { FamiliesInactive (store_in world.now) }
 {

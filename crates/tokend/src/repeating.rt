@@ -198,7 +198,8 @@ impl Server {
     }
 
     /// Keeps a refresh that was granted at the moment, so that it may be repeated. `dot` is that of
-    /// the fact that was made, and `words` are the random words of the new tokens.
+    /// the fact that was made, and `words` are the random words of the new tokens. A refresh that
+    /// minted no refresh token is never repeated, and isn't kept.
     pub(crate) fn keep(
         &mut self,
         refresh: Option<Refresh>,
@@ -212,6 +213,9 @@ impl Server {
             return;
         };
         if !is_granted(served) {
+            return;
+        }
+        if !self.edge.region().minted_refresh(dot) {
             return;
         }
         self.repeats.keep(Refreshed {

@@ -55,7 +55,7 @@ returns-in-Ok-Some-clause-decided c =
     let is = c.outcome_of-outcome.ensures ∙ ap (λ b. outcome_by b c.in-Ok-Some.served c.in-Ok-Some.taken) keeps in
     let stays : c.goes_on-stays.result ≡ goes_on c.outcome_of-outcome.result = c.goes_on-stays.ensures in
     let six_words = c.draw-words.ensures.value ∙ ap six c.copy-next.ensures in
-    let may = may_grant (asking_of c.args.self.now c.args.input.now c.args.is_over) c.args.self.now.edge c.args.refresh c.in-Ok-Some.served c.serve_front.new.self.now c.next_dot-dot.result c.draw-words.result kept.0
+    let may = may_grant (asking_of c.args.self.now c.args.input.now c.args.is_over) c.args.self.now.edge c.serve_front.new.self.edge.region c.args.refresh c.in-Ok-Some.served c.serve_front.new.self.now c.next_dot-dot.result c.draw-words.result kept.0
     c.requires.came kept.1 (ap (λ (s : Server). s.now) c.in-Ok-Some.ensures.others) (search rules) six_words in (
       said.0,
       h.1,
