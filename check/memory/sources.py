@@ -11,7 +11,7 @@ from lib.reading import Region, parts_of, printed
 from lib.writing import BUNDLES, bundle, dot, fact, text
 
 NUMBER = 65535  # of the region that loads what is checked
-CUT, BAD = b"OTB1\0", b"OTB4\0\0"
+CUT, BAD = b"OTB1\0", b"OTB9\0\0"
 VECTOR = BUNDLES["a vector"]
 OTHER = BUNDLES["a resource server"]  # another fact at the dot of the first one of each log
 SHORT = b"".join(BUNDLES[name] for name in ("a public client", "a code", "a mark and a fact"))

@@ -72,7 +72,7 @@ class Model:
         self.dead = {self.code_of(dot)["dot"] for dot in self.facts if self.is_bad(dot)}
 
     def parent(self, fact):
-        """The fact whose token this one used up; None if it isn't known, or doesn't fit."""
+        """The fact by whose token this one came; None if it isn't known, or doesn't fit."""
         if fact["kind"] == "code_redeemed":
             named = self.facts.get(fact["code"])
             return named if named and named["kind"] == "code_issued" else None
@@ -81,6 +81,9 @@ class Model:
             if named and named["kind"] in MINTING:
                 fits = named.get("generation", 0) == fact["generation"] - 1
                 return named if fits else None
+        if fact["kind"] == "access_refreshed":
+            named = self.facts.get(fact["parent"])
+            return named if named and named["kind"] in MINTING else None
         return None
 
     def code_of(self, dot):
@@ -96,7 +99,7 @@ class Model:
     def is_bad(self, dot):
         """Whether what happened to the grant of this dot ends its family."""
         fact, code = self.facts[dot], self.code_of(dot)
-        if not code:
+        if not code or fact["kind"] == "access_refreshed":
             return False
         if fact is code:
             return ((dot, "code") in self.reused or self.uses[dot] > 1

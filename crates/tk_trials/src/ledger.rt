@@ -16,6 +16,7 @@ mod long;
 mod orders;
 mod plain;
 mod pruned;
+mod refreshed;
 mod refused;
 mod same;
 mod sign_outs;

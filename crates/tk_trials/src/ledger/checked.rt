@@ -4,6 +4,7 @@
 //! keep the limits of subjects, URIs and challenges, so that `Limit` is never returned.
 
 use super::facts::{Told, fact};
+use super::refreshed::REFRESHED;
 use super::{ISSUED, REDEEMED, ROTATED, SEEN, TOKEN_REVOKED};
 use std::alloc::Global;
 use tk_fact::{Body, CodeIssued, CodeRedeemed, Fact, FactError, RefreshRotated};
@@ -55,6 +56,10 @@ fn change_body(body: &mut Body, change: Change) -> Option<()> {
         (Body::CodeIssued(code), _) => change_code(code, change),
         (Body::CodeRedeemed(fact), _) => change_redemption(fact, change),
         (Body::RefreshRotated(fact), _) => change_rotation(fact, change),
+        (Body::AccessRefreshed(fact), Change::AccessEnd(end)) => {
+            fact.access.expiry = Moment::new(end)?;
+            Some(())
+        }
         (Body::TokenRevoked(fact), Change::TokenKind(kind)) => {
             fact.token.kind = kind;
             Some(())
@@ -96,6 +101,8 @@ const CHANGES: &[(&str, Told, Change, bool)] = &[
     ("a rotation's refresh token", ROTATED, Change::RefreshEnd(1_009), true),
     ("a redemption's access token", REDEEMED, Change::AccessEnd(1_009), true),
     ("a redemption's refresh token", REDEEMED, Change::RefreshEnd(1_009), true),
+    ("an access token", REFRESHED, Change::AccessEnd(1_009), true),
+    ("an access token at its start", REFRESHED, Change::AccessEnd(1_010), false),
     ("a code", ISSUED, Change::CodeEnd(999), true),
     ("a code at its start", ISSUED, Change::CodeEnd(1_000), false),
     ("a family", ISSUED, Change::FamilyEnd(999), true),

@@ -35,6 +35,8 @@ pub(super) enum Says {
     ReuseSeen(Place, Kind),
     /// A sign-out of the subject of this text, at the moment.
     SubjectOut(&'static [u8], u64),
+    /// An access token of the random words of this number, for the refresh token minted there.
+    AccessRefreshed(Place, u64),
 }
 
 /// A fact: its dot and its body.
@@ -149,6 +151,20 @@ fn revoked(alloc: Global, at: Place, token: Token, client: Place) -> Option<Vec<
     )
 }
 
+// Returns a fact that an access token was minted for the refresh token of a dot.
+fn refreshed(alloc: Global, at: Place, parent: Place, word: u64) -> Option<Vec<u8>> {
+    let access = digest((at, Kind::Access, word))?;
+    let parts: [&[u8]; 6] = [
+        &spelled(at),
+        b"\x0c",
+        &spelled(parent),
+        START,
+        &access,
+        ACCESS_END,
+    ];
+    joined(alloc, &parts)
+}
+
 // Returns a fact whose kind is followed by a dot and then by these bytes.
 fn naming(alloc: Global, at: Place, number: &[u8], named: Place, behind: &[u8]) -> Option<Vec<u8>> {
     joined(alloc, &[&spelled(at), number, &spelled(named), behind])
@@ -186,6 +202,7 @@ fn bytes_of(alloc: Global, told: &Told) -> Option<Vec<u8>> {
         Says::TokenRevoked(token, client) => revoked(alloc, place, token, client),
         Says::ReuseSeen(token, kind) => naming(alloc, place, b"\x09", token, &[kind.number()]),
         Says::SubjectOut(subject, moment) => signed_out(alloc, place, subject, moment),
+        Says::AccessRefreshed(parent, word) => refreshed(alloc, place, parent, word),
     }
 }
 

@@ -37,9 +37,9 @@ fn place(number: u64) -> Place {
 // another.
 fn kind_at(index: u64, number: u64) -> u64 {
     if number % 4 == 0 {
-        number / 4 % 10
+        number / 4 % 11
     } else {
-        index % 10
+        index % 11
     }
 }
 
@@ -65,10 +65,12 @@ fn generated(index: u64, number: u64) -> Says {
             let generation = if number >> 44 & 1 == 0 { 1 } else { 2 };
             Says::RefreshRotated(parent, generation, (7, 8))
         }
+        6 if number >> 50 & 1 == 0 => Says::TokenRevoked((parent, Kind::Access, 7), client),
         6 => Says::TokenRevoked((parent, Kind::Refresh, 8), client),
         7 => Says::ReuseSeen(code, Kind::Code),
         // A sign-out before the codes begin, or in the second in which they begin.
         9 => Says::SubjectOut(ANN, 999 + (number >> 50) % 2),
+        10 => Says::AccessRefreshed(parent, 7),
         _ => gone(number >> 50),
     }
 }

@@ -108,6 +108,7 @@ fn lasting(number: u64) -> Says {
         0 => Says::ClientRetired(named((1, 1), number / 5)),
         1 => Says::ConsentWithdrawn(named((1, 2), number / 5)),
         2 => Says::SubjectOut(ANN, 999 + number / 5 % 2),
+        3 => Says::TokenRevoked((place(number / 5), Kind::Access, 7), (1, 1)),
         _ => Says::TokenRevoked((place(number / 5), Kind::Refresh, 8), (1, 1)),
     }
 }
@@ -134,7 +135,9 @@ fn told(index: u64, number: u64) -> Says {
         5 => Says::RefreshRotated(named((1, 4), number / 2), 1, (7, 8)),
         6 => code(number, SECOND_END),
         7 => Says::CodeRedeemed(named(SECOND, number), (7, 8)),
-        8 | 9 => reuse(number),
+        8 => reuse(number),
+        9 if number % 2 == 0 => Says::AccessRefreshed(named((1, 4), number / 2), 7),
+        9 => reuse(number / 2),
         10 => Says::RefreshRotated(named((1, 5), number), 2, (7, 8)),
         _ => lasting(number),
     }

@@ -4,7 +4,7 @@
 //! make each answer. Tests compare the ledger of tk_ledger with it.
 
 use super::walks::{
-    Sought, client_at, code_above, consent_at, consents, held, holds, is_dead, is_ended,
+    Sought, client_at, code_of_tokens, consent_at, consents, held, holds, is_dead, is_ended,
     is_live_client, is_live_consent, is_out, is_passing, is_withdrawn, issued_at, may_skip,
     uses_of,
 };
@@ -256,7 +256,7 @@ impl PlainLedger {
         if *minted.digest != handle.digest() {
             return Status::Wrong;
         }
-        let Some(code) = code_above(facts, fact.dot) else {
+        let Some(code) = code_of_tokens(facts, fact.dot) else {
             return Status::Broken(minted.expiry);
         };
         let Some(issued) = issued_at(facts, code) else {

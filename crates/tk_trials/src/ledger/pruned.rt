@@ -46,6 +46,12 @@ const STEPS: &[Step] = &[
         Says::TokenRevoked(((1, 5), Kind::Access, 7), (1, 1)),
     )),
     Step::Add(((2, 3), Says::ReuseSeen((1, 5), Kind::Refresh))),
+    // An access token was minted for the first refresh token, and revoked.
+    Step::Add((
+        (2, 7),
+        Says::TokenRevoked(((2, 6), Kind::Access, 7), (1, 1)),
+    )),
+    Step::Add(((2, 6), Says::AccessRefreshed((1, 4), 7))),
     // The family ends at 90,000. A descendant arrives afterwards.
     Step::Prune(89_999),
     Step::Prune(90_000),

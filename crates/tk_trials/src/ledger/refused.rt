@@ -35,6 +35,7 @@ const FACTS: &[Told] = &[
     // Facts that end a family, all families of a subject, a consent and a client.
     ((2, 6), Says::SubjectOut(ANN, 1_020)),
     ((2, 7), Says::SubjectOut(ANN, 1_010)),
+    ((2, 8), Says::AccessRefreshed((1, 4), 7)),
     ((2, 3), Says::ReuseSeen((1, 3), Kind::Code)),
     ((2, 4), Says::ConsentWithdrawn((1, 2))),
     ((2, 5), Says::ClientRetired((1, 1))),
@@ -60,6 +61,8 @@ pub(super) const TOKENS: &[Token] = &[
     ((2, 1), Kind::Code, 24),
     ((2, 1), Kind::Access, 7),
     ((2, 1), Kind::Refresh, 8),
+    ((2, 6), Kind::Access, 7),
+    ((2, 8), Kind::Access, 7),
 ];
 
 // ---- the questions

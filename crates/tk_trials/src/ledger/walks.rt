@@ -203,6 +203,15 @@ pub(super) fn code_above(facts: &[Fact], dot: Dot) -> Option<Dot> {
     None
 }
 
+// Returns the code that the tokens minted at the dot are under: an access token that was refreshed is
+// under the code of its refresh token.
+pub(super) fn code_of_tokens(facts: &[Fact], dot: Dot) -> Option<Dot> {
+    match &held(facts, dot)?.body {
+        Body::AccessRefreshed(fact) => code_above(facts, fact.parent),
+        _ => code_above(facts, dot),
+    }
+}
+
 fn uses(body: &Body, token: &TokenId) -> bool {
     match body {
         Body::CodeRedeemed(fact) => token.dot == fact.code && token.kind == Kind::Code,
@@ -225,7 +234,7 @@ pub(super) fn uses_of(facts: &[Fact], token: &TokenId) -> u32 {
 // Returns whether the client of the token's code revoked the token.
 pub(super) fn is_ended(facts: &[Fact], token: &TokenId) -> Option<bool> {
     let fact = held(facts, token.dot)?;
-    let code = issued_at(facts, code_above(facts, token.dot)?)?;
+    let code = issued_at(facts, code_of_tokens(facts, token.dot)?)?;
     match fact.minted(token.kind) {
         Some(minted) => Some(holds(
             facts,
@@ -290,29 +299,39 @@ pub(super) fn is_passing(body: &Body) -> bool {
             | Body::RefreshRotated(_)
             | Body::TokenRevoked(_)
             | Body::ReuseSeen(_)
+            | Body::AccessRefreshed(_)
     )
 }
 
-// Returns the token that a fact is kept for: its own grant, the token that it revokes, or the one
-// whose reuse it saw.
+// Returns the token that a fact is kept for: its own grant, the token that it revokes, the one whose
+// reuse it saw, or the refresh token for which it mints an access token.
 fn kept_for(fact: &Fact) -> Option<TokenId> {
     match &fact.body {
         Body::TokenRevoked(revoked) => Some(revoked.token),
         Body::ReuseSeen(seen) => Some(seen.token),
+        Body::AccessRefreshed(refreshed) => Some(TokenId {
+            dot: refreshed.parent,
+            kind: Kind::Refresh,
+        }),
         _ => grant_of(fact),
     }
 }
 
-// Returns the end of the family that a dot is in, if a code is above the dot.
+// Returns the end of the family that the tokens minted at a dot are in, if a code is above them.
 fn family_end(facts: &[Fact], dot: Dot) -> Option<u64> {
-    let code = issued_at(facts, code_above(facts, dot)?)?;
+    let code = issued_at(facts, code_of_tokens(facts, dot)?)?;
     Some(code.family_end.seconds())
+}
+
+// Returns whether the fact mints a token.
+fn mints(fact: &Fact) -> bool {
+    grant_of(fact).is_some() || matches!(fact.body, Body::AccessRefreshed(_))
 }
 
 // Returns whether the token can't come any more, or is of a family that is over at the horizon.
 fn is_gone(facts: &[Fact], token: &TokenId, horizon: u64) -> bool {
     match held(facts, token.dot) {
-        Some(fact) if grant_of(fact).is_none() => true,
+        Some(fact) if !mints(fact) => true,
         _ => match family_end(facts, token.dot) {
             Some(end) => end <= horizon,
             None => false,
