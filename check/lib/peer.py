@@ -9,12 +9,12 @@ class Peer:
 
     Each reply has a Date, by this clock if the fields have none. If `reply` returns None, or there
     is none, the connection ends without a reply, or never gets one. Connections stay open, as those
-    of a proxy, unless it drops each one unannounced. `asked` and `bodies` have all paths and
-    bodies, `connections` is how many connections there were.
+    of a proxy, unless it drops each one unannounced. `asked`, `heads` and `bodies` have all paths,
+    fields and bodies, `connections` is how many connections there were.
     """
 
     def __init__(self, reply=None, tls=None, drops=False):
-        self.asked, self.bodies, self.connections = [], [], 0
+        self.asked, self.heads, self.bodies, self.connections = [], [], [], 0
         self.reply, self.drops, self.closed = reply, drops, threading.Event()
         self.server = ThreadingHTTPServer(("127.0.0.1", 0), self.handler())
         self.server.daemon_threads = True
@@ -63,6 +63,7 @@ class Peer:
         """Replies to one request, and returns whether its connection is to end."""
         body = it.rfile.read(int(it.headers.get("Content-Length", 0)))
         self.asked.append(it.path)
+        self.heads.append(it.headers)
         self.bodies.append(body)
         if not self.reply:
             self.closed.wait()

@@ -18,6 +18,12 @@ def example(name):
         return file.read()
 
 
+def recipe(first):
+    """The block of docs/RECIPES.md that has this first line."""
+    with open(TOP + "/docs/RECIPES.md", encoding="utf-8") as file:
+        return re.search("^```\n(%s\n.*?)^```$" % re.escape(first), file.read(), re.M | re.S)[1]
+
+
 class AppCase(FrontCase):
     """A front end with `who`; `client` is a confidential client with ann's consent."""
 

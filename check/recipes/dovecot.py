@@ -1,4 +1,5 @@
 """dovecot: whom it lets in with the files of examples/mail, and mail programs there."""
+import configparser
 import contextlib
 import fcntl
 import imaplib
@@ -15,7 +16,7 @@ import termios
 import time
 import unittest
 
-from app import example
+from app import example, recipe
 from lib import TOP
 from lib.tls import OPENSSL, make_certificate
 from lib.waiting import free_port, listens, until
@@ -53,15 +54,8 @@ userdb {
   args = uid=nobody gid=nogroup home=%(folder)s/mail/%%u
 }
 """
-OFFLINE_TOKEN = """import subprocess
-
-
-def token():
-    return subprocess.check_output(["%s", "%s"], text=True).strip()
-"""
 OFFLINE = """[general]
 accounts = ann
-pythonfile = %(folder)s/offline.py
 metadata = %(folder)s/metadata
 ui = quiet
 [Account ann]
@@ -77,10 +71,9 @@ remoteport = %(port)d
 remoteuser = ann
 ssl = yes
 sslcacertfile = %(folder)s/cert.pem
-auth_mechanisms = XOAUTH2
-oauth2_access_token_eval = token()
 """
 ASKING = "dovecot-oauth2.conf.ext"
+MESSAGE = "A first message"  # the subject of what is in the mailbox
 REFUSED, AWAY = "[AUTHENTICATIONFAILED]", "[UNAVAILABLE]"
 MECHANISMS = {"XOAUTH2": "user=%s\1auth=Bearer %s\1\1",
               "OAUTHBEARER": "n,a=%s,\1auth=Bearer %s\1\1"}
@@ -134,10 +127,50 @@ class MailCase(TokenCase):
         for name in "cur", "new", "tmp":
             os.makedirs(self.path("mail/ann/" + name))
         self.fill("mail/ann/new/1", "From: bob@example.org\nTo: ann@example.org\n"
-                  "Subject: A first message\n\nIts text.\n")
+                  "Subject: %s\n\nIts text.\n" % MESSAGE)
         subprocess.run(["chown", "-R", "nobody:nogroup", self.path("mail")], check=True)
         self.run_aside(DOVECOT, "-F", "-c", self.path("base.conf"))
         self.assertTrue(until(lambda: listens(self.imap)))
+
+    @property
+    def mailbox(self):
+        """Where dovecot listens."""
+        return "127.0.0.1:%d" % self.imap
+
+    def offlineimap(self, text):
+        """A run of offlineimap3, with these settings beside its own."""
+        settings = configparser.ConfigParser(interpolation=None)
+        for it in OFFLINE % {"folder": self.folder, "port": self.imap}, text:
+            settings.read_string(it)
+        with open(self.path("rc"), "w", encoding="utf-8") as file:
+            settings.write(file)
+        return subprocess.run(["offlineimap", "-o", "-c", self.path("rc")], capture_output=True,
+                              check=False, env=os.environ | {"HOME": self.folder})
+
+    def aerc(self, text, *texts):
+        """The first of some texts that aerc shows, with these settings beside its own."""
+        os.makedirs(self.path(".config/aerc"), exist_ok=True)
+        self.fill(".config/aerc/accounts.conf", text + "from = ann@example.org\n")
+        os.chmod(self.path(".config/aerc/accounts.conf"), 0o600)
+        return self.shown(texts, "aerc", SSL_CERT_FILE=self.path("cert.pem"))
+
+    def shown(self, texts, *words, **environment):
+        """The first of some texts that a program shows on a terminal; then it is ended."""
+        found, said, end = None, b"", time.monotonic() + 30
+        child, terminal = pty.fork()
+        if child == 0:
+            os.environ |= {"TERM": "xterm", "HOME": self.folder} | environment
+            os.execvp(words[0], words)
+        fcntl.ioctl(terminal, termios.TIOCSWINSZ, struct.pack("HHHH", 24, 100, 0, 0))
+        while not found and time.monotonic() < end:
+            if select.select([terminal], [], [], 1)[0]:
+                with contextlib.suppress(OSError):  # it has ended
+                    said += os.read(terminal, 65536)
+            found = next((it for it in texts if it.encode() in said), None)
+        os.kill(child, signal.SIGTERM)
+        os.close(terminal)
+        os.waitpid(child, 0)
+        return found
 
 
 @unittest.skipUnless(CAN, LACKING)
@@ -268,7 +301,8 @@ class Programs(MailCase):
             "@FILE@", self.file).replace("@mail.example/", "@127.0.0.1:%d/" % self.imap)
                   + "set ssl_ca_certificates_file = %s\n" % self.path("cert.pem"))
         for _ in range(2):
-            self.assert_shown("mutt", "-n", "-F", self.path("muttrc"))
+            self.assertEqual(self.shown([MESSAGE], "mutt", "-n", "-F", self.path("muttrc")),
+                             MESSAGE)
             self.change(expiry=0)
         self.assertEqual(self.sent(), 1)
 
@@ -276,39 +310,20 @@ class Programs(MailCase):
     def test_aerc(self):
         """It keeps its first refresh token, so it gets none, but the access token."""
         self.change(expiry=0)
-        os.makedirs(self.path(".config/aerc"))
-        self.fill(".config/aerc/accounts.conf", "[ann]\nsource = imaps+oauthbearer://ann@127.0.0.1"
-                  ":%d\nsource-cred-cmd = %s %s\nfrom = ann@example.org\n"
-                  % (self.imap, SCRIPT, self.file))
-        os.chmod(self.path(".config/aerc/accounts.conf"), 0o600)
-        self.assert_shown("aerc", SSL_CERT_FILE=self.path("cert.pem"))
+        self.assertEqual(self.aerc(self.filled(
+            recipe("# aerc, accounts.conf, with a command"), ("mail.example", self.mailbox),
+            ("token ann.json", "%s %s" % (SCRIPT, self.file))), MESSAGE), MESSAGE)
         self.assertEqual(self.sent(), 1)
 
     @unittest.skipUnless(shutil.which("offlineimap"), "passed over: no offlineimap3")
     def test_offlineimap(self):
         """It keeps its first refresh token, so it gets none, but the access token."""
         self.change(expiry=0)
-        self.fill("offline.py", OFFLINE_TOKEN % (SCRIPT, self.file))
-        self.fill("rc", OFFLINE % {"folder": self.folder, "port": self.imap})
+        self.fill(".offlineimap.py", self.filled(
+            recipe("# its .offlineimap.py"),
+            ('"token", "ann.json"', '"%s", "%s"' % (SCRIPT, self.file))))
         for _ in range(2):
-            subprocess.run(["offlineimap", "-o", "-c", self.path("rc")], check=True,
-                           capture_output=True, env=os.environ | {"HOME": self.folder})
+            self.assertEqual(self.offlineimap(
+                recipe("# offlineimap3, .offlineimaprc, with a function")).returncode, 0)
         self.assertEqual(len(os.listdir(self.path("synced/INBOX/new"))), 1)
         self.assertEqual(self.sent(), 1)
-
-    def assert_shown(self, *words, **environment):
-        """A program shows the message on a terminal; then it is ended."""
-        text, said, end = b"A first message", b"", time.monotonic() + 30
-        child, terminal = pty.fork()
-        if child == 0:
-            os.environ |= {"TERM": "xterm", "HOME": self.folder} | environment
-            os.execvp(words[0], words)
-        fcntl.ioctl(terminal, termios.TIOCSWINSZ, struct.pack("HHHH", 24, 100, 0, 0))
-        while text not in said and time.monotonic() < end:
-            if select.select([terminal], [], [], 1)[0]:
-                with contextlib.suppress(OSError):  # it has ended
-                    said += os.read(terminal, 65536)
-        os.kill(child, signal.SIGTERM)
-        os.close(terminal)
-        os.waitpid(child, 0)
-        self.assertIn(text, said)

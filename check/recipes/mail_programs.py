@@ -1,5 +1,6 @@
 """mail_programs: programs that send by the tokens of examples/mail, and Debian's mutt_oauth2.py."""
 import base64
+import contextlib
 import json
 import os
 import re
@@ -10,18 +11,16 @@ import subprocess
 import threading
 import unittest
 
-from app import example
+from app import example, recipe
 from lib import Broken
 from lib.tls import OPENSSL, make_certificate
 from mail_tokens import SCRIPT, TokenCase
 
-NODEMAILER = "/usr/share/nodejs/nodemailer"
+NODE_PATH = "/usr/share/nodejs"
+NODEMAILER = NODE_PATH + "/nodemailer"
 NODE = """
-const [command, file, port] = process.argv.slice(1);
-const accessToken = String(require("child_process").execFileSync(command, [file])).trim();
-require("nodemailer").createTransport({
-    host: "127.0.0.1", port, secure: true, auth: {type: "OAuth2", user: "ann", accessToken}
-}).sendMail({from: "ann@example.org", to: "bob@example.org", subject: "x", text: "y"});
+const nodemailer = require("nodemailer"), { execFileSync } = require("child_process");
+%s.sendMail({from: "ann@example.org", to: "bob@example.org", subject: "x", text: "y"});
 """
 OAUTH2 = "/usr/share/doc/mutt/examples/mutt_oauth2.py"
 
@@ -73,51 +72,73 @@ def serve_smtp(listener, found):
                 return
 
 
-class Programs(TokenCase):
+def serve_all(listener, found):
+    """Sessions one after the other, until the listener is shut down."""
+    with contextlib.suppress(OSError):
+        while True:
+            serve_smtp(listener, found)
+
+
+class SmtpCase(TokenCase):
+    """A server of messages over TLS at `smtp`, a port; `found` has the lines of its clients."""
+
+    def setUp(self):
+        super().setUp()
+        make_certificate(self.folder)
+        context = ssl.create_default_context(ssl.Purpose.CLIENT_AUTH)
+        context.load_cert_chain(self.folder + "/cert.pem", self.folder + "/key.pem")
+        plain = self.stack.enter_context(socket.create_server(("127.0.0.1", 0)))
+        listener = self.stack.enter_context(context.wrap_socket(plain, server_side=True))
+        self.stack.callback(listener.shutdown, socket.SHUT_RDWR)
+        self.smtp, self.found = listener.getsockname()[1], []
+        threading.Thread(target=serve_all, args=(listener, self.found), daemon=True).start()
+
+    def entered_by(self):
+        """The access tokens by which clients logged in, in order."""
+        said = [base64.b64decode(it.split()[2]) for it in self.found if it.startswith("AUTH ")]
+        return [re.search("\1auth=Bearer (.*?)\1", it.decode())[1] for it in said]
+
+    def node(self, script):
+        """How a script of Node is run, which trusts the server."""
+        own = {"NODE_PATH": NODE_PATH, "NODE_EXTRA_CA_CERTS": self.folder + "/cert.pem"}
+        return {"args": ["node", "--no-deprecation", "-e", script], "text": True,
+                "env": os.environ | own}
+
+
+@unittest.skipUnless(OPENSSL, "passed over: no openssl")
+class Programs(SmtpCase):
     def setUp(self):
         super().setUp()
         self.assertEqual(self.log_in(), (0, ""))
         self.change(expiry=0)
 
-    def sending(self, send):
-        """A program sends a message to a server, by its port: it must log in by a good token."""
-        make_certificate(self.folder)
-        context = ssl.create_default_context(ssl.Purpose.CLIENT_AUTH)
-        context.load_cert_chain(self.folder + "/cert.pem", self.folder + "/key.pem")
-        found = []
-        with socket.create_server(("127.0.0.1", 0)) as plain, \
-                context.wrap_socket(plain, server_side=True) as listener:
-            threading.Thread(target=serve_smtp, args=(listener, found), daemon=True).start()
-            done = send(listener.getsockname()[1])
+    def assert_sent(self, done):
+        """A program has sent a message, and logged in by a good token."""
         self.assertEqual((done.returncode, done.stderr), (0, ""))
-        said = base64.b64decode(next(it for it in found if it.startswith("AUTH ")).split()[2])
-        self.assertIn("\1auth=Bearer %s\1" % self.kept()["access_token"], said.decode())
+        self.assertEqual(self.entered_by(), [self.kept()["access_token"]])
         self.assertTrue(self.is_active(self.kept()["access_token"]))
         self.assertEqual(self.sent(), 1)
 
-    @unittest.skipUnless(shutil.which("msmtp") and OPENSSL, "passed over: no msmtp or no openssl")
+    @unittest.skipUnless(shutil.which("msmtp"), "passed over: no msmtp")
     def test_msmtp(self):
-        def send(port):
-            path = self.folder + "/msmtprc"
-            with open(os.open(path, os.O_WRONLY | os.O_CREAT, 0o600), "w") as file:
-                file.write(example("mail/msmtprc").replace("@TOKEN@", SCRIPT).replace(
-                    "@FILE@", self.file).replace("host mail.example", "host 127.0.0.1").replace(
-                        "port 465", "port %d" % port)
-                           + "tls_trust_file %s/cert.pem\n" % self.folder)
-            return subprocess.run(["msmtp", "-C", path, "bob@example.org"], text=True,
-                                  input="Subject: x\n\ny\n", capture_output=True, check=False)
-        self.sending(send)
+        path = self.folder + "/msmtprc"
+        with open(os.open(path, os.O_WRONLY | os.O_CREAT, 0o600), "w") as file:
+            file.write(example("mail/msmtprc").replace("@TOKEN@", SCRIPT).replace(
+                "@FILE@", self.file).replace("host mail.example", "host 127.0.0.1").replace(
+                    "port 465", "port %d" % self.smtp)
+                       + "tls_trust_file %s/cert.pem\n" % self.folder)
+        self.assert_sent(subprocess.run(["msmtp", "-C", path, "bob@example.org"], text=True,
+                                        input="Subject: x\n\ny\n", capture_output=True,
+                                        check=False))
 
-    @unittest.skipUnless(os.path.exists(NODEMAILER) and OPENSSL,
-                         "passed over: no node-nodemailer or no openssl")
+    @unittest.skipUnless(os.path.exists(NODEMAILER), "passed over: no node-nodemailer")
     def test_nodemailer(self):
         """It keeps its first refresh token, so it gets none, but the access token."""
-        def send(port):
-            return subprocess.run(
-                ["node", "-e", NODE, SCRIPT, self.file, str(port)], text=True, capture_output=True,
-                check=False, env=os.environ | {"NODE_PATH": os.path.dirname(NODEMAILER),
-                                               "NODE_EXTRA_CA_CERTS": self.folder + "/cert.pem"})
-        self.sending(send)
+        text = self.filled(recipe("// nodemailer, with a command"), ("mail.example", "127.0.0.1"),
+                           ('"token", ["ann.json"]', '"%s", ["%s"]' % (SCRIPT, self.file)),
+                           ("465", self.smtp), ("secure: true, auth });", "secure: true, auth })"))
+        self.assert_sent(subprocess.run(**self.node(NODE % text.strip()), capture_output=True,
+                                        check=False))
 
 
 @unittest.skipUnless(os.path.exists(OAUTH2), "passed over: no " + OAUTH2)

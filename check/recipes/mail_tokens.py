@@ -28,24 +28,32 @@ class TokenCase(Case):
         self.region, self.treat = self.tokend(1, options=self.options), None
         self.front = self.peer(self.reply)
         self.back = "http://127.0.0.1:%d/" % free_port()
-        self.client, self.reader = (
-            self.region.form("/admin/client", it | {"scope": SCOPE, "redirects": self.back},
-                             status=201)["client_id"]
-            for it in ({"kind": "public"}, {"kind": "resource", "secret": SECRET}))
+        self.reader = self.add(kind="resource", secret=SECRET)
+        self.register("ann.json", kind="public")
+
+    def add(self, **fields):
+        """The id of a new client."""
+        return self.region.form("/admin/client", fields | {
+            "scope": SCOPE, "redirects": self.back}, status=201)["client_id"]
+
+    def register(self, name, **fields):
+        """Adds a client with ann's consent, and writes its settings into a file of this name."""
+        self.client, self.file = self.add(**fields), os.path.join(self.folder, name)
         self.consent("ann")
-        self.file = os.path.join(self.folder, "ann.json")
+        settings = {it: self.front.url + "/" + it for it in ("authorize", "token", "revoke")}
+        settings |= {"client_id": self.client, "scope": SCOPE, "redirect_uri": self.back}
+        if "secret" in fields:
+            settings["client_secret"] = fields["secret"]
         with open(self.file, "w", encoding="utf-8") as file:
-            json.dump({name: self.front.url + "/" + name
-                       for name in ("authorize", "token", "revoke")} | {
-                "client_id": self.client, "scope": SCOPE, "redirect_uri": self.back}, file)
+            json.dump(settings, file)
 
     def consent(self, subject):
         self.region.form("/admin/consent", {
             "client_id": self.client, "subject": subject, "scope": SCOPE}, status=201)
 
-    def pass_on(self, path, body):
+    def pass_on(self, path, body, **fields):
         with contextlib.closing(self.region.link()) as link:
-            status, _, said = ask_over(link, "POST", path, body)
+            status, _, said = ask_over(link, "POST", path, body, **fields)
         return status, JSON if said else {}, said
 
     def reply(self, path, body):
@@ -65,6 +73,13 @@ class TokenCase(Case):
         self.addCleanup(child.communicate)
         self.addCleanup(child.kill)
         return child
+
+    def filled(self, text, *changes):
+        """A text with each old part, which it must have, in the new one's place."""
+        for old, new in changes:
+            self.assertIn(old, text)
+            text = text.replace(old, str(new))
+        return text
 
     def visit(self, place, **query):
         with contextlib.suppress(urllib.error.HTTPError):
@@ -214,6 +229,20 @@ class Tokens(TokenCase):
         self.assertFalse(self.is_active(self.first["refresh_token"]))
         self.assertEqual(self.call()[0], 1)
 
+    def test_a_client_that_keeps_its_refresh_token(self):
+        self.register("kept.json", kind="confidential", secret="s3cret", refresh="kept")
+        self.assertEqual(self.log_in(), (0, ""))
+        first = self.kept()
+        for _ in range(2):
+            before = self.kept()["access_token"]
+            self.change(expiry=0)
+            self.assertEqual(self.call(), (0, self.kept()["access_token"], ""))
+            self.assertNotEqual(self.kept()["access_token"], before)
+            self.assertEqual(self.kept()["refresh_token"], first["refresh_token"])
+        self.assertTrue(self.is_active(first["refresh_token"]))
+        self.assertEqual(self.call("--logout"), (0, "", ""))
+        self.assertFalse(self.is_active(first["refresh_token"]))
+
     def test_a_new_login_ends_the_one_before(self):
         self.assertEqual(self.log_in(), (0, ""))
         self.assertFalse(self.is_active(self.first["refresh_token"]))
@@ -226,9 +255,14 @@ class Arguments(TokenCase):
         self.assertFalse(os.path.exists(self.file + ".tokens"))
 
     def test_wrong_arguments(self):
-        for words in [], ["--help"], ["--log", self.file], [self.file, "--login"]:
+        for words in [], ["--log", self.file], [self.file, "--login"]:
             it = subprocess.run([SCRIPT, *words], capture_output=True, text=True, check=False)
             self.assertEqual((it.returncode, it.stdout), (2, ""), words)
+
+    def test_help(self):
+        it = subprocess.run([SCRIPT, "--help"], capture_output=True, text=True, check=False)
+        self.assertEqual((it.returncode, it.stderr), (0, ""))
+        self.assertIn("token --login FILE", it.stdout)
 
     def test_wrong_settings(self):
         with open(self.file, "w", encoding="utf-8") as file:
