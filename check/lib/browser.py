@@ -59,6 +59,17 @@ class Browser:
     def run(self, script):
         return self.ask("POST", "/execute/sync", {"script": script, "args": []})
 
+    def press(self, key):
+        """Presses a key where the focus is."""
+        self.ask("POST", "/actions", {"actions": [{"type": "key", "id": "keys", "actions": [
+            {"type": it, "value": key} for it in ("keyDown", "keyUp")]}]})
+
+    def resize(self, width, height, scale=1):
+        """Gives the page a size, which may be below that of a window; a picture is scaled."""
+        self.ask("POST", "/goog/cdp/execute", {
+            "cmd": "Emulation.setDeviceMetricsOverride", "params": {
+                "width": width, "height": height, "deviceScaleFactor": scale, "mobile": False}})
+
     def says(self, text):
         """Whether the page, which may be on its way, comes to have a text."""
         def has():

@@ -216,13 +216,14 @@ class Server(Process, Tokend):
         """The bytes of its log, or of the log's parts one behind the other."""
         return b"".join(map(self.content, self.parts() or ["log"]))
 
-    def enrol(self):
-        """Adds a client, a resource server, and ann's consent to the client."""
+    def enrol(self, **more):
+        """Adds a client, with these parameters too, a resource server, and ann's consent to the
+        client."""
         rights = {"scope": "read write", "redirects": REDIRECT_TEXT}
         self.client_id, self.resource_id = (
-            self.form("/admin/client", {"kind": kind, "secret": secret} | rights,
-                      status=201)["client_id"]
-            for kind, secret in (("confidential", SECRET), ("resource", WORD)))
+            self.form("/admin/client", kind | rights, status=201)["client_id"]
+            for kind in ({"kind": "confidential", "secret": SECRET} | more,
+                         {"kind": "resource", "secret": WORD}))
         given = {"client_id": self.client_id, "subject": "ann", "scope": "read write"}
         self.consent_id = self.form("/admin/consent", given, status=201)["consent_id"]
         self.client = basic(self.client_id, SECRET)

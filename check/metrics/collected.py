@@ -60,7 +60,7 @@ class Collected(Case):
         self.assertEqual(found["peer_up" + peer], 1)
         log = one.folder / "log" / "00001.otb"
         self.assertEqual(found['file_bytes,what="log"'], log.stat().st_size)
-        self.assertEqual(found["numbers_left"], 98)
+        self.assertEqual((found["numbers_left"], found["region_number"]), (98, 1))
         self.assertLess(abs(found["resident_bytes"] - one.resident()), one.resident() / 4)
         self.assertLess(abs(found["collected_timestamp_seconds"] - time.time()), 60)
         self.carry(one.url, two.url)
