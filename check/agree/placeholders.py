@@ -3,7 +3,7 @@ import re
 
 from texts import coded, rows, same, text_of
 
-FOLDERS = ["examples/between-sites"]
+FOLDERS = ["examples/between-sites", "examples/operators"]
 NAME = r"@[A-Z_]+@"
 
 

@@ -31,7 +31,7 @@ CELLS = {
 ROUND = {
     "logins": 0.1, "refreshes": 8, "introspections": 10, "revocations": 0.1, "sign-outs": 0.073,
     "consents": 1, "peak": 8.64, "access": 8640, "family": 2_592_000, "prune": 7, "margin": 3,
-    "regions": 2, "directory": 2, "memory": 47.0, "full": 0.5, "busy": 0.5, "longest": 1000,
+    "regions": 2, "directory": 2, "memory": 47.4, "full": 0.5, "busy": 0.5, "longest": 1000,
     "starts": 10, "numbers": 65_535, "slots": 16, "login-memory": 1000, "login-wire": 280,
     "login-log": 300, "refresh-memory": 400, "refresh-wire": 140, "refresh-log": 150, "left": 10,
     "place": 25, "introspected": 10_000, "refreshed": 1000, "coded": 1000, "taken": 10_100,
@@ -44,30 +44,30 @@ SUMS = {
     "processors at the peak": 2.01,  # 0.9 + 0.2 + 0.81, and 1,010 facts of 10,100
     "access tokens that live": 900_000,  # nine million a day, each for a tenth of a day
     "days that a login is kept": 40,
-    "facts that are alive": 410_000_000,  # 40 days of ten million, and ten million consents
-    "cells by memory": 8,  # 168 GB of logins and 20 GB of consents, by 23.5 GB
+    "facts that are alive": 414_000_000,  # 40 days of 10,100,000, and ten million consents
+    "cells by memory": 8,  # 169.6 GB of logins and 20 GB of consents, by 23.7 GB
     "cells by processors": 2.01,
-    "cells by a start": 4.1,
+    "cells by a start": 4.14,
     "cells": 8,
     "sites": 18,
-    "dropped facts of a cell a year": 456_250_000,  # 3,650,000,000 by eight
-    "lasting facts of a site a year": 6_022_500,  # 4,562,500 revocations, twice 730,000 sign-outs
-    "memory of a site, GB": 23.5,
-    # 6,022,500 of 400 bytes, 5,292,500 with 64 places of 25 bytes, 45,625,000 logins leave 10 each
-    "more memory of a site a year, GB": 2.409 + 8.468 + 0.45625,
+    "dropped facts of a cell a year": 460_812_500,  # 3,686,500,000 by eight
+    "lasting facts of a site a year": 1_460_000,  # twice 730,000 sign-outs
+    "memory of a site, GB": 23.7,
+    # 1,460,000 of 400 bytes, 730,000 with 64 places of 25 bytes, 45,625,000 logins leave 10 each
+    "more memory of a site a year, GB": 0.584 + 1.168 + 0.45625,
     # 1,400 bytes a login, 14 of revocations; 2,000 sign-outs of 140 bytes go 8 and 17 ways
     "traffic between sites a day, GB": 1.4 + 0.014 + 0.007,
-    "disk of a site a day, GB": 0.1875 + 0.002475,  # 125,000 of 1,500 bytes, 16,500 of 150
-    "disk of a site after `compact`, GB": 7.175,  # 56 GB and 1.4 GB, by eight
-    "more after `compact` a year, GB": 5.475 + 0.84315,
-    "start of a site, s": 512.5,  # 51,250,000 facts
-    "longer a year, s": 1825 + 60.225,
+    "disk of a site a day, GB": 0.189375 + 0.0006,  # 125,000 of 1,515 bytes, 4,000 of 150
+    "disk of a site after `compact`, GB": 7.245,  # 56.56 GB and 1.4 GB, by eight
+    "more after `compact` a year, GB": 5.52975 + 0.2044,
+    "start of a site, s": 517.5,  # 51,750,000 facts
+    "longer a year, s": 1843.25 + 14.6,
     "starts of a site that the numbers last": 3640,  # 18 times 3,640 is 65,520
     "years that the slots last": math.inf,  # 16 sites have slots, of 16
-    "years that a start is short": 487.5 / 1885.225,
-    "years that the memory lasts": 23.5 / 11.33325,
+    "years that a start is short": 482.5 / 1857.85,
+    "years that the memory lasts": 23.7 / 2.20825,
     "years that the numbers last": 364,
-    "breaks first": "start, after 0.259 years"}
+    "breaks first": "start, after 0.26 years"}
 
 # the columns of the table in docs/CELLS.md, and the lines that they are of
 COLUMNS = {
@@ -140,7 +140,7 @@ def compare_sums():
     more, one = plan.Plan(11_000_000, ROUND), plan.Plan(1_000_000, ROUND)
     same(HOME, "the cells and sites of a tenth more", (9, 20), (more.cells, more.sites))
     same(HOME, "the cells and sites of a tenth", (1, 2), (one.cells, one.sites))
-    same(HOME, "the lasting facts of one cell", 3_650_000 + 73_000, round(one.lasting()))
+    same(HOME, "the lasting facts of one cell", 73_000, round(one.lasting()))
 
 
 def compare_printed(folder):

@@ -129,7 +129,7 @@ def memory(parts):
     it = part(parts, "memory")
     places = "memory", "on the wire", "in a log"
     rows = [["a " + kind] + [it.number("bytes of a %s, %s" % (kind, place)) for place in places]
-            for kind in ("login", "refresh")]
+            for kind in ("login", "refresh", "refresh of a token that is kept")]
     return it, text_of(["bytes of", *places], rows)
 
 
@@ -171,20 +171,16 @@ def signouts(parts):
 def days(parts):
     """A line for each day with a start: what it took, without pruning and with it."""
     it, rows, servers = part(parts, "days"), [], ("never pruned", "--prune-margin")
-    for day in it.numbers(r"day (\d+): a start with the log, s"):
-        name = "day %d" % day
+    for day in it.numbers(r"day (\d+), never pruned: a start, s"):
+        names = ["day %d, %s: " % (day, server) for server in servers]
         rows.append(
-            [str(day)]
-            + [it.number("%s, %s: facts" % (name, server)) for server in servers]
-            + [tables.number(it.median("%s, %s: memory in KiB" % (name, server)) / 1024)
-               for server in servers]
+            [str(day)] + [it.number(name + "facts") for name in names]
             + [tables.number(it.median("%s%s in KiB" % (name, what)) / 1024)
-               for what in (": log", ", --prune-margin: pages")]
-            + [it.number("%s: a start with the %s, s" % (name, what)) for what in ("log", "pages")])
-    return it, text_of(["day", "facts, never pruned", "with the option",
-                        "MiB of memory, never pruned", "with the option", "log, MiB",
-                        "pages with the option, MiB", "start with the log, s",
-                        "start with these pages, s"], rows)
+               for what in ("memory", "files") for name in names]
+            + [it.number(name + "a start, s") for name in names])
+    return it, text_of(["day"] + [one for what in ("facts", "MiB of memory", "MiB of files",
+                                                   "s of a start")
+                                  for one in (what + ", never pruned", "pruned")], rows)
 
 
 def push(parts):

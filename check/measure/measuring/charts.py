@@ -104,14 +104,14 @@ def turns(parts):
 
 
 def days(parts):
-    """The memory of each day, of a server that never prunes and of one that does."""
-    it, form = part(parts, "days"), "day %d, %s: memory in KiB"
-    curves = [(name, [(day, it.median(form % (day, server)) / 1024)
-                      for day in it.numbers(r"day (\d+), never pruned: memory in KiB")])
-              for name, server in (("never pruned", "never pruned"),
-                                   ("--prune-margin 86400", "--prune-margin"))]
-    return Chart("days", "memory in MiB", "set yrange [0:*]",
-                 "using 1:2 with lines linewidth 2", curves)
+    """Memory and files of each day, of a server that never prunes and of one that does."""
+    it = part(parts, "days")
+    curves = [("%s, %s" % (what, name),
+               [(day, it.median("day %d, %s: %s in KiB" % (day, server, what)) / 1024)
+                for day in it.numbers(r"day (\d+), never pruned: memory in KiB")])
+              for what in ("memory", "files")
+              for name, server in (("never pruned", "never pruned"), ("pruned", "--prune-margin"))]
+    return Chart("days", "MiB", "set yrange [0:*]", "using 1:2 with lines linewidth 2", curves)
 
 
 def sites(parts):
@@ -132,7 +132,7 @@ TITLES = {
     "delay": "From a revocation until another region knows it, in ms",
     "clients": "Introspections a second, by the clients at the same time",
     "turns": "Requests a second of clients that keep their connections, beside Redis",
-    "days": "Memory by days, of a server that prunes itself and of one that never does",
+    "days": "Memory and files by days, of a server that prunes and of one that never does",
     "sites": "Hours that carry is at work for a day of a million logins, by sites"}
 
 

@@ -1,8 +1,9 @@
 """plan: what many users need, computed from assumptions and from figures of docs/MEASURED.md.
 
 Nothing here is measured. A figure is one of a site alone, of one machine, and what is computed of
-it for many sites was never run. A fact that lasts (a consent, a revocation, a sign-out) is taken as
-a refresh, since docs/MEASURED.md has no figure of it. Clients are left out: they are few.
+it for many sites was never run. A consent, a revocation and a sign-out are each taken as a refresh,
+since docs/MEASURED.md has no figure of them. A revocation goes with its login, and the other two
+last. Clients are left out: they are few.
 """
 import math
 from typing import Callable, NamedTuple
@@ -65,8 +66,8 @@ FIGURES = {
     # docs/MEASURED.md, "A start": 200,000 facts in 875 ms, less 1.14 ms for none
     "loaded": Option(228_869, 1, 1e9, "facts a second of a start"),
     # docs/MEASURED.md, "A hundred days", the last row: the marks, by the seconds of a start with
-    # the pages, which have some facts too. The machine was busy: a quiet one takes fewer seconds
-    "marked": Option(386_872, 1, 1e9, "marks a second of a start"),
+    # the files, which have some facts too. The machine was busy: a quiet one takes fewer seconds
+    "marked": Option(614_673, 1, 1e9, "marks a second of a start"),
 }
 
 OPTIONS = {**ASSUMED, **FIGURES}
@@ -85,7 +86,7 @@ class Plan:
     def __init__(self, users, of):
         self.users, self.of = users, of
         self.logins = users * of["logins"]
-        self.facts_of_login = 2 + of["refreshes"]
+        self.facts_of_login = 2 + of["refreshes"] + of["revocations"]
         self.logins_peak = self.logins / DAY * of["peak"]
         self.refreshes_peak = self.logins_peak * of["refreshes"]
         self.asked_peak = self.logins_peak * (1 + of["refreshes"]) * of["introspections"]
@@ -99,13 +100,13 @@ class Plan:
         self.sites = self.cells * of["regions"] + self.has_directory * of["directory"]
 
     def bytes_of_login(self, place):
-        """The bytes of a login with its refreshes: in memory, on the wire or in a log."""
-        return self.of["login-" + place] + self.of["refreshes"] * self.of["refresh-" + place]
+        """The bytes of a login with all of its facts: in memory, on the wire or in a log."""
+        return self.of["login-" + place] + (self.facts_of_login - 2) * self.of["refresh-" + place]
 
     def processors(self):
         """How many processors serve the peak of all cells."""
         of, logins = self.of, self.logins_peak
-        made = logins * (self.facts_of_login + of["revocations"])
+        made = logins * self.facts_of_login
         return (self.asked_peak / of["introspected"] + 2 * logins / of["coded"]
                 + (self.refreshes_peak + logins * of["revocations"]) / of["refreshed"]
                 + made * (of["regions"] - 1) / of["taken"])
@@ -135,16 +136,12 @@ class Plan:
         """Sign-outs of all users in a year: each cell has a fact of each, and the directory."""
         return self.users * self.of["sign-outs"]
 
-    def beside_marks(self):
-        """Facts that last and that a cell itself makes in a year, between its logins."""
-        return self.logins * YEAR * self.of["revocations"] / self.cells + self.sign_outs()
-
     def lasting(self):
         """Facts that last and that a year adds to a site."""
-        return self.beside_marks() + self.has_directory * self.sign_outs()
+        return (1 + self.has_directory) * self.sign_outs()
 
     def memory_grows(self):
-        kept = min(self.beside_marks() * PAGE, self.marks()) * self.of["place"]
+        kept = min(self.sign_outs() * PAGE, self.marks()) * self.of["place"]
         left = self.logins * YEAR * self.of["left"] / self.cells
         return self.lasting() * self.of["refresh-memory"] + kept + left
 
@@ -152,8 +149,7 @@ class Plan:
         """Bytes a day between all sites."""
         of = self.of
         outs = self.sign_outs() / YEAR * of["refresh-wire"]
-        made = self.logins * (self.bytes_of_login("wire") + of["revocations"] * of["refresh-wire"])
-        own = (made + outs * self.cells) * (of["regions"] - 1)
+        own = (self.logins * self.bytes_of_login("wire") + outs * self.cells) * (of["regions"] - 1)
         return own + self.has_directory * outs * (self.sites - 1)
 
     def disk(self):
@@ -222,36 +218,38 @@ ROWS = (
     Row("access tokens that live", "logins a day × (1 + refreshes) × access / 86400",
         lambda it: it.tokens),
     Row("days that a login is kept", "family / 86400 + prune + margin", lambda it: it.days),
-    Row("facts that are alive", "logins a day × days × (2 + refreshes) + users × consents",
+    Row("facts that are alive",
+        "logins a day × days × (2 + refreshes + revocations) + users × consents",
         lambda it: it.alive),
     Row("cells by memory",
-        "(logins a day × days × (login-memory + refreshes × refresh-memory) + users × consents × "
-        "(refresh-memory + 64 × place)) / (memory × full)", Plan.cells_by_memory),
+        "(logins a day × days × (login-memory + (refreshes + revocations) × refresh-memory) + "
+        "users × consents × (refresh-memory + 64 × place)) / (memory × full)",
+        Plan.cells_by_memory),
     Row("cells by processors", "processors / (regions × busy)", Plan.cells_by_processors),
     Row("cells by a start", "facts that are alive / (loaded × longest)", Plan.cells_by_start),
     Row("cells", "the greatest of these three, rounded up", lambda it: it.cells),
     Row("sites", "cells × regions + directory; without a directory if there is one cell",
         lambda it: it.sites),
-    Row("dropped facts of a cell a year", "logins a day × 365 × (2 + refreshes) / cells",
-        Plan.marks),
+    Row("dropped facts of a cell a year",
+        "logins a day × 365 × (2 + refreshes + revocations) / cells", Plan.marks),
     Row("lasting facts of a site a year",
-        "logins a day × 365 × revocations / cells + users × sign-outs × 2, of which the "
-        "directory made half; × 1 if there is one cell", Plan.lasting),
+        "users × sign-outs × 2, of which the directory made half; × 1 if there is one cell",
+        Plan.lasting),
     Row("memory of a site, GB", "cells by memory × memory × full / cells",
         lambda it: it.memory() / 1e9),
     Row("more memory of a site a year, GB",
-        "lasting facts × refresh-memory + those of the cell itself × 64 × place (at most dropped "
-        "facts × place) + logins a day × 365 × left / cells", lambda it: it.memory_grows() / 1e9),
+        "lasting facts × refresh-memory + users × sign-outs × 64 × place (at most dropped facts × "
+        "place) + logins a day × 365 × left / cells", lambda it: it.memory_grows() / 1e9),
     Row("traffic between sites a day, GB",
         "logins a day × (login-wire + (refreshes + revocations) × refresh-wire) × (regions - 1), "
         "and sign-outs × refresh-wire: in each cell to its other sites, by the directory to all",
         lambda it: it.traffic() / 1e9),
     Row("disk of a site a day, GB",
-        "logins a day × (login-log + refreshes × refresh-log) / cells + lasting facts / 365 × "
-        "refresh-log", lambda it: it.disk() / 1e9),
+        "logins a day × (login-log + (refreshes + revocations) × refresh-log) / cells + "
+        "lasting facts / 365 × refresh-log", lambda it: it.disk() / 1e9),
     Row("disk of a site after `compact`, GB",
-        "(logins a day × days × (login-wire + refreshes × refresh-wire) + users × consents × "
-        "refresh-wire) / cells", lambda it: it.compacted() / 1e9),
+        "(logins a day × days × (login-wire + (refreshes + revocations) × refresh-wire) + "
+        "users × consents × refresh-wire) / cells", lambda it: it.compacted() / 1e9),
     Row("more after `compact` a year, GB",
         "dropped facts × 12 + lasting facts × refresh-wire",
         lambda it: it.compacted_grows() / 1e9),
