@@ -21,7 +21,10 @@ TIMES = 5
 LIFE = 5  # seconds that an access token lives for a program that runs on
 REFUSED = 400, {"error": "invalid_grant"}
 OF_NODE, MADE = "// nodemailer, node-xoauth2", "nodemailer.createTransport"
+# Node gives a connection to one of several addresses a quarter of a second, which may be too short
+# on a busy machine.
 EACH_LINE = """
+require("net").setDefaultAutoSelectFamily?.(false);
 require("readline").createInterface({input: process.stdin}).on("line", () => %s);
 """
 SENDING = """sender.sendMail({from: "ann@example.org", to: "bob@example.org", subject: "x"}).then(
@@ -140,6 +143,7 @@ class NodeCase(SmtpCase):
         line = self.line()
         if line == "invalid_grant":
             return False
+        self.assertTrue(self.got, line)
         self.assertIn(self.got[-1][1]["access_token"], self.entered(line))
         return True
 
