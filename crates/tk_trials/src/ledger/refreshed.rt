@@ -38,8 +38,8 @@ const ONE_BROKEN: &[Row] = &[
     ("access of 3:1", ((3, 1), Kind::Access, 42), BROKEN_ACCESS),
 ];
 
-// A refresh token with an access token that was minted for it, and what happens to either. Without a
-// client and a consent all that isn't dead or broken is withdrawn.
+// A refresh token with an access token that was minted for it, and what happens to either. Without
+// a client and a consent all that isn't dead or broken is withdrawn.
 #[rattlefmt::skip]
 const CASES: &[Case] = &[
     ("nothing", &[ADDED, GIVEN, ISSUED, REDEEMED, REFRESHED], 120, ALL_LIVE),

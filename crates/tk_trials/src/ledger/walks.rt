@@ -203,8 +203,8 @@ pub(super) fn code_above(facts: &[Fact], dot: Dot) -> Option<Dot> {
     None
 }
 
-// Returns the code that the tokens minted at the dot are under: an access token that was refreshed is
-// under the code of its refresh token.
+// Returns the code that the tokens minted at the dot are under: an access token that was refreshed
+// is under the code of its refresh token.
 pub(super) fn code_of_tokens(facts: &[Fact], dot: Dot) -> Option<Dot> {
     match &held(facts, dot)?.body {
         Body::AccessRefreshed(fact) => code_above(facts, fact.parent),
@@ -303,8 +303,8 @@ pub(super) fn is_passing(body: &Body) -> bool {
     )
 }
 
-// Returns the token that a fact is kept for: its own grant, the token that it revokes, the one whose
-// reuse it saw, or the refresh token for which it mints an access token.
+// Returns the token that a fact is kept for: its own grant, the token that it revokes, the one
+// whose reuse it saw, or the refresh token for which it mints an access token.
 fn kept_for(fact: &Fact) -> Option<TokenId> {
     match &fact.body {
         Body::TokenRevoked(revoked) => Some(revoked.token),
