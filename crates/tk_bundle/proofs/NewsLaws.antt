@@ -24,16 +24,22 @@ marks_kept : (S : Slots) (items : Items)
     → list_any is_mark (filter (counts S) items) ≡ list_any is_mark items
 marks_kept S [] = refl
 marks_kept S ((d, Skipped) ∷ more) = refl
-marks_kept S ((d, Held b) ∷ more) = elim (counts S (d, Held b)) as (λ t. list_any is_mark (cond t ((d, Held b) ∷ filter (counts S) more) (filter (counts S) more)) ≡ list_any is_mark more) [
-  | true ↦ marks_kept S more
-  | false ↦ marks_kept S more
-]
+marks_kept S ((d, Held b) ∷ more) = elim (counts S (d, Held b)) as
+    (λ t. list_any is_mark (cond t ((d, Held b) ∷ filter (counts S) more) (filter (counts S) more))
+    ≡ list_any is_mark more) [
+      | true ↦ marks_kept S more
+      | false ↦ marks_kept S more
+    ]
 
 horizon_kept : (S : Slots) (items : Items) (horizon : Option ℕ)
     → HorizonFits (version_of items) horizon
     → HorizonFits (version_of (filter (counts S) items)) horizon
-horizon_kept S items None fits = horizon_told (filter (counts S) items) ∙ marks_kept S items ∙ sym (horizon_told items) ∙ fits
-horizon_kept S items (Some moment) fits = (fits.0, horizon_told (filter (counts S) items) ∙ marks_kept S items ∙ sym (horizon_told items) ∙ fits.1)
+horizon_kept S items None fits =
+    horizon_told (filter (counts S) items) ∙ marks_kept S items ∙ sym (horizon_told items) ∙ fits
+horizon_kept S items (Some moment) fits = (
+  fits.0,
+  horizon_told (filter (counts S) items) ∙ marks_kept S items ∙ sym (horizon_told items) ∙ fits.1,
+)
 
 -- a bundle has a horizon exactly if a mark is among what isn't dropped of it
 horizon_shows : (S : Slots) (b : BundleFields) → bundle.Fits b
@@ -55,18 +61,20 @@ version_kept S b fits =
 
 no_longer : {A : Type 0} (p : A → Bool) (xs : List A) → length (filter p xs) ≤ length xs
 no_longer p [] = omega arith
-no_longer p (x ∷ xs) = elim (p x) as (λ t. length (cond t (x ∷ filter p xs) (filter p xs)) ≤ suc (length xs)) [
-  | true ↦ omega (arith, no_longer p xs)
-  | false ↦ omega (arith, no_longer p xs)
-]
+no_longer p (x ∷ xs) =
+    elim (p x) as (λ t. length (cond t (x ∷ filter p xs) (filter p xs)) ≤ suc (length xs)) [
+      | true ↦ omega (arith, no_longer p xs)
+      | false ↦ omega (arith, no_longer p xs)
+    ]
 
 all_kept : (p : Dot × Slot → Bool) (items : Items) → AllByRecursion item.Fits items
     → AllByRecursion item.Fits (filter p items)
 all_kept p [] all = tt
-all_kept p (i ∷ more) all = elim (p i) as (λ t. AllByRecursion item.Fits (cond t (i ∷ filter p more) (filter p more))) [
-  | true ↦ (all.0, all_kept p more all.1)
-  | false ↦ all_kept p more all.1
-]
+all_kept p (i ∷ more) all =
+    elim (p i) as (λ t. AllByRecursion item.Fits (cond t (i ∷ filter p more) (filter p more))) [
+      | true ↦ (all.0, all_kept p more all.1)
+      | false ↦ all_kept p more all.1
+    ]
 
 -- items above a dot are above each dot below that
 above_lower : (d e : Dot) (items : Items) → is_lt (dot_cmp d e) ≡ true
@@ -83,7 +91,8 @@ rise_above p d [] rise = refl
 rise_above p d (i ∷ more) rise =
     let r = both_true (is_lt (dot_cmp d i.0)) (ascends (Some i.0) more) rise in
     elim (p i) as (λ t. ascends (Some d) (cond t (i ∷ filter p more) (filter p more)) ≡ true) [
-      | true ↦ joined (is_lt (dot_cmp d i.0)) (ascends (Some i.0) (filter p more)) r.0 (rise_above p i.0 more r.1)
+      | true ↦ joined (is_lt (dot_cmp d i.0)) (ascends (Some i.0) (filter p more)) r.0
+          (rise_above p i.0 more r.1)
       | false ↦ rise_above p d more (above_lower d i.0 more r.0 r.1)
     ]
 
@@ -94,10 +103,11 @@ above_none d (i ∷ more) rise = (both_true (is_lt (dot_cmp d i.0)) (ascends (So
 rise_kept : (p : Dot × Slot → Bool) (items : Items) → ascends None items ≡ true
     → ascends None (filter p items) ≡ true
 rise_kept p [] rise = refl
-rise_kept p (i ∷ more) rise = elim (p i) as (λ t. ascends None (cond t (i ∷ filter p more) (filter p more)) ≡ true) [
-  | true ↦ rise_above p i.0 more rise
-  | false ↦ above_none i.0 (filter p more) (rise_above p i.0 more rise)
-]
+rise_kept p (i ∷ more) rise =
+    elim (p i) as (λ t. ascends None (cond t (i ∷ filter p more) (filter p more)) ≡ true) [
+      | true ↦ rise_above p i.0 more rise
+      | false ↦ above_none i.0 (filter p more) (rise_above p i.0 more rise)
+    ]
 
 small : (n m : ℕ) → n ≤ m → m < 2 ^ 16 → n < 2 ^ 16
 small n m h k = omega (arith, h, k)
@@ -113,7 +123,10 @@ news_fits S b fits =
       (
         horizon_kept S b.items b.horizon fits.0.0,
         (
-          (small (length (filter (counts S) b.items)) (length b.items) short parts.0.0, few (length (filter (counts S) b.items)) (length b.items) short parts.0.1),
+          (
+            small (length (filter (counts S) b.items)) (length b.items) short parts.0.0,
+            few (length (filter (counts S) b.items)) (length b.items) short parts.0.1,
+          ),
           all_kept (counts S) b.items parts.1,
         ),
       ),

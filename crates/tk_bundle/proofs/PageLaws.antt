@@ -84,20 +84,27 @@ newest_append last (f ∷ fs) gs = newest_append (max last (kind_in f.1)) fs gs
 -- the newest kind with the item at one dot more
 pub more_newest : (S : Slots) (dots : List Dot) (i : ℕ) (dot : Dot) (before after : ℕ)
     → i < length dots → dot ≡ get_or dots i dot
-    → before ≡ newest_kind 0 (items_at S (take i dots)) → after ≡ newest_kind before (items_at S (dot ∷ [])) → after ≡ newest_kind 0 (items_at S (take (i + 1) dots))
+    → before ≡ newest_kind 0 (items_at S (take i dots))
+    → after ≡ newest_kind before (items_at S (dot ∷ []))
+    → after ≡ newest_kind 0 (items_at S (take (i + 1) dots))
 more_newest S dots i dot before after within is so_far one =
     one ∙ ap (λ last. newest_kind last (items_at S (dot ∷ []))) so_far
-    ∙ sym (newest_append 0 (items_at S (take i dots)) (items_at S (dot ∷ []))) ∙ ap (newest_kind 0) (items_at-more S dots i dot within is)
+    ∙ sym (newest_append 0 (items_at S (take i dots)) (items_at S (dot ∷ [])))
+    ∙ ap (newest_kind 0) (items_at-more S dots i dot within is)
 
 -- the bytes with the item at one dot more
 pub more_written : (S : Slots) (dots : List Dot) (i : ℕ) (dot : Dot) (old before after : List ℕ)
     → i < length dots → dot ≡ get_or dots i dot
-    → before ≡ old ++ flat_map item.spell (items_at S (take i dots)) → after ≡ before ++ flat_map item.spell (items_at S (dot ∷ []))
+    → before ≡ old ++ flat_map item.spell (items_at S (take i dots))
+    → after ≡ before ++ flat_map item.spell (items_at S (dot ∷ []))
     → after ≡ old ++ flat_map item.spell (items_at S (take (i + 1) dots))
 more_written S dots i dot old before after within is so_far one =
     one ∙ ap (λ bytes. bytes ++ flat_map item.spell (items_at S (dot ∷ []))) so_far
-    ∙ append_assoc old (flat_map item.spell (items_at S (take i dots))) (flat_map item.spell (items_at S (dot ∷ [])))
-    ∙ ap (λ bytes. old ++ bytes) (sym (flat_map-append item.spell (items_at S (take i dots)) (items_at S (dot ∷ []))) ∙ ap (flat_map item.spell) (items_at-more S dots i dot within is))
+    ∙ append_assoc old (flat_map item.spell (items_at S (take i dots)))
+    (flat_map item.spell (items_at S (dot ∷ [])))
+    ∙ ap (λ bytes. old ++ bytes)
+    (sym (flat_map-append item.spell (items_at S (take i dots)) (items_at S (dot ∷ [])))
+    ∙ ap (flat_map item.spell) (items_at-more S dots i dot within is))
 
 -- items of two lists that each have a spelling
 all_append : (fs gs : Items) → AllByRecursion item.Fits fs → AllByRecursion item.Fits gs
@@ -108,13 +115,19 @@ all_append (f ∷ fs) gs a b = (a.0, all_append fs gs a.1 b)
 -- the item at one dot more has a spelling
 pub more_fits : (S : Slots) (dots : List Dot) (i : ℕ) (dot : Dot) → i < length dots
     → dot ≡ get_or dots i dot
-    → AllByRecursion item.Fits (items_at S (take i dots)) → AllByRecursion item.Fits (items_at S (dot ∷ [])) → AllByRecursion item.Fits (items_at S (take (i + 1) dots))
-more_fits S dots i dot within is so_far one = subst (AllByRecursion item.Fits) (items_at-more S dots i dot within is) (all_append (items_at S (take i dots)) (items_at S (dot ∷ [])) so_far one)
+    → AllByRecursion item.Fits (items_at S (take i dots))
+    → AllByRecursion item.Fits (items_at S (dot ∷ []))
+    → AllByRecursion item.Fits (items_at S (take (i + 1) dots))
+more_fits S dots i dot within is so_far one =
+    subst (AllByRecursion item.Fits) (items_at-more S dots i dot within is)
+    (all_append (items_at S (take i dots)) (items_at S (dot ∷ [])) so_far one)
 
 -- the first dots that a vector does not cover are those of the first slots
 pub dots_are : (S : Slots) (v : Vector) (after : Option Dot) (limit : ℕ)
-    → take limit (take (limit + 1) (map dot_of (beyond S v after))) ≡ map dot_of (take limit (beyond S v after))
-dots_are S v after limit = take-take limit (limit + 1) (map dot_of (beyond S v after)) (omega arith) ∙ take-map dot_of limit (beyond S v after)
+    → take limit (take (limit + 1) (map dot_of (beyond S v after)))
+    ≡ map dot_of (take limit (beyond S v after))
+dots_are S v after limit = take-take limit (limit + 1) (map dot_of (beyond S v after)) (omega arith)
+    ∙ take-map dot_of limit (beyond S v after)
 
 all_take : (S : Slots) (n : ℕ) (items : Items) → AllIn S items → AllIn S (take n items)
 all_take S zero items all = tt
@@ -124,12 +137,15 @@ all_take S (suc n) (i ∷ more) all = (all.0, all_take S n more all.1)
 -- the items at the dots of a page are the page's
 page_items : (S : Slots) (v : Vector) (after : Option Dot) (limit : ℕ)
     → items_at S (map dot_of (take limit (beyond S v after))) ≡ take limit (beyond S v after)
-page_items S v after limit = items_at-dots S (take limit (beyond S v after)) (all_take S limit (beyond S v after) (AllIn-beyond S v after))
+page_items S v after limit = items_at-dots S (take limit (beyond S v after))
+    (all_take S limit (beyond S v after) (AllIn-beyond S v after))
 
 -- one dot more than there is room for shows whether more follow
 pub page_more : (fs : Items) (limit : ℕ)
     → nat_lt limit (length (take (limit + 1) (map dot_of fs))) ≡ nat_lt limit (length fs)
-page_more fs limit = ap (nat_lt limit) (length-take (limit + 1) (map dot_of fs) ∙ ap (min (limit + 1)) (length-map fs dot_of)) ∙ same limit (length fs)
+page_more fs limit = ap (nat_lt limit)
+    (length-take (limit + 1) (map dot_of fs) ∙ ap (min (limit + 1)) (length-map fs dot_of))
+    ∙ same limit (length fs)
   where
     same : (m n : ℕ) → nat_lt m (min (m + 1) n) ≡ nat_lt m n
     same m n = grind (arith, nat_tests)
@@ -147,20 +163,29 @@ below-filter : (p : Dot × Slot → Bool) (d : Dot) (es : Items) → T (below_al
 below-filter p d [] h = tt
 below-filter p d (e ∷ es) h =
     let l = both _ _ h in
-    elim (p e) as (λ t. T (below_all dot_cmp d (cond t (e ∷ filter p es) (filter p es)))) [ true ↦ pair _ _ l.0 (below-filter p d es l.1) | false ↦ below-filter p d es l.1 ]
+    elim (p e) as
+    (λ t. T (below_all dot_cmp d (cond t (e ∷ filter p es) (filter p es)))) [
+      | true ↦ pair _ _ l.0 (below-filter p d es l.1)
+      | false ↦ below-filter p d es l.1
+    ]
 
 sorted-take : (n : ℕ) (es : Items) → T (sets.is_sorted dot_cmp es)
     → T (sets.is_sorted dot_cmp (take n es))
 sorted-take zero es h = tt
 sorted-take (suc n) [] h = tt
-sorted-take (suc n) (e ∷ es) h = let p = both _ _ h in pair _ _ (below-take e.0 n es p.0) (sorted-take n es p.1)
+sorted-take (suc n) (e ∷ es) h = let p = both _ _ h in
+    pair _ _ (below-take e.0 n es p.0) (sorted-take n es p.1)
 
 sorted-filter : (p : Dot × Slot → Bool) (es : Items) → T (sets.is_sorted dot_cmp es)
     → T (sets.is_sorted dot_cmp (filter p es))
 sorted-filter p [] h = tt
 sorted-filter p (e ∷ es) h =
     let l = both _ _ h in
-    elim (p e) as (λ t. T (sets.is_sorted dot_cmp (cond t (e ∷ filter p es) (filter p es)))) [ true ↦ pair _ _ (below-filter p e.0 es l.0) (sorted-filter p es l.1) | false ↦ sorted-filter p es l.1 ]
+    elim (p e) as
+    (λ t. T (sets.is_sorted dot_cmp (cond t (e ∷ filter p es) (filter p es)))) [
+      | true ↦ pair _ _ (below-filter p e.0 es l.0) (sorted-filter p es l.1)
+      | false ↦ sorted-filter p es l.1
+    ]
 
 ascends_above : (d : Dot) (es : Items) → T (below_all dot_cmp d es) → T (sets.is_sorted dot_cmp es)
     → ascends (Some d) es ≡ true
@@ -176,18 +201,21 @@ ascends_sorted (e ∷ es) sorted = let s = both _ _ sorted in ascends_above e.0 
 
 -- ---- a page in bytes
 
-pub page_is : (made : Page) (P : StoreFields) (v : Vector) (after : Option Dot) (limit : ℕ) (dots : List Dot) (more : Bool)
+pub page_is : (made : Page) (P : StoreFields) (v : Vector) (after : Option Dot) (limit : ℕ)
+    (dots : List Dot) (more : Bool)
     → dots ≡ map dot_of (take limit (beyond P.slots v after))
     → more ≡ nat_lt limit (length (beyond P.slots v after)) → IsPageAt made P dots more
     → IsPageOf made (page_within limit P v after)
 page_is made P v after limit dots more same follows at =
     let found = take limit (beyond P.slots v after) in
     let count : length dots ≡ length found = ap length same ∙ length-map found dot_of in
-    let items : items_at P.slots dots ≡ found = ap (items_at P.slots) same ∙ page_items P.slots v after limit in
+    let items : items_at P.slots dots ≡ found =
+    ap (items_at P.slots) same ∙ page_items P.slots v after limit in
     record {
       bytes = at.bytes ∙ rw (count, items) refl;
       count = at.count ∙ count;
-      last = at.last ∙ ap last_of same ∙ ap (λ n. slice_get (map dot_of found) (n - 1)) (length-map found dot_of);
+      last = at.last ∙ ap last_of same
+          ∙ ap (λ n. slice_get (map dot_of found) (n - 1)) (length-map found dot_of);
       more = at.more ∙ follows;
     }
 
@@ -208,10 +236,21 @@ pub page_fits : (P : StoreFields) (v : Vector) (after : Option Dot) (limit : ℕ
     → bundle.Fits (page_within limit P v after).bundle
 page_fits P v after limit dots low same horizon fits =
     let found = take limit (beyond P.slots v after) in
-    let items : items_at P.slots dots ≡ found = ap (items_at P.slots) same ∙ page_items P.slots v after limit in
-    let short : length found ≤ max_items = omega (arith, length-take limit (beyond P.slots v after)) in (
-      (horizon_fits P.horizon found horizon, ((small (length found) short, few (length found) short), subst (AllByRecursion item.Fits) items fits)),
-      ascends_sorted found (sorted-take limit (beyond P.slots v after) (sorted-filter (is_beyond v) (above P.slots after) (sorted-filter (is_above after) (sets.entries P.slots) (sets.entries_sorted P.slots)))),
+    let items : items_at P.slots dots ≡ found =
+    ap (items_at P.slots) same ∙ page_items P.slots v after limit in
+    let short : length found ≤ max_items =
+    omega (arith, length-take limit (beyond P.slots v after)) in (
+      (
+        horizon_fits P.horizon found horizon,
+        (
+          (small (length found) short, few (length found) short),
+          subst (AllByRecursion item.Fits) items fits,
+        ),
+      ),
+      ascends_sorted found
+          (sorted-take limit (beyond P.slots v after)
+          (sorted-filter (is_beyond v) (above P.slots after)
+          (sorted-filter (is_above after) (sets.entries P.slots) (sets.entries_sorted P.slots)))),
     )
   where
     small : (n : ℕ) → n ≤ max_items → n < 2 ^ 16
@@ -227,13 +266,15 @@ pub mark_written : (d : Dot) (old mid new : List ℕ) → mid ≡ old ++ number_
     → new ≡ mid ++ dot_field.spell d → new ≡ old ++ item.spell (mark_at d)
 unfolding text_spelling
 mark_written d old mid new size dot =
-    dot ∙ ap (λ bytes. bytes ++ dot_field.spell d) size ∙ append_assoc old (number_spelling w16 dot_size) (dot_field.spell d)
+    dot ∙ ap (λ bytes. bytes ++ dot_field.spell d) size
+    ∙ append_assoc old (number_spelling w16 dot_size) (dot_field.spell d)
     ∙ ap (λ n. old ++ (number_spelling w16 n ++ dot_field.spell d)) (sym (dot_length d))
 
 -- the bundle of one fact has a spelling
 pub single_fits : (f : Dot × Body) → framed.Fits f → bundle.Fits (of_facts (f ∷ []))
 single_fits f fits =
-    let none : has_horizon (version_of (map as_slot (f ∷ []))) ≡ false = horizon_told (map as_slot (f ∷ [])) ∙ facts_told (f ∷ []) in
+    let none : has_horizon (version_of (map as_slot (f ∷ []))) ≡ false =
+    horizon_told (map as_slot (f ∷ [])) ∙ facts_told (f ∷ []) in
     ((none, ((omega arith, refl), (fits, tt))), refl)
 
 -- a fact that a store holds at a dot passes its check

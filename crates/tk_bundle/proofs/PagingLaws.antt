@@ -23,4 +23,5 @@ took v R [] after P h = (h.0, ended _ _ h.1)
 took v R (Q ∷ later) after P h = (h.0, follows _ _ h.1, h.2, took v R later _ Q h.3)
 
 pub complete : PagesComplete
-complete v P R later known pages = store.complete max_items v P.slots R.slots (map slots_of later) (omega arith) known (took v R.slots later None P pages)
+complete v P R later known pages = store.complete max_items v P.slots R.slots (map slots_of later)
+    (omega arith) known (took v R.slots later None P pages)

@@ -7,8 +7,8 @@
 --   bundle          the spelling of a bundle
 --   bundle_bytes    the bytes of a bundle
 --   digit_told      the digit that shows which of three sorts of items are inside
---   VersionsTold    a bundle's first four bytes show whether marks, sign-outs and facts of clients
---                   that keep their refresh tokens are inside
+--   VersionsTold    a bundle's first four bytes show whether marks, sign-outs, and facts of clients
+--                   that keep their refresh tokens or have lives are inside
 use Rattle.std.specs.Prelude.{◌≡◌, ℕ, Bool, true, false, ◌&&◌, nat_le, ◌==◌, List, [], ◌∷◌, ◌++◌}
 use Rattle.std.specs.Prelude.{take}
 use Rattle.std.specs.Prelude.{Option, Some, None, if◌then◌else◌}
@@ -22,7 +22,7 @@ use Rattle.tk_handle.specs.Dot.{dot_cmp}
 use Rattle.tk_handle.specs.Moment.{moment}
 use Rattle.tk_bundle.specs.BundleFields.{BundleFields, Items, is_mark}
 use Rattle.tk_bundle.specs.Items.{item}
-use Rattle.tk_bundle.specs.Versions.{version_of, has_horizon, is_keeping, is_sign_out}
+use Rattle.tk_bundle.specs.Versions.{version_of, has_horizon, is_newer, is_sign_out}
 
 -- the dots of the list rise, and are above the given dot, if one is given
 abbrev pub ascends : Option Dot → Items → Bool
@@ -90,21 +90,21 @@ bundle = only (λ b. ascends None b.items) listed
 abbrev pub bundle_bytes : BundleFields → List ℕ
 bundle_bytes b = bundle.spell b
 
--- the digit by whether facts of clients that keep their refresh tokens, marks, and sign-outs are
--- inside
+-- the digit by whether facts of clients that keep their refresh tokens or have lives, marks, and
+-- sign-outs are inside
 abbrev pub digit_told : Bool → Bool → Bool → ℕ
-digit_told keeping marked out =
-    if keeping then (if marked then 53 else 52)
+digit_told newer marked out =
+    if newer then (if marked then 53 else 52)
     else if marked then 51
     else if out then 50
     else 49
 
--- A bundle in which a client that keeps its refresh token is registered, or has refreshed an access
--- token, begins with OTB5 if one of its items is a mark, otherwise with OTB4. Another bundle begins
--- with OTB3 if one of its items is a mark, otherwise with OTB2 if one is a sign-out, otherwise with
--- OTB1
+-- A bundle with the registration of a client that keeps its refresh token or has lives, or with an
+-- access token that was refreshed for one that keeps it, begins with OTB5 if one of its items is a
+-- mark, otherwise with OTB4. Another bundle begins with OTB3 if one of its items is a mark,
+-- otherwise with OTB2 if one is a sign-out, otherwise with OTB1
 abbrev pub VersionsTold : Type 0
 VersionsTold =
     (b : BundleFields) → take 4 (bundle_bytes b) ≡ magic
-    ++ digit_told (list_any is_keeping b.items) (list_any is_mark b.items)
+    ++ digit_told (list_any is_newer b.items) (list_any is_mark b.items)
     (list_any is_sign_out b.items) ∷ []

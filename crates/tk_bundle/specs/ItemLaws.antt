@@ -20,6 +20,8 @@ use Rattle.tk_handle.specs.DotBytes.{dot_field}
 use Rattle.tk_handle.proofs.FormatLaws.{dot_field_exact}
 use Rattle.tk_fact.specs.declared.body.Body.{Body}
 use Rattle.tk_fact.specs.declared.body.Body.TheVariants as bodies
+use Rattle.tk_fact.specs.declared.client_lives.ClientLives.{ClientLives}
+use Rattle.tk_fact.specs.Kinds.{Terms, terms_of, client_on}
 use Rattle.tk_fact.specs.FactBytes.{kinds, body, fact, max_bytes}
 use Rattle.tk_fact.specs.FactLaws.{fact_exact}
 use Rattle.tk_store.specs.Slots.{Slot, Held, Skipped}
@@ -28,9 +30,17 @@ use Rattle.tk_bundle.specs.Items.{dot_size, item_bytes, HasBytes, mark_at, item_
 
 -- ---- a fact is longer than a dot
 
+-- the body of a client has a byte
+client_long : (t : Terms) (o : Option ClientLives)
+    → 0 < length (body.spell (bodies.ClientAdded (client_on t o)))
+unfolding kinds
+client_long t None = omega arith
+client_long t (Some lives) = omega arith
+
+-- a body has a byte
 body_long : (b : Body) → 0 < length (body.spell b)
 unfolding kinds
-body_long (bodies.ClientAdded f) = omega arith
+body_long (bodies.ClientAdded f) = client_long (terms_of f) f.lives
 body_long (bodies.ClientRetired f) = omega arith
 body_long (bodies.ConsentGiven f) = omega arith
 body_long (bodies.ConsentWithdrawn f) = omega arith

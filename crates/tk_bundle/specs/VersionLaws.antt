@@ -1,13 +1,13 @@
 -- The version of items is in the table, and shows which sorts of items are among them (own). Key
 -- results:
 --   version_known   the version of items is in the table: every kind has a version
---   version_tells   the digit of items, by whether marks, sign-outs and facts of clients that keep
---                   their refresh tokens are among them
+--   version_tells   the digit of items, by whether marks, sign-outs, and facts of clients that keep
+--                   their refresh tokens or have lives are among them
 --   horizon_told    the version of items has a horizon exactly if one of them is a mark
 --   facts_told      no mark is among facts
-use Rattle.std.proofs.Common.{◌≡◌, ℕ, ◌≤◌, Bool, true, false, ◌&&◌, ◌||◌, not, cond, max}
+use Rattle.std.proofs.Common.{◌≡◌, ℕ, ◌≤◌, Bool, true, false, ◌&&◌, ◌||◌, not, max}
 use Rattle.std.proofs.Common.{nat_le}
-use Rattle.std.proofs.Common.{[], ◌∷◌, map, refl, sym, ap, ◌∙◌, arith}
+use Rattle.std.proofs.Common.{[], ◌∷◌, map, Option, Some, None, refl, sym, ap, ◌∙◌, arith}
 use Rattle.std.specs.List.{list_any}
 use Rattle.std.proofs.lemmas.Bool.Decides.{nat_tests}
 use Rattle.std.proofs.Math.Bool.{and-true}
@@ -19,6 +19,7 @@ use Rattle.tk_fact.specs.declared.client_kind.ClientKind.TheVariants.{
   Resource,
   Keeping,
 }
+use Rattle.tk_fact.specs.declared.client_lives.ClientLives.{ClientLives}
 use Rattle.tk_fact.specs.declared.body.Body.{Body}
 use Rattle.tk_fact.specs.declared.body.Body.TheVariants as bodies
 use Rattle.tk_store.specs.FactSet.{Facts}
@@ -26,23 +27,25 @@ use Rattle.tk_store.specs.Slots.{Slot, Held, Skipped}
 use Rattle.tk_store.specs.WholeStores.{as_slot}
 use Rattle.tk_bundle.specs.BundleFields.{Items, is_mark}
 use Rattle.tk_bundle.specs.Bundle.{digit_told}
-use Rattle.tk_bundle.specs.Versions.{keeps, kind_of, kind_in, newest_kind, version_with}
-use Rattle.tk_bundle.specs.Versions.{version_of, is_version, has_horizon, is_keeping, is_sign_out}
+use Rattle.tk_bundle.specs.Versions.{kind_of_client, is_newer_client, kind_of, kind_in, newest_kind}
+use Rattle.tk_bundle.specs.Versions.{version_with}
+use Rattle.tk_bundle.specs.Versions.{version_of, is_version, has_horizon, is_newer, is_sign_out}
 
 -- All kinds are in the table; the kinds up to 10 are those of facts without a client that keeps its
--- refresh token; the kinds up to 9, those of these without sign-outs
-record KindTold (kind : ℕ) (keeping out : Bool) : Type 0 where
-  known : kind ≤ 12
-  up_to_10 : nat_le kind 10 ≡ not keeping
-  up_to_9 : nat_le kind 9 ≡ (not keeping && not out)
+-- refresh token or has lives; the kinds up to 9, those of these without sign-outs
+record KindTold (kind : ℕ) (newer out : Bool) : Type 0 where
+  known : kind ≤ 13
+  up_to_10 : nat_le kind 10 ≡ not newer
+  up_to_9 : nat_le kind 9 ≡ (not newer && not out)
 
 -- the registration of a client
-registered : (kind : ClientKind)
-    → KindTold (cond (keeps kind) 12 1) (keeps kind) false
-registered Public = record { known = omega arith; up_to_10 = refl; up_to_9 = refl }
-registered (Confidential d) = record { known = omega arith; up_to_10 = refl; up_to_9 = refl }
-registered (Resource d) = record { known = omega arith; up_to_10 = refl; up_to_9 = refl }
-registered (Keeping d) = record { known = omega arith; up_to_10 = refl; up_to_9 = refl }
+registered : (kind : ClientKind) (lives : Option ClientLives)
+    → KindTold (kind_of_client kind lives) (is_newer_client kind lives) false
+registered kind (Some lives) = record { known = omega arith; up_to_10 = refl; up_to_9 = refl }
+registered Public None = record { known = omega arith; up_to_10 = refl; up_to_9 = refl }
+registered (Confidential d) None = record { known = omega arith; up_to_10 = refl; up_to_9 = refl }
+registered (Resource d) None = record { known = omega arith; up_to_10 = refl; up_to_9 = refl }
+registered (Keeping d) None = record { known = omega arith; up_to_10 = refl; up_to_9 = refl }
 
 -- a kind that the first version has
 plain : (kind : ℕ) → kind ≤ 9 → KindTold kind false false
@@ -53,8 +56,8 @@ plain kind low = record {
 }
 
 fact_kind : (d : Dot) (b : Body)
-    → KindTold (kind_of b) (is_keeping (d, Held b)) (is_sign_out (d, Held b))
-fact_kind d (bodies.ClientAdded f) = registered f.client_kind
+    → KindTold (kind_of b) (is_newer (d, Held b)) (is_sign_out (d, Held b))
+fact_kind d (bodies.ClientAdded f) = registered f.client_kind f.lives
 fact_kind d (bodies.ClientRetired f) = plain 2 (omega arith)
 fact_kind d (bodies.ConsentGiven f) = plain 3 (omega arith)
 fact_kind d (bodies.ConsentWithdrawn f) = plain 4 (omega arith)
@@ -68,7 +71,7 @@ fact_kind d (bodies.SubjectOut f) =
 fact_kind d (bodies.AccessRefreshed f) =
     record { known = omega arith; up_to_10 = refl; up_to_9 = refl }
 
-kind_told : (i : Dot × Slot) → KindTold (kind_in i.1) (is_keeping i) (is_sign_out i)
+kind_told : (i : Dot × Slot) → KindTold (kind_in i.1) (is_newer i) (is_sign_out i)
 kind_told (d, Held b) = fact_kind d b
 kind_told (d, Skipped) = plain 0 (omega arith)
 
@@ -81,32 +84,33 @@ either true false b = refl
 either false a b = refl
 
 -- the newest kind is in the table
-newest_known : (last : ℕ) (items : Items) → last ≤ 12 → newest_kind last items ≤ 12
+newest_known : (last : ℕ) (items : Items) → last ≤ 13 → newest_kind last items ≤ 13
 newest_known last [] low = low
 newest_known last (i ∷ more) low =
     newest_known (max last (kind_in i.1)) more (omega (arith, (kind_told i).known))
 
--- the newest kind is at most 10 exactly if no item is of a client that keeps its refresh token
-newest_keeping : (last : ℕ) (items : Items)
-    → nat_le (newest_kind last items) 10 ≡ (nat_le last 10 && not (list_any is_keeping items))
-newest_keeping last [] = sym (and-true (nat_le last 10))
-newest_keeping last (i ∷ more) =
-    newest_keeping (max last (kind_in i.1)) more
-    ∙ ap (λ t. t && not (list_any is_keeping more)) (greater 10 last (kind_in i.1))
-    ∙ ap (λ t. (nat_le last 10 && t) && not (list_any is_keeping more)) (kind_told i).up_to_10
-    ∙ either (nat_le last 10) (is_keeping i) (list_any is_keeping more)
+-- the newest kind is at most 10 exactly if no item is of a client that keeps its refresh token or
+-- has lives
+newest_newer : (last : ℕ) (items : Items)
+    → nat_le (newest_kind last items) 10 ≡ (nat_le last 10 && not (list_any is_newer items))
+newest_newer last [] = sym (and-true (nat_le last 10))
+newest_newer last (i ∷ more) =
+    newest_newer (max last (kind_in i.1)) more
+    ∙ ap (λ t. t && not (list_any is_newer more)) (greater 10 last (kind_in i.1))
+    ∙ ap (λ t. (nat_le last 10 && t) && not (list_any is_newer more)) (kind_told i).up_to_10
+    ∙ either (nat_le last 10) (is_newer i) (list_any is_newer more)
 
 -- the newest kind is at most 9 exactly if no item is of such a client or a sign-out
 newest_told : (last : ℕ) (items : Items) → nat_le (newest_kind last items) 9
-    ≡ (nat_le last 9 && (not (list_any is_keeping items) && not (list_any is_sign_out items)))
+    ≡ (nat_le last 9 && (not (list_any is_newer items) && not (list_any is_sign_out items)))
 newest_told last [] = sym (and-true (nat_le last 9))
 newest_told last (i ∷ more) =
     newest_told (max last (kind_in i.1)) more
-    ∙ ap (λ t. t && (not (list_any is_keeping more) && not (list_any is_sign_out more)))
+    ∙ ap (λ t. t && (not (list_any is_newer more) && not (list_any is_sign_out more)))
     (greater 9 last (kind_in i.1))
-    ∙ ap (λ t. (nat_le last 9 && t) && (not (list_any is_keeping more)
+    ∙ ap (λ t. (nat_le last 9 && t) && (not (list_any is_newer more)
     && not (list_any is_sign_out more))) (kind_told i).up_to_9
-    ∙ sorted (nat_le last 9) (is_keeping i) (is_sign_out i) (list_any is_keeping more)
+    ∙ sorted (nat_le last 9) (is_newer i) (is_sign_out i) (list_any is_newer more)
     (list_any is_sign_out more)
   where
     sorted : (low a o b p : Bool) → ((low && (not a && not o)) && (not b && not p))
@@ -118,9 +122,9 @@ newest_told last (i ∷ more) =
     sorted false a o b p = refl
 
 -- the digit by the newest kind, and by whether there are marks
-by_kind : (kind : ℕ) (keeping marked out : Bool) → kind ≤ 12 → nat_le kind 10 ≡ not keeping
-    → nat_le kind 9 ≡ (not keeping && not out)
-    → version_with kind marked ≡ digit_told keeping marked out
+by_kind : (kind : ℕ) (newer marked out : Bool) → kind ≤ 13 → nat_le kind 10 ≡ not newer
+    → nat_le kind 9 ≡ (not newer && not out)
+    → version_with kind marked ≡ digit_told newer marked out
 by_kind kind true true out low k o = grind (arith, nat_tests)
 by_kind kind true false out low k o = grind (arith, nat_tests)
 by_kind kind false true true low k o = grind (arith, nat_tests)
@@ -130,10 +134,10 @@ by_kind kind false false false low k o = grind (arith, nat_tests)
 
 -- the digit of items, by which sorts of items are among them
 pub version_tells : (items : Items) → version_of items
-    ≡ digit_told (list_any is_keeping items) (list_any is_mark items) (list_any is_sign_out items)
+    ≡ digit_told (list_any is_newer items) (list_any is_mark items) (list_any is_sign_out items)
 version_tells items =
-    by_kind (newest_kind 0 items) (list_any is_keeping items) (list_any is_mark items)
-    (list_any is_sign_out items) (newest_known 0 items (omega arith)) (newest_keeping 0 items)
+    by_kind (newest_kind 0 items) (list_any is_newer items) (list_any is_mark items)
+    (list_any is_sign_out items) (newest_known 0 items (omega arith)) (newest_newer 0 items)
     (newest_told 0 items)
 
 -- the version of items is in the table
@@ -141,9 +145,9 @@ pub version_known : (items : Items) → is_version (version_of items) ≡ true
 unfolding is_version
 version_known items =
     ap is_version (version_tells items)
-    ∙ known (list_any is_keeping items) (list_any is_mark items) (list_any is_sign_out items)
+    ∙ known (list_any is_newer items) (list_any is_mark items) (list_any is_sign_out items)
   where
-    known : (keeping marked out : Bool) → is_version (digit_told keeping marked out) ≡ true
+    known : (newer marked out : Bool) → is_version (digit_told newer marked out) ≡ true
     known true true out = refl
     known true false out = refl
     known false true out = refl
@@ -155,9 +159,9 @@ pub horizon_told : (items : Items) → has_horizon (version_of items) ≡ list_a
 unfolding has_horizon
 horizon_told items =
     ap has_horizon (version_tells items)
-    ∙ told (list_any is_keeping items) (list_any is_mark items) (list_any is_sign_out items)
+    ∙ told (list_any is_newer items) (list_any is_mark items) (list_any is_sign_out items)
   where
-    told : (keeping marked out : Bool) → has_horizon (digit_told keeping marked out) ≡ marked
+    told : (newer marked out : Bool) → has_horizon (digit_told newer marked out) ≡ marked
     told true true out = refl
     told true false out = refl
     told false true out = refl

@@ -1,6 +1,5 @@
 -- The versions of a bundle's bytes (own): which kinds of facts each has, and whether it has marks.
 --   versions       the table, one row a version
---   keeps          a client keeps its refresh token
 --   kind_of        the number of the kind that a version must have for a body
 --   newest_kind    the greatest number of a kind that the facts among items need
 --   version_with   the digit of the first version that has the kinds up to a number, and marks
@@ -8,18 +7,14 @@
 --   is_version     a digit is that of a version
 --   has_horizon    a version has marks, and so a horizon
 --   is_sign_out    an item is a sign-out
---   is_keeping     an item is of a client that keeps its refresh token
+--   is_newer       an item is of a client that keeps its refresh token, or has lives
 use Rattle.std.specs.Prelude.{ℕ, max, Bool, true, false, ◌&&◌, ◌||◌, not, nat_le, ◌==◌}
-use Rattle.std.specs.Prelude.{List, [], ◌∷◌, if◌then◌else◌}
+use Rattle.std.specs.Prelude.{List, [], ◌∷◌, Option, Some, None, if◌then◌else◌}
 use Rattle.std.specs.List.{list_any}
 use Rattle.tk_handle.specs.declared.dot.Dot.{Dot}
 use Rattle.tk_fact.specs.declared.client_kind.ClientKind.{ClientKind}
-use Rattle.tk_fact.specs.declared.client_kind.ClientKind.TheVariants.{
-  Public,
-  Confidential,
-  Resource,
-  Keeping,
-}
+use Rattle.tk_fact.specs.declared.client_lives.ClientLives.{ClientLives}
+use Rattle.tk_fact.specs.ClientKinds.{keeps_refresh}
 use Rattle.tk_fact.specs.declared.body.Body.{Body}
 use Rattle.tk_fact.specs.declared.body.Body.TheVariants as bodies
 use Rattle.tk_store.specs.Slots.{Slot, Held, Skipped}
@@ -35,22 +30,21 @@ versions =
     record { digit = 49; kinds = 9; marks = false }
     ∷ record { digit = 50; kinds = 10; marks = false }
     ∷ record { digit = 51; kinds = 10; marks = true }
-    ∷ record { digit = 52; kinds = 12; marks = false }
-    ∷ record { digit = 53; kinds = 12; marks = true }
+    ∷ record { digit = 52; kinds = 13; marks = false }
+    ∷ record { digit = 53; kinds = 13; marks = true }
     ∷ []
 
--- a client of this kind keeps its refresh token
-abbrev pub keeps : ClientKind → Bool
-keeps Public = false
-keeps (Confidential digest) = false
-keeps (Resource digest) = false
-keeps (Keeping digest) = true
+-- The number of the kind that a version must have for a client: that of clients with lives; that of
+-- refreshed access tokens for a client that keeps its refresh token, since a build that does not
+-- know this kind does not know such clients; otherwise that of clients without lives
+abbrev pub kind_of_client : ClientKind → Option ClientLives → ℕ
+kind_of_client client_kind (Some lives) = 13
+kind_of_client client_kind None = if keeps_refresh client_kind then 12 else 1
 
--- The number of the kind that a version must have for a body: the body's own, or that of refreshed
--- access tokens for the registration of a client that keeps its refresh token. A build that does
--- not know this kind does not know such clients
+-- the number of the kind that a version must have for a body: that of the client that it adds, or
+-- else the body's own
 abbrev pub kind_of : Body → ℕ
-kind_of (bodies.ClientAdded f) = if keeps f.client_kind then 12 else 1
+kind_of (bodies.ClientAdded f) = kind_of_client f.client_kind f.lives
 kind_of (bodies.ClientRetired f) = 2
 kind_of (bodies.ConsentGiven f) = 3
 kind_of (bodies.ConsentWithdrawn f) = 4
@@ -105,10 +99,15 @@ is_sign_out (d, Held (bodies.SubjectOut out)) = true
 is_sign_out (d, Held b) = false
 is_sign_out (d, Skipped) = false
 
--- the item is of a client that keeps its refresh token: its registration, or an access token that
--- it refreshed
-abbrev pub is_keeping : Dot × Slot → Bool
-is_keeping (d, Held (bodies.ClientAdded f)) = keeps f.client_kind
-is_keeping (d, Held (bodies.AccessRefreshed f)) = true
-is_keeping (d, Held b) = false
-is_keeping (d, Skipped) = false
+-- the client keeps its refresh token, or has lives
+abbrev pub is_newer_client : ClientKind → Option ClientLives → Bool
+is_newer_client client_kind (Some lives) = true
+is_newer_client client_kind None = keeps_refresh client_kind
+
+-- the item is of a client that keeps its refresh token, or has lives: its registration, or an
+-- access token that it refreshed
+abbrev pub is_newer : Dot × Slot → Bool
+is_newer (d, Held (bodies.ClientAdded f)) = is_newer_client f.client_kind f.lives
+is_newer (d, Held (bodies.AccessRefreshed f)) = true
+is_newer (d, Held b) = false
+is_newer (d, Skipped) = false

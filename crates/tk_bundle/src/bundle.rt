@@ -154,10 +154,12 @@ pub fn none_begins_another()
         → bundle_bytes a ++ rest ≡ bundle_bytes b → (a ≡ b) × (rest ≡ []) }
 {}
 
-/// States a law: a bundle in which a client that keeps its refresh token is registered, or has
-/// refreshed an access token, begins with `OTB5` if one of its items is a mark, otherwise with
-/// `OTB4`. Another bundle begins with `OTB3` if one of its items is a mark, otherwise with `OTB2`
-/// if one is a sign-out, otherwise with `OTB1`.
+/// States a law: the first four bytes of a bundle show which sorts of items are inside.
+///
+/// A bundle with the registration of a client that keeps its refresh token or has lives, or with an
+/// access token that was refreshed for one that keeps it, begins with `OTB5` if one of its items is
+/// a mark, otherwise with `OTB4`. Another bundle begins with `OTB3` if one of its items is a mark,
+/// otherwise with `OTB2` if one is a sign-out, otherwise with `OTB1`.
 pub fn versions_told()
     ensures { VersionsTold }
 {}

@@ -13,7 +13,8 @@
 //!
 //! A bundle has the first version that has all of its items: `OTB1`, `OTB2` if a sign-out is among
 //! them, `OTB3` if a mark is, `OTB4` if the registration of a client that keeps its refresh token
-//! is, or an access token that it refreshed, and `OTB5` if a mark is too (`versions_told`).
+//! or has lives is, or an access token that was refreshed for one that keeps it, and `OTB5` if a
+//! mark is too (`versions_told`).
 //!
 //! In reading order: `Version`, `Item`, `Page`, `make`, `single`, `Bundle`, `read_front`. Of
 //! `specs/`: `BundleFields`, `Versions`, `Items`, `Bundle`, `Page`, `Paging`, `Front`.

@@ -31,12 +31,12 @@ const VERSIONS: [Version; 5] = [
     },
     Version {
         digit: b'4',
-        kinds: 12,
+        kinds: 13,
         marks: false,
     },
     Version {
         digit: b'5',
-        kinds: 12,
+        kinds: 13,
         marks: true,
     },
 ];
@@ -48,28 +48,32 @@ ghost use Rattle.tk_bundle.specs.BundleFields.{is_mark};
 ghost use Rattle.tk_bundle.specs.Versions as spec;
 
 use crate::item::{Item, is_mark};
-use tk_fact::{Body, ClientKind};
+use tk_fact::{Body, ClientAdded};
 use tk_store::SlotRef;
 
-// Returns whether a client of this kind keeps its refresh token.
-fn keeps(client_kind: &ClientKind) -> bool
-    ensures { result ≡ spec.keeps client_kind.now }
+// Returns the number of the kind that a version must have for a client.
+fn kind_of_client(client: &ClientAdded) -> u8
+    ensures { result ≡ spec.kind_of_client client.now.client_kind client.now.lives }
 {
-    match client_kind {
-        ClientKind::Public => false,
-        ClientKind::Confidential(_) => false,
-        ClientKind::Resource(_) => false,
-        ClientKind::Keeping(_) => true,
+    match client.lives {
+        Some(_) => 13,
+        None => {
+            if client.client_kind.keeps_refresh() {
+                12
+            } else {
+                1
+            }
+        }
     }
 }
 
-// Returns the number of the kind that a version must have for a body: the body's own, or that of
-// refreshed access tokens for the registration of a client that keeps its refresh token.
+// Returns the number of the kind that a version must have for a body: that of the client that it
+// adds, or else the body's own.
 pub(crate) fn kind_of(body: &Body) -> u8
     ensures { result ≡ spec.kind_of body.now }
 {
     match body {
-        Body::ClientAdded(client) => { if keeps(&client.client_kind) { 12 } else { 1 } }
+        Body::ClientAdded(client) => kind_of_client(client),
         Body::ClientRetired(_) => 2,
         Body::ConsentGiven(_) => 3,
         Body::ConsentWithdrawn(_) => 4,

@@ -7,7 +7,8 @@ use Rattle.tk_format.specs.Format.{Format}
 use Rattle.tk_format.specs.Reading.{Gets}
 
 -- if the format reads nothing, a reader may return any error
-pub none_by : {X A : Type 0} (view : X → A) (f : Format A) (r : Result X ReadError) (Q : ReadError → Type 0) (old new : List ℕ)
+pub none_by : {X A : Type 0} (view : X → A) (f : Format A) (r : Result X ReadError)
+    (Q : ReadError → Type 0) (old new : List ℕ)
     → IsErrAnd r Q → f.read old ≡ None → Gets view f r old new
 none_by view f (Ok x) Q old new is h = absurd is
 none_by view f (Err Malformed) Q old new is h = h

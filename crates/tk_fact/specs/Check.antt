@@ -8,6 +8,7 @@ use Rattle.tk_match.specs.Challenge.{ChallengeFields, is_verifier}
 use Rattle.tk_match.specs.Redirects.{is_uri}
 use Rattle.tk_fact.specs.declared.body.Body.{Body}
 use Rattle.tk_fact.specs.declared.body.Body.TheVariants as bodies
+use Rattle.tk_fact.specs.declared.client_lives.ClientLives.{ClientLives}
 use Rattle.tk_fact.specs.declared.check.FactError.{FactError}
 use Rattle.tk_fact.specs.declared.minted_token.MintedToken.{MintedToken}
 use Rattle.tk_fact.specs.Subject.{is_subject}
@@ -33,6 +34,29 @@ max_generations = 10000
 abbrev pub is_generation : ℕ → Bool
 is_generation n = nat_le 1 n && nat_le n max_generations
 
+-- a life: 1 second to the longest
+abbrev pub is_life : ℕ → ℕ → Bool
+is_life longest life = nat_le 1 life && nat_le life longest
+
+-- the longest life of an access token in seconds: a day (own)
+abbrev pub max_access_life : ℕ
+max_access_life = 86400
+
+-- the longest life of a refresh token in seconds: a year (own)
+abbrev pub max_refresh_life : ℕ
+max_refresh_life = 31536000
+
+-- the longest life of a family in seconds: ten years (own)
+abbrev pub max_family_life : ℕ
+max_family_life = 315360000
+
+-- no lives, or lives each of which is in range
+abbrev pub are_lives : Option ClientLives → Bool
+are_lives None = true
+are_lives (Some lives) =
+    is_life max_access_life lives.access && is_life max_refresh_life lives.refresh
+    && is_life max_family_life lives.family
+
 -- a kind of token that can be revoked: access or refresh, not a code (RFC 7009, 2)
 abbrev pub is_revocable : Kind → Bool
 is_revocable Code = false
@@ -55,9 +79,10 @@ first_broken limits ranges =
 
 -- the first rule that a body breaks, if any. The limits: each subject, redirection URI and
 -- challenge is within its length and its alphabet. The ranges: no expiry, nor the end of a family,
--- is before its start, and each generation and kind of token is within its range
+-- is before its start, and each life, generation and kind of token is within its range
 abbrev pub refusal_of : Body → Option FactError
-refusal_of (bodies.ClientAdded fact) = first_broken (list_all is_uri fact.redirects) true
+refusal_of (bodies.ClientAdded fact) =
+    first_broken (list_all is_uri fact.redirects) (are_lives fact.lives)
 refusal_of (bodies.ClientRetired fact) = None
 refusal_of (bodies.ConsentGiven fact) = first_broken (is_subject fact.subject) true
 refusal_of (bodies.ConsentWithdrawn fact) = None

@@ -1,29 +1,52 @@
 -- The law of each kind of fact, of a fact and of a framed fact: a value that is read is spelled by
 -- the bytes taken, and a spelling is read as its value.
-use Rattle.std.proofs.Common.{refl}
+use Rattle.std.proofs.Common.{◌≡◌, Option, Some, None, refl, sym, ap, ◌∙◌}
+use Rattle.std.proofs.lemmas.Option.{none-some}
 use Rattle.tk_format.specs.Format.{◌and_then◌}
-use Rattle.tk_format.specs.Exact.{IsExact}
+use Rattle.tk_format.specs.Exact.{IsExact, some_is}
 use Rattle.tk_format.specs.NumberLaws.{u16_exact}
 use Rattle.tk_format.specs.Laws.{both_exact, only_exact, shaped_exact, sized_exact}
 use Rattle.tk_format.specs.KindLaws.{kind_exact, no_kind_exact, its, not_its}
 use Rattle.tk_handle.proofs.FormatLaws.{dot_field_exact, moment_exact, token_exact}
 use Rattle.tk_fact.specs.declared.body.Body.TheVariants as bodies
+use Rattle.tk_fact.specs.declared.client_added.ClientAdded.{ClientAdded}
+use Rattle.tk_fact.specs.declared.client_lives.ClientLives.{ClientLives}
 use Rattle.tk_fact.specs.Kinds as fields
 use Rattle.tk_fact.specs.FactBytes.{kinds, body, passes, fact, max_bytes, framed}
 use Rattle.tk_fact.specs.FieldLaws.{
   digest_exact,
   client_kind_exact,
+  lives_exact,
   scope_exact,
   subject_exact,
   uri_exact,
 }
 use Rattle.tk_fact.specs.FieldLaws.{redirects_exact, flag_exact, challenge_exact, minted_exact}
 
--- the law of the fields of ClientAdded
-client_added_exact : IsExact fields.client_added
-client_added_exact =
-    shaped_exact _ _ _ (both_exact _ _ client_kind_exact (both_exact _ _ scope_exact redirects_exact))
-    (λ _. refl) (λ _. refl)
+-- the law of the fields of ClientAdded without lives
+client_terms_exact : IsExact fields.client_terms
+client_terms_exact = both_exact _ _ client_kind_exact (both_exact _ _ scope_exact redirects_exact)
+
+-- the law of the fields of ClientAdded with lives
+limited_terms_exact : IsExact fields.limited_terms
+limited_terms_exact = both_exact _ _ client_terms_exact lives_exact
+
+-- a client with the terms of one without lives is that one
+unlimited_back : (f : ClientAdded) (o : Option ClientLives) → f.lives ≡ o → (a : fields.Terms)
+    → fields.if_unlimited (fields.terms_of f) o ≡ Some a → fields.unlimited a ≡ f
+unlimited_back f None has a h =
+    ap fields.unlimited (sym (some_is (fields.terms_of f) a h))
+    ∙ ap (λ o. fields.client_on (fields.terms_of f) o) (sym has)
+unlimited_back f (Some lives) has a h = absurd (none-some a h)
+
+-- a client with the terms and the lives of another is that one
+limited_back : (f : ClientAdded) (o : Option ClientLives) → f.lives ≡ o
+    → (a : fields.Terms × ClientLives)
+    → fields.if_limited (fields.terms_of f) o ≡ Some a → fields.limited a ≡ f
+limited_back f None has a h = absurd (none-some a h)
+limited_back f (Some lives) has a h =
+    ap fields.limited (sym (some_is (fields.terms_of f, lives) a h))
+    ∙ ap (λ o. fields.client_on (fields.terms_of f) o) (sym has)
 
 -- the law of the fields of ClientRetired
 client_retired_exact : IsExact fields.client_retired
@@ -90,7 +113,11 @@ access_refreshed_exact =
 body_exact : IsExact body
 unfolding kinds
 body_exact =
-    kind_exact _ _ client_added_exact (elim [ bodies.ClientAdded f ↦ its _ f | b ↦ not_its _ b ])
+    kind_exact _ _ client_terms_exact
+    (elim [
+      | bodies.ClientAdded f ↦ λ a h. ap bodies.ClientAdded (unlimited_back f f.lives refl a h)
+      | b ↦ not_its _ b
+    ])
     (λ a. refl) (λ a h. h) (λ bytes. refl)
     and_then kind_exact _ _ client_retired_exact
     (elim [ bodies.ClientRetired f ↦ its _ f | b ↦ not_its _ b ]) (λ a. refl) (λ a h. h)
@@ -122,6 +149,12 @@ body_exact =
     and_then kind_exact _ _ access_refreshed_exact
     (elim [ bodies.AccessRefreshed f ↦ its _ f | b ↦ not_its _ b ]) (λ a. refl) (λ a h. h)
     (λ bytes. refl)
+    and_then kind_exact _ _ limited_terms_exact
+    (elim [
+      | bodies.ClientAdded f ↦ λ a h. ap bodies.ClientAdded (limited_back f f.lives refl a h)
+      | b ↦ not_its _ b
+    ])
+    (λ a. refl) (λ a h. h) (λ bytes. refl)
     and_then no_kind_exact
 
 -- the law of the format of facts

@@ -10,7 +10,7 @@ use borrow.Author.Tests.{leb-true}
 use Rattle.std.proofs.lemmas.Bool.{ltb-false}
 use Rattle.tk_format.specs.Format.{Format, via, text, ◌and_then◌}
 use Rattle.tk_format.specs.Exact.{IsBytes, Takes, IsExact, bind_some, chosen_some, some_is}
-use Rattle.tk_format.specs.NumberLaws.{byte_exact, bytes_exact, nothing_exact}
+use Rattle.tk_format.specs.NumberLaws.{byte_exact, bytes_exact, nothing_exact, u64_exact}
 use Rattle.tk_format.specs.Laws.{text_exact, both_exact, only_exact, shaped_exact, partly_exact}
 use Rattle.tk_format.specs.Laws.{counted_exact}
 use Rattle.tk_format.specs.CaseLaws.{Follows, coded_exact, choice_exact, via_takes, via_again}
@@ -35,6 +35,7 @@ use Rattle.tk_fact.specs.Fields.{
   digest_field,
   client_kinds,
   client_kind_field,
+  lives_field,
   printed_scope_of,
   scope_field,
 }
@@ -104,6 +105,12 @@ client_kind_exact =
     (λ a. refl) (λ a h. h) (λ bytes. refl)
     and_then no_kind_exact
 
+-- the law of the field of a client's lives
+pub lives_exact : IsExact lives_field
+lives_exact =
+    shaped_exact _ _ _ (both_exact _ _ u64_exact (both_exact _ _ u64_exact u64_exact)) (λ _. refl)
+    (λ _. refl)
+
 -- ---- scopes
 
 -- a scope that was read from its printed form has that form
@@ -145,7 +152,8 @@ kept_list uris h = by_rules (length uris == 0) (nat_lt max_uris (length uris))
   where
     by_rules : (empty many all : Bool)
         → cond empty (Some RedirectError.Empty)
-        (cond many (Some RedirectError.TooMany) (cond all None (Some RedirectError.Malformed))) ≡ None
+        (cond many (Some RedirectError.TooMany) (cond all None (Some RedirectError.Malformed)))
+        ≡ None
         → (many ≡ false) × (all ≡ true)
     by_rules true many all h = absurd cc
     by_rules false true all h = absurd cc

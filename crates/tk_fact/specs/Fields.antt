@@ -1,6 +1,7 @@
 -- The fields of facts in bytes (own).
 --   digest_field      a SHA-256 digest
 --   client_kind_field        a client kind, with the digest of the client's secret
+--   lives_field       the lives that a client was registered with
 --   scope_field       a scope, by its printed form
 --   subject_field     a subject, by its name
 --   uri_field         a redirection URI
@@ -10,10 +11,11 @@
 --   minted_field      an access or refresh token that a fact mints
 use Rattle.std.specs.Prelude.{ℕ, Bool, true, false, ◌==◌, List, [], Option, Some, None}
 use Rattle.std.specs.Prelude.{if◌then◌else◌}
+use Rattle.std.specs.Int.{w64}
 use Rattle.std.specs.Str.{bytes_eq}
 use Rattle.tk_format.specs.Format.{◌>>=◌, Format, ◌⊗◌, byte, bytes_of, text, only, shaped, partly}
 use Rattle.tk_format.specs.Format.{counted, coded, choice, via, nothing, Kinds, kind, no_kind}
-use Rattle.tk_format.specs.Format.{◌and_then◌, one_of}
+use Rattle.tk_format.specs.Format.{◌and_then◌, one_of, number}
 use Rattle.tk_scope.specs.Scope.{scope_of}
 use Rattle.tk_match.specs.Redirects.{is_uri, redirects_of}
 use Rattle.tk_match.specs.Challenge.{ChallengeFields, is_verifier}
@@ -25,6 +27,7 @@ use Rattle.tk_fact.specs.declared.client_kind.ClientKind.TheVariants.{
   Resource,
   Keeping,
 }
+use Rattle.tk_fact.specs.declared.client_lives.ClientLives.{ClientLives}
 use Rattle.tk_fact.specs.declared.minted_token.MintedToken.{MintedToken}
 use Rattle.tk_fact.specs.Subject.{is_subject}
 
@@ -48,6 +51,15 @@ client_kinds =
 -- a client kind: a byte, and behind it the digest of the secret, except for a public client
 abbrev pub client_kind_field : Format ClientKind
 client_kind_field = one_of client_kinds
+
+-- the lives that a client was registered with, in seconds: of an access token, of a refresh token,
+-- of a family
+abbrev pub lives_field : Format ClientLives
+lives_field = shaped
+    (λ (access, (refresh, family)).
+    record { access = access; refresh = refresh; family = family })
+    (λ l. (l.access, (l.refresh, l.family)))
+    (number w64 ⊗ (number w64 ⊗ number w64))
 
 -- ---- scopes, subjects and redirection URIs
 

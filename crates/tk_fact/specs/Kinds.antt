@@ -1,6 +1,6 @@
 -- The fields of each kind of fact, in the order in which they are spelled (own). Facts that were
 -- written keep this order, so it never changes.
-use Rattle.std.specs.Prelude.{ℕ, Bool, List, Option}
+use Rattle.std.specs.Prelude.{ℕ, Bool, List, ◌++◌, Option, Some, None}
 use Rattle.std.specs.Int.{w16}
 use Rattle.tk_format.specs.Format.{Format, ◌⊗◌, number, shaped}
 use Rattle.tk_handle.specs.declared.dot.Dot.{Dot}
@@ -11,11 +11,14 @@ use Rattle.tk_match.specs.Challenge.{ChallengeFields}
 use Rattle.tk_fact.specs.Fields.{
   digest_field,
   client_kind_field,
+  lives_field,
   scope_field,
   subject_field,
   uri_field,
 }
 use Rattle.tk_fact.specs.Fields.{redirects_field, flag_field, challenge_field, minted_field}
+use Rattle.tk_fact.specs.declared.client_kind.ClientKind.{ClientKind}
+use Rattle.tk_fact.specs.declared.client_lives.ClientLives.{ClientLives}
 use Rattle.tk_fact.specs.declared.client_added.ClientAdded.{ClientAdded}
 use Rattle.tk_fact.specs.declared.client_retired.ClientRetired.{ClientRetired}
 use Rattle.tk_fact.specs.declared.consent_given.ConsentGiven.{ConsentGiven}
@@ -28,16 +31,66 @@ use Rattle.tk_fact.specs.declared.reuse_seen.ReuseSeen.{ReuseSeen}
 use Rattle.tk_fact.specs.declared.subject_out.SubjectOut.{SubjectOut}
 use Rattle.tk_fact.specs.declared.access_refreshed.AccessRefreshed.{AccessRefreshed}
 
--- ClientAdded: the client kind, the scope, the redirection URIs
-abbrev pub client_added : Format ClientAdded
-client_added = shaped
-    (λ (client_kind, (scope, redirects)). record {
-      client_kind = client_kind;
-      scope = scope;
-      redirects = redirects;
-    })
-    (λ f. (f.client_kind, (f.scope, f.redirects)))
-    (client_kind_field ⊗ (scope_field ⊗ redirects_field))
+-- the terms of a client: its kind, its scope, its redirection URIs
+abbrev pub Terms : Type 0
+Terms = ClientKind × (List ℕ × List (List ℕ))
+
+-- the terms of a client that was registered
+abbrev pub terms_of : ClientAdded → Terms
+terms_of f = (f.client_kind, (f.scope, f.redirects))
+
+-- a client on these terms, without lives or with them
+abbrev pub client_on : Terms → Option ClientLives → ClientAdded
+client_on (client_kind, (scope, redirects)) lives = record {
+  client_kind = client_kind;
+  scope = scope;
+  redirects = redirects;
+  lives = lives;
+}
+
+-- ClientAdded without lives: the terms
+abbrev pub client_terms : Format Terms
+client_terms = client_kind_field ⊗ (scope_field ⊗ redirects_field)
+
+-- ClientAdded with lives: the terms, the lives
+abbrev pub limited_terms : Format (Terms × ClientLives)
+limited_terms = client_terms ⊗ lives_field
+
+-- a client without lives, on the terms
+abbrev pub unlimited : Terms → ClientAdded
+unlimited terms = client_on terms None
+
+-- a client with lives
+abbrev pub limited : Terms × ClientLives → ClientAdded
+limited (terms, lives) = client_on terms (Some lives)
+
+-- the terms of a client, if it has no lives
+abbrev pub if_unlimited : Terms → Option ClientLives → Option Terms
+if_unlimited terms None = Some terms
+if_unlimited terms (Some lives) = None
+
+-- the terms and the lives of a client, if it has lives
+abbrev pub if_limited : Terms → Option ClientLives → Option (Terms × ClientLives)
+if_limited terms None = None
+if_limited terms (Some lives) = Some (terms, lives)
+
+-- the bytes of a client's fields: the terms, and the lives if it has any
+abbrev pub bytes_with : List ℕ → Option ClientLives → List ℕ
+bytes_with terms None = terms
+bytes_with terms (Some lives) = terms ++ lives_field.spell lives
+
+-- the fields of a client in bytes
+abbrev pub client_bytes : ClientAdded → List ℕ
+client_bytes f = bytes_with (client_terms.spell (terms_of f)) f.lives
+
+-- the lives of a client, if it has any, have a spelling
+abbrev pub LivesFit : Option ClientLives → Type 0
+LivesFit None = Unit {0}
+LivesFit (Some lives) = lives_field.Fits lives
+
+-- the fields of a client have a spelling
+abbrev pub ClientFits : ClientAdded → Type 0
+ClientFits f = client_terms.Fits (terms_of f) × LivesFit f.lives
 
 -- ClientRetired: the dot of the client
 abbrev pub client_retired : Format ClientRetired

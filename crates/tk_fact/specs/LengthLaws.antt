@@ -28,6 +28,7 @@ use Rattle.tk_fact.specs.declared.client_kind.ClientKind.TheVariants.{
   Resource,
   Keeping,
 }
+use Rattle.tk_fact.specs.declared.client_lives.ClientLives.{ClientLives}
 use Rattle.tk_fact.specs.declared.minted_token.MintedToken.{MintedToken}
 use Rattle.tk_fact.specs.declared.body.Body.{Body}
 use Rattle.tk_fact.specs.declared.body.Body.TheVariants as bodies
@@ -35,11 +36,13 @@ use Rattle.tk_fact.specs.Subject.{max_subject_bytes}
 use Rattle.tk_fact.specs.Fields.{
   client_kinds,
   client_kind_field,
+  lives_field,
   scope_field,
   redirects_field,
   ChallengeFits,
 }
 use Rattle.tk_fact.specs.Fields.{challenge_field, minted_field}
+use Rattle.tk_fact.specs.Kinds as fields
 use Rattle.tk_fact.specs.FactBytes.{kinds, body, fact, max_bytes, framed}
 use Rattle.tk_fact.specs.FieldLaws.{both_true, kept_list, few, subject_short, uri_short}
 use Rattle.tk_fact.specs.FieldLaws.{redirects_keep, verifier_short}
@@ -100,7 +103,8 @@ redirects_short us fits =
 -- the field of a minted token has at most 1,066 bytes
 minted_short : (m : MintedToken) → minted_field.Fits m → length (minted_field.spell m) ≤ 1066
 minted_short m fits =
-    both_short m.digest (moment.spell m.expiry ++ text.spell m.scope) 32 1034 (omega (arith, fits.0))
+    both_short m.digest (moment.spell m.expiry ++ text.spell m.scope) 32 1034
+    (omega (arith, fits.0))
     (both_short (moment.spell m.expiry) (text.spell m.scope) 8 1026 (moment_short m.expiry)
     (scope_short m.scope fits.1.1))
 
@@ -112,25 +116,53 @@ challenge_short (Some c) fits =
     omega (arith, text_short c.text max_verifier_bytes (verifier_short c.text fits.1))
 
 -- the field of a client kind has at most 33 bytes
-client_kind_short : (s : ClientKind) → client_kind_field.Fits s → length (client_kind_field.spell s) ≤ 33
+client_kind_short : (s : ClientKind) → client_kind_field.Fits s
+    → length (client_kind_field.spell s) ≤ 33
 unfolding client_kinds
 client_kind_short Public fits = omega arith
 client_kind_short (Confidential d) fits = omega (arith, fits)
 client_kind_short (Resource d) fits = omega (arith, fits)
 client_kind_short (Keeping d) fits = omega (arith, fits)
 
+-- the field of a client's lives has at most 24 bytes
+lives_short : (l : ClientLives) → length (lives_field.spell l) ≤ 24
+lives_short l =
+    both_short (number_spelling w64 l.access)
+    (number_spelling w64 l.refresh ++ number_spelling w64 l.family) 8 16
+    (omega (arith, number_length w64 l.access))
+    (both_short (number_spelling w64 l.refresh) (number_spelling w64 l.family) 8 8
+    (omega (arith, number_length w64 l.refresh)) (omega (arith, number_length w64 l.family)))
+
+-- the terms of a client have at most 5,172 bytes
+terms_short : (t : fields.Terms) → fields.client_terms.Fits t
+    → length (fields.client_terms.spell t) ≤ 5172
+terms_short t fits =
+    simp length-append (omega (
+      arith,
+      client_kind_short t.0 fits.0,
+      scope_short t.1.0 fits.1.0,
+      simp length-append at (redirects_short t.1.1 fits.1.1),
+    ))
+
 -- ---- lengths of bodies and facts
+
+-- the body of a client has at most 8,000 bytes
+client_short : (t : fields.Terms) (o : Option ClientLives)
+    → body.Fits (bodies.ClientAdded (fields.client_on t o))
+    → length (body.spell (bodies.ClientAdded (fields.client_on t o))) ≤ 8000
+unfolding kinds
+client_short t None fits = omega (arith, terms_short t fits)
+client_short t (Some l) fits = omega (
+  arith,
+  length-append (fields.client_terms.spell t) (lives_field.spell l),
+  terms_short t fits.0,
+  lives_short l,
+)
 
 -- a body has at most 8,000 bytes
 body_short : (b : Body) → body.Fits b → length (body.spell b) ≤ 8000
 unfolding kinds
-body_short (bodies.ClientAdded f) fits =
-    simp length-append (omega (
-      arith,
-      client_kind_short f.client_kind fits.0,
-      scope_short f.scope fits.1.0,
-      simp length-append at (redirects_short f.redirects fits.1.1),
-    ))
+body_short (bodies.ClientAdded f) fits = client_short (fields.terms_of f) f.lives fits
 body_short (bodies.ClientRetired f) fits =
     simp length-append (omega (arith, simp length-append at (dot_short f.client)))
 body_short (bodies.ConsentGiven f) fits =

@@ -1,5 +1,6 @@
 -- The definitions of this crate, by file:
 --   Subject     is_subject, the name of a resource owner
+--   ClientKinds keeps_refresh, whether a client keeps its refresh token
 --   Check       refusal_of, the rule that a fact breaks
 --   Fields      the formats of the fields of facts
 --   Kinds       the format of the fields of each kind together
@@ -9,6 +10,7 @@
 --   FieldLaws, FactLaws   reading and spelling undo each other
 --   LengthLaws  a fact that has a spelling has at most 8,192 bytes
 pub mod Check
+pub mod ClientKinds
 pub mod FactBytes
 pub mod FactLaws
 pub mod FieldLaws

@@ -14,10 +14,10 @@
 //!    `specs/LengthLaws.antt`: its row in `body_short`; a fact has 8,192 bytes at most.
 //! 5. `specs/Check.antt`, `src/check.rt`: the rules that such a fact must keep.
 //! 6. `specs/Tokens.antt`, `src/tokens.rt`: whether the kind mints tokens or uses one, and by which
-//!    dot its tokens are in a family; `specs/Keeping.antt`, `src/keeping.rt`: for which token such a
-//!    fact is kept. The compiler does not require these rows.
+//!    dot its tokens are in a family; `specs/Keeping.antt`, `src/keeping.rt`: for which token such
+//!    a fact is kept. The compiler does not require these rows.
 //! 7. `check/rows/bytes_facts.rows` at the top of the repository: its bytes at its limits, and one
-//!    past each among the bytes of no fact, where the kind 13 becomes 14.
+//!    past each among the bytes of no fact, where the kind 14 becomes 15.
 //!    `check/rows/bytes_made.rows`: a region that makes such a fact. `must-fail/`: an edit for what
 //!    the kind means.
 //! 8. tk_bundle: a row in `kind_of` of `src/version.rt` and of `specs/Versions.antt`; two in the
@@ -26,8 +26,9 @@
 //!    A build that does not know the kind finds each bundle with such a fact malformed.
 //! 9. tk_ledger: a row in `change_in` of `specs/Changes.antt` and in `change_of` of
 //!    `src/change.rt`, with what the kind changes in the tables. The proofs have rows in
-//!    `uses_agree` of `proofs/TokenLaws.antt`, in `issues` of `proofs/StandingLaws.antt`, and for
-//!    codes and for refresh tokens in `grant_of` of `proofs/FamilyEnds.antt`.
+//!    `uses_agree` of `proofs/TokenLaws.antt`, in `issues` of `proofs/StandingLaws.antt`, in
+//!    `own_anchor` of `proofs/RootLaws.antt`, and for codes and for refresh tokens in `grant_of` of
+//!    `proofs/FamilyEnds.antt`. If the kind mints tokens: `mints` of `specs/Retention.antt`.
 //! 10. tk_ledger, if the kind is a link of a family or ends one: `link_of`, `revoked_by`,
 //!     `reuse_of` or `IsStopped` of `specs/Tokens.antt`, `signs_out_in` of `specs/SignOuts.antt`,
 //!     `generation_of` of `specs/Status.antt`. If the kind makes or ends a client or a consent:
@@ -38,8 +39,9 @@
 //!     in tk_authorize, tk_grant or tk_query with its row in `decision_by` of tk_region; its path
 //!     in tk_edge; perhaps a line in `src/request_line.rt` of tk_world.
 //! 12. The number of kinds: "eleven" in this file, in `src/lib.rt`, in docs/GLOSSARY.md and in
-//!     docs/ARCHITECTURE.md; the kinds 1 to 12 and their list in docs/FORMATS.md; the row "fact" of
-//!     docs/DEFINITIONS.md. The number 11 is that of marks in bundles.
+//!     docs/ARCHITECTURE.md; the kinds 1 to 13 and their list in docs/FORMATS.md; the row "fact" of
+//!     docs/DEFINITIONS.md. The number 11 is that of marks in bundles, and 13 is a second number of
+//!     `ClientAdded`: that of a client with lives, whose rows show how a kind gets more fields.
 
 ghost use Rattle.std.specs.Prelude.{◌≡◌, ◌++◌, ◌∷◌, ◌↔◌, drop, IfOk, IsTrue, OnOk};
 ghost use Rattle.tk_format.specs.Reading.{Gets};
@@ -179,6 +181,7 @@ impl Body {
             },
             10 => Ok(Body::SubjectOut(SubjectOut::read(alloc, reader)?)),
             12 => Ok(Body::AccessRefreshed(AccessRefreshed::read(alloc, reader)?)),
+            13 => Ok(Body::ClientAdded(ClientAdded::read_limited(alloc, reader)?)),
             _ => Err(ReadError::Malformed),
         }
     }
@@ -197,7 +200,10 @@ impl Body {
         ensures { body.spell self.now ≡ result ∷ drop 1 (body.spell self.now) }
     {
         match self {
-            Body::ClientAdded(_) => 1,
+            Body::ClientAdded(fields) => match fields.lives {
+                None => 1,
+                Some(_) => 13,
+            },
             Body::ClientRetired(_) => 2,
             Body::ConsentGiven(_) => 3,
             Body::ConsentWithdrawn(_) => 4,

@@ -3,11 +3,12 @@
 ghost use Rattle.std.specs.Prelude.{◌≡◌, ◌&&◌, OnOk, IfErr, IsTrue, None, Some, true};
 ghost use Rattle.std.specs.List.{list_all};
 ghost use Rattle.tk_fact.specs.Check.{first_broken, refusal_of, ends_after, is_challenge};
-ghost use Rattle.tk_fact.specs.Check.{is_revocable, is_used_once};
+ghost use Rattle.tk_fact.specs.Check.{are_lives, is_revocable, is_used_once};
 ghost use Rattle.tk_fact.specs.Subject.{is_subject};
 ghost use Rattle.tk_match.specs.Redirects.{is_uri};
 
 use crate::body::Body;
+use crate::client_lives::ClientLives;
 use crate::code_issued::CodeIssued;
 use crate::minted_token::MintedToken;
 use tk_handle::{Kind, Moment};
@@ -23,6 +24,7 @@ pub enum FactError {
     Limit,
     /// A field is outside its range.
     ///
+    /// - A life of a client is 0 seconds, or longer than any such life.
     /// - An expiry, or the end of a family, is before the start.
     /// - A generation is not 1 to 10,000.
     /// - A revoked token is a code, or a token used again is an access token.
@@ -40,7 +42,7 @@ pub(crate) fn check_body(body: &Body) -> Result<(), FactError>
     match body {
         Body::ClientAdded(fact) => {
             known_uris(&fact.redirects);
-            Ok(())
+            in_range(are_lives(&fact.lives))
         }
         Body::ConsentGiven(fact) => {
             let _name = fact.subject.as_str();
@@ -69,6 +71,15 @@ pub(crate) fn check_body(body: &Body) -> Result<(), FactError>
     }
 }
 
+/// The longest life of an access token in seconds: a day (own).
+pub const MAX_ACCESS_LIFE: u64 = 86_400;
+
+/// The longest life of a refresh token in seconds: a year (own).
+pub const MAX_REFRESH_LIFE: u64 = 31_536_000;
+
+/// The longest life of a family in seconds: ten years (own).
+pub const MAX_FAMILY_LIFE: u64 = 315_360_000;
+
 // Returns whether the ranges are kept. The limits always are.
 fn in_range(ranges: bool) -> Result<(), FactError>
     ensures ok { OnOk result (first_broken true ranges ≡ None) }
@@ -78,6 +89,20 @@ fn in_range(ranges: bool) -> Result<(), FactError>
         Ok(())
     } else {
         Err(FactError::Range)
+    }
+}
+
+// Returns whether the lives of a client, if it has any, are in range.
+fn are_lives(lives: &Option<ClientLives>) -> bool
+    ensures { result ≡ are_lives lives.now }
+{
+    match lives {
+        None => true,
+        Some(lives) => {
+            (1..=MAX_ACCESS_LIFE).contains(&lives.access)
+                && (1..=MAX_REFRESH_LIFE).contains(&lives.refresh)
+                && (1..=MAX_FAMILY_LIFE).contains(&lives.family)
+        }
     }
 }
 

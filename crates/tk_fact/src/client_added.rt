@@ -1,10 +1,13 @@
 //! The fact that a client was registered.
 
 ghost use Rattle.std.specs.Prelude.{◌≡◌, ◌++◌, ◌↔◌, IfOk, IsTrue, OnOk};
-ghost use Rattle.tk_fact.specs.Kinds.{client_added};
-ghost use Rattle.tk_format.specs.Reading.{Gets};
+ghost use Rattle.tk_fact.specs.Kinds.{ClientFits, LivesFit, bytes_with, client_bytes};
+ghost use Rattle.tk_fact.specs.Kinds.{client_terms, limited, limited_terms, unlimited};
+ghost use Rattle.tk_format.specs.Format.{via};
+ghost use Rattle.tk_format.specs.Reading.{GetsBy};
 
 use crate::client_kind::ClientKind;
+use crate::client_lives::ClientLives;
 use crate::redirects_field::{known_redirects, read_redirects, write_redirects};
 use crate::scope_field::{known_scope, read_scope, write_scope};
 use std::alloc::{AllocError, Global};
@@ -21,6 +24,9 @@ pub struct ClientAdded {
     pub scope: Scope,
     /// The URIs to which a browser may be sent back, 1 to 8 (RFC 6749, 3.1.2.2).
     pub redirects: Redirects,
+    /// How long what the client gets lives at most, or `None` if the server's lives alone bound it
+    /// (own).
+    pub lives: Option<ClientLives>,
 }
 
 impl ClientAdded {
@@ -37,6 +43,7 @@ impl ClientAdded {
             client_kind: self.client_kind,
             scope,
             redirects,
+            lives: self.lives,
         })
     }
 
@@ -46,18 +53,21 @@ impl ClientAdded {
         self.client_kind == other.client_kind
             && self.scope.same(&other.scope)
             && self.redirects.same(&other.redirects)
+            && self.lives == other.lives
     }
 
     pub(crate) fn known(&self)
-        ensures { client_added.Fits self.now }
+        ensures { ClientFits self.now }
     {
         self.client_kind.known();
         known_scope(&self.scope);
         known_redirects(&self.redirects);
+        known_lives(&self.lives);
     }
 
+    // Reads the fields of a client without lives.
     pub(crate) fn read(alloc: Global, reader: &mut Reader<'_>) -> Result<ClientAdded, ReadError>
-        ensures { Gets (λ f. f) client_added result reader.old reader.new }
+        ensures { GetsBy (via unlimited client_terms) result reader.old reader.new }
     {
         let Some(client_kind) = ClientKind::read(reader) else {
             return Err(ReadError::Malformed);
@@ -68,17 +78,51 @@ impl ClientAdded {
                 client_kind,
                 scope,
                 redirects,
+                lives: None,
             }),
             Err(error) => Err(error),
         }
     }
 
+    // Reads the fields of a client with lives.
+    pub(crate) fn read_limited(
+        alloc: Global,
+        reader: &mut Reader<'_>,
+    ) -> Result<ClientAdded, ReadError>
+        ensures { GetsBy (via limited limited_terms) result reader.old reader.new }
+    {
+        let client = ClientAdded::read(alloc, reader)?;
+        match ClientLives::read(reader) {
+            Some(lives) => Ok(ClientAdded {
+                client_kind: client.client_kind,
+                scope: client.scope,
+                redirects: client.redirects,
+                lives: Some(lives),
+            }),
+            None => Err(ReadError::Malformed),
+        }
+    }
+
     pub(crate) fn write(&self, writer: &mut Writer) -> Result<(), AllocError>
-        requires { client_added.Fits self.now }
-        ensures { OnOk result (writer.new ≡ writer.old ++ client_added.spell self.now) }
+        requires { ClientFits self.now }
+        ensures { OnOk result (writer.new ≡ writer.old ++ client_bytes self.now) }
     {
         self.client_kind.write(writer)?;
         write_scope(&self.scope, writer)?;
-        write_redirects(&self.redirects, writer)
+        write_redirects(&self.redirects, writer)?;
+        match &self.lives {
+            None => Ok(()),
+            Some(lives) => lives.write(writer),
+        }
+    }
+}
+
+// Gives a proof the fact that the lives of a client, if it has any, have a spelling.
+fn known_lives(lives: &Option<ClientLives>)
+    ensures { LivesFit lives.now }
+{
+    match lives {
+        None => {}
+        Some(lives) => lives.known(),
     }
 }

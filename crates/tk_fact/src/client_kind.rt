@@ -1,6 +1,7 @@
 //! The kind of a client, and its field.
 
 ghost use Rattle.std.specs.Prelude.{◌≡◌, ◌++◌, OnOk};
+ghost use Rattle.tk_fact.specs.ClientKinds.{keeps_refresh};
 ghost use Rattle.tk_fact.specs.Fields.{client_kind_field};
 ghost use Rattle.tk_format.specs.Reading.{Reads};
 
@@ -23,6 +24,18 @@ pub enum ClientKind {
 }
 
 impl ClientKind {
+    /// Returns whether a client of this kind keeps its refresh token (RFC 9700, 2.2.2).
+    pub fn keeps_refresh(&self) -> bool
+        ensures { result ≡ keeps_refresh self.now }
+    {
+        match self {
+            ClientKind::Public => false,
+            ClientKind::Confidential(_) => false,
+            ClientKind::Resource(_) => false,
+            ClientKind::Keeping(_) => true,
+        }
+    }
+
     #[tactic(auto, unfolding(crate::specs::Fields::client_kinds))]
     pub(crate) fn known(&self)
         ensures { client_kind_field.Fits self.now }

@@ -4,7 +4,8 @@
 //!
 //! - `Fact::check` returns which rule a fact breaks, if any.
 //! - `Fact::write` and `Fact::read` convert a fact to and from bytes: the dot, a byte for the kind,
-//!   and the fields in the order of the kind's struct. A fact has exactly one spelling.
+//!   and the fields in the order of the kind's struct. A fact has exactly one spelling. A client
+//!   with lives has a number of its own.
 //! - `Fact::minted` returns the tokens that a fact mints, `Fact::uses` the token that it uses up.
 //! - `Fact::kept_for` returns the token for which a fact is kept. When that token's family is over,
 //!   the fact may be skipped.
@@ -16,8 +17,9 @@
 //! `known` do nothing at run time: they give a proof the fact that a value has a spelling.
 //! Contracts see a value as the plain value that it stands for.
 //!
-//! In reading order: `Subject`, `ClientKind`, `MintedToken`, the eleven kinds from `ClientAdded`
-//! to `AccessRefreshed`, `Body`, `Fact`, `Minted`. `specs/Lib.antt` lists the definitions.
+//! In reading order: `Subject`, `ClientKind`, `ClientLives`, `MintedToken`, the eleven kinds from
+//! `ClientAdded` to `AccessRefreshed`, `Body`, `Fact`, `Minted`. `specs/Lib.antt` lists the
+//! definitions.
 #![tactic(auto)]
 
 mod access_refreshed;
@@ -26,6 +28,7 @@ mod challenge_field;
 mod check;
 mod client_added;
 mod client_kind;
+mod client_lives;
 mod client_retired;
 mod code_issued;
 mod code_redeemed;
@@ -48,9 +51,10 @@ mod uri_field;
 
 pub use access_refreshed::AccessRefreshed;
 pub use body::Body;
-pub use check::{FactError, MAX_GENERATIONS};
+pub use check::{FactError, MAX_ACCESS_LIFE, MAX_FAMILY_LIFE, MAX_GENERATIONS, MAX_REFRESH_LIFE};
 pub use client_added::ClientAdded;
 pub use client_kind::ClientKind;
+pub use client_lives::ClientLives;
 pub use client_retired::ClientRetired;
 pub use code_issued::CodeIssued;
 pub use code_redeemed::CodeRedeemed;

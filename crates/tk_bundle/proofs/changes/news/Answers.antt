@@ -8,7 +8,8 @@ pub returns-in_err-writer-clause-fits : goal.returns-in_err-writer-clause-fits
 returns-in_err-writer-clause-fits c = news_fits c.args.store.now.slots c.args.sent.now c.requires
 
 pub returns-in_err-write_kept-clause-fits : goal.returns-in_err-write_kept-clause-fits
-returns-in_err-write_kept-clause-fits c = news_fits c.args.store.now.slots c.args.sent.now c.requires
+returns-in_err-write_kept-clause-fits c =
+    news_fits c.args.store.now.slots c.args.sent.now c.requires
 
 pub returns-clause-fits : goal.returns-clause-fits
 returns-clause-fits c = news_fits c.args.store.now.slots c.args.sent.now c.requires

@@ -11,10 +11,15 @@ returns-clause-page c =
     let v = c.args.vector.now in
     let after = c.args.after in
     let dots : c.deref.result.now ≡ map dot_of (take c.args.limit (beyond S v after)) =
-    c.deref.ensures.value ∙ c.truncate.ensures.items ∙ ap (take c.args.limit) c.in_ok-dots.ensures ∙ dots_are S v after c.args.limit in
-    let more : nat_lt c.args.limit (length c.as_slice.result.now) ≡ nat_lt c.args.limit (length (beyond S v after)) =
-    ap (λ xs. nat_lt c.args.limit (length xs)) (c.as_slice.ensures.value ∙ c.in_ok-dots.ensures) ∙ page_more (beyond S v after) c.args.limit in
-    IfOk-weaker c.page_at.result _ _ (λ page at. page_is page c.args.store.now v after c.args.limit c.deref.result.now _ dots more at) c.page_at.ensures.page
+    c.deref.ensures.value ∙ c.truncate.ensures.items ∙ ap (take c.args.limit) c.in_ok-dots.ensures
+    ∙ dots_are S v after c.args.limit in
+    let more : nat_lt c.args.limit (length c.as_slice.result.now)
+    ≡ nat_lt c.args.limit (length (beyond S v after)) =
+    ap (λ xs. nat_lt c.args.limit (length xs)) (c.as_slice.ensures.value ∙ c.in_ok-dots.ensures)
+    ∙ page_more (beyond S v after) c.args.limit in
+    IfOk-weaker c.page_at.result _ _
+    (λ page at. page_is page c.args.store.now v after c.args.limit c.deref.result.now _ dots more
+    at) c.page_at.ensures.page
 
 pub returns-clause-fits : goal.returns-clause-fits
 returns-clause-fits c =
@@ -22,5 +27,8 @@ returns-clause-fits c =
     let v = c.args.vector.now in
     let after = c.args.after in
     let dots : c.deref.result.now ≡ map dot_of (take c.args.limit (beyond S v after)) =
-    c.deref.ensures.value ∙ c.truncate.ensures.items ∙ ap (take c.args.limit) c.in_ok-dots.ensures ∙ dots_are S v after c.args.limit in
-    on_ok_weaker c.page_at.result (λ fits. page_fits c.args.store.now v after c.args.limit c.deref.result.now c.requires dots c.page_at.ensures.horizon fits) c.page_at.ensures.fits
+    c.deref.ensures.value ∙ c.truncate.ensures.items ∙ ap (take c.args.limit) c.in_ok-dots.ensures
+    ∙ dots_are S v after c.args.limit in
+    on_ok_weaker c.page_at.result
+    (λ fits. page_fits c.args.store.now v after c.args.limit c.deref.result.now c.requires dots
+    c.page_at.ensures.horizon fits) c.page_at.ensures.fits

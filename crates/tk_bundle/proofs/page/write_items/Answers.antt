@@ -6,6 +6,9 @@ loop-dot-preserved c =
     let i = c.loop-dot.invariant in
     let w = c.in_ok-write_item.ensures in
     record {
-      written = more_written c.args.store.now.slots c.args.dots.now c.loop-dot.dot-index c.dot-item.result c.args.writer.now c.loop-dot.writer c.write_item.new.writer c.loop-dot-test.true c.dot-item.is i.written w.written;
-      fits = more_fits c.args.store.now.slots c.args.dots.now c.loop-dot.dot-index c.dot-item.result c.loop-dot-test.true c.dot-item.is i.fits w.fits;
+      written = more_written c.args.store.now.slots c.args.dots.now c.loop-dot.dot-index
+          c.dot-item.result c.args.writer.now c.loop-dot.writer c.write_item.new.writer
+          c.loop-dot-test.true c.dot-item.is i.written w.written;
+      fits = more_fits c.args.store.now.slots c.args.dots.now c.loop-dot.dot-index c.dot-item.result
+          c.loop-dot-test.true c.dot-item.is i.fits w.fits;
     }

@@ -1,9 +1,11 @@
 use Rattle.tk_fact.specs.FactBytes.{kinds}
+use Rattle.tk_fact.proofs.BodyLaws.{client_fits}
 use Rattle.tk_fact.proofs.body.Body.known.Goals as goal
 
 pub returns-in-ClientAdded : goal.returns-in-ClientAdded
 unfolding kinds
-returns-in-ClientAdded c = rw c.in-ClientAdded.is c.known.ensures
+returns-in-ClientAdded c =
+    rw c.in-ClientAdded.is (client_fits _ _ c.known.ensures.0 c.known.ensures.1)
 
 pub returns-in-ClientRetired : goal.returns-in-ClientRetired
 unfolding kinds
