@@ -33,7 +33,9 @@ none_held : (d : Dot) (b : Body) → ¬ (map.get (map.empty {R = dot_cmp}) d ≡
 none_held d b h = none_is_not_some b (sym (map.get-empty dot_cmp d) ∙ h)
 
 any_fact-empty : (p : Dot × Body → Bool) → any_fact p map.empty ≡ false
-any_fact-empty p = false_from_ne_true (any_fact p map.empty) (λ h. (let x : Passing p map.empty = any_fact-held p map.empty h in none_held x.dot x.body x.held))
+any_fact-empty p = false_from_ne_true (any_fact p map.empty)
+    (λ h. (let x : Passing p map.empty = any_fact-held p map.empty h in
+    none_held x.dot x.body x.held))
 
 -- no fact is at any dot
 no_value : {B : Type 0} (f : Body → Option B) (d : Dot) (y : B)
@@ -45,24 +47,33 @@ pub empty_indexed : (x : Index) → x.clients.entries ≡ [] → x.consents.keys
     → x.reuses.keys ≡ [] → x.forest.links ≡ map.empty → IsIndexed map.empty x
 empty_indexed x te ce we re co ou se le = record {
   clients_are = record {
-    added = λ q. ap (λ (es : List (Dot × ClientRow)). row_added (lookup (is_at (dot_cmp q)) es)) te ∙ sym (ap (λ o. is_some (option_and_then added_in o)) (map.get-empty dot_cmp q));
-    retired = λ q. ap (λ (es : List (Dot × ClientRow)). row_retired (lookup (is_at (dot_cmp q)) es)) te ∙ sym (any_fact-empty (retires q));
+    added = λ q. ap (λ (es : List (Dot × ClientRow)). row_added (lookup (is_at (dot_cmp q)) es)) te
+        ∙ sym (ap (λ o. is_some (option_and_then added_in o)) (map.get-empty dot_cmp q));
+    retired = λ q. ap (λ (es : List (Dot × ClientRow)). row_retired (lookup (is_at (dot_cmp q)) es))
+        te
+        ∙ sym (any_fact-empty (retires q));
   };
   consents_are = record {
-    listed = λ c s q. none_listed c s q ∙ sym (ap (λ o. is_from c s (option_and_then given_in o) && not (is_withdrawn map.empty q)) (map.get-empty dot_cmp q));
+    listed = λ c s q. none_listed c s q
+        ∙ sym (ap (λ o. is_from c s (option_and_then given_in o) && not (is_withdrawn map.empty q))
+        (map.get-empty dot_cmp q));
     ranged = λ c s q h. absurd (true≢false (sym h ∙ none_listed c s q));
   };
-  withdrawn_are = λ q. ap (λ (es : List Dot). list_any (is_at (dot_cmp q)) es) we ∙ sym (any_fact-empty (withdraws q));
+  withdrawn_are = λ q. ap (λ (es : List Dot). list_any (is_at (dot_cmp q)) es) we
+      ∙ sym (any_fact-empty (withdraws q));
   revocations_are = record {
-    listed = λ k g c q. no_revocation k g c q ∙ sym (ap (is_revocation_of k g c) (map.get-empty dot_cmp q));
+    listed = λ k g c q.
+        no_revocation k g c q ∙ sym (ap (is_revocation_of k g c) (map.get-empty dot_cmp q));
     ranged = λ k g c q h. absurd (true≢false (sym h ∙ no_revocation k g c q));
   };
   codes_are = record {
-    listed = λ s n q. no_code s n q ∙ sym (ap (λ o. is_to s n (option_and_then issued_in o)) (map.get-empty dot_cmp q));
+    listed = λ s n q. no_code s n q
+        ∙ sym (ap (λ o. is_to s n (option_and_then issued_in o)) (map.get-empty dot_cmp q));
     ranged = λ s n q h. absurd (true≢false (sym h ∙ no_code s n q));
   };
   outs_are = record {
-    listed = λ s l q. no_out s l q ∙ sym (ap (λ o. is_left_by s l (option_and_then sign_out_in o)) (map.get-empty dot_cmp q));
+    listed = λ s l q. no_out s l q
+        ∙ sym (ap (λ o. is_left_by s l (option_and_then sign_out_in o)) (map.get-empty dot_cmp q));
     ranged = λ s l q h. absurd (true≢false (sym h ∙ no_out s l q));
     early = λ d f h. absurd (no_value sign_out_in d f h);
   };
@@ -71,18 +82,21 @@ empty_indexed x te ce we re co ou se le = record {
     ranged = λ k q h. absurd (true≢false (sym h ∙ no_reuse k q));
   };
   tied = record {
-    links = λ q. ap (λ s. map.get s q) le ∙ map.get-empty dot_cmp q ∙ sym (ap (option_and_then link_of) (map.get-empty dot_cmp q));
+    links = λ q. ap (λ s. map.get s q) le ∙ map.get-empty dot_cmp q
+        ∙ sym (ap (option_and_then link_of) (map.get-empty dot_cmp q));
     marks = λ q c l at _. absurd (no_value link_of q l at);
   };
 }
   where
     none_listed : (c : Dot) (s : List _) (q : Dot)
         → list_any (is_at (consent_cmp (consent_key c s q))) x.consents.keys ≡ false
-    none_listed c s q = ap (λ (es : List ConsentKey). list_any (is_at (consent_cmp (consent_key c s q))) es) ce
+    none_listed c s q =
+        ap (λ (es : List ConsentKey). list_any (is_at (consent_cmp (consent_key c s q))) es) ce
 
     no_revocation : (k : TokenId) (g : List ℕ) (c q : Dot)
         → list_any (is_at (revocation_cmp (revocation_key k g c q))) x.revocations.keys ≡ false
-    no_revocation k g c q = ap (λ (es : List Revocation). list_any (is_at (revocation_cmp (revocation_key k g c q))) es) re
+    no_revocation k g c q = ap (λ (es : List Revocation).
+        list_any (is_at (revocation_cmp (revocation_key k g c q))) es) re
 
     no_code : (s : List _) (n : ℕ) (q : Dot)
         → list_any (is_at (code_cmp (code_key s n q))) x.codes.keys ≡ false

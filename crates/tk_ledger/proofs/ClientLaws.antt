@@ -56,11 +56,13 @@ retirement_in d body q h = absurd (true≢false (sym h))
 pub is_retired-sound : (F : FactSet) (d : Dot) → is_retired F d ≡ true → IsRetired (map.get F) d
 is_retired-sound F d h =
     let f : Passing (retires d) F = any_fact-held (retires d) F h in
-    let r : (r : retired.ClientRetired) × (f.body ≡ ClientRetired r) × (r.client ≡ d) = retirement_in d f.body f.dot f.passes in
+    let r : (r : retired.ClientRetired) × (f.body ≡ ClientRetired r) × (r.client ≡ d) =
+    retirement_in d f.body f.dot f.passes in
     record { place = f.dot; retirement = r.0; held = f.held ∙ ap Some r.1; names = r.2 }
 
 pub is_retired-complete : (F : FactSet) (d : Dot) → IsRetired (map.get F) d → is_retired F d ≡ true
-is_retired-complete F d r = any_fact-of (retires d) F r.place (ClientRetired r.retirement) r.held (ap (λ e. is_same_dot e d) r.names ∙ same_dot-itself d)
+is_retired-complete F d r = any_fact-of (retires d) F r.place (ClientRetired r.retirement) r.held
+    (ap (λ e. is_same_dot e d) r.names ∙ same_dot-itself d)
 
 live_of : (F : FactSet) (d : Dot) (o : Option added.ClientAdded) → client_at F d ≡ o
     → (is_some o && not (is_retired F d)) ≡ true → IsLiveClient (map.get F) d
@@ -77,7 +79,8 @@ live_sound F d h = live_of F d (client_at F d) refl h
 pub live_complete : (F : FactSet) (d : Dot) → IsLiveClient (map.get F) d → is_live_client F d ≡ true
 live_complete F d live = and_from _ _
     (ap (λ o. is_some (option_and_then added_in o)) live.added)
-    (not_from_false (is_retired F d) (false_from_ne_true (is_retired F d) (λ held. live.unretired (is_retired-sound F d held))))
+    (not_from_false (is_retired F d)
+    (false_from_ne_true (is_retired F d) (λ held. live.unretired (is_retired-sound F d held))))
 
 -- a retirement keeps the client from being live in every greater set
 pub retired_stays : (F G : FactSet) → IsSubset F G → (d : Dot) → IsRetired (map.get F) d
@@ -117,29 +120,36 @@ pub is_withdrawn-sound : (F : FactSet) (d : Dot) → is_withdrawn F d ≡ true
     → IsWithdrawn (map.get F) d
 is_withdrawn-sound F d h =
     let f : Passing (withdraws d) F = any_fact-held (withdraws d) F h in
-    let w : (w : withdrawn.ConsentWithdrawn) × (f.body ≡ ConsentWithdrawn w) × (w.consent ≡ d) = withdrawal_in d f.body f.dot f.passes in
+    let w : (w : withdrawn.ConsentWithdrawn) × (f.body ≡ ConsentWithdrawn w) × (w.consent ≡ d) =
+    withdrawal_in d f.body f.dot f.passes in
     record { place = f.dot; withdrawal = w.0; held = f.held ∙ ap Some w.1; names = w.2 }
 
 pub is_withdrawn-complete : (F : FactSet) (d : Dot) → IsWithdrawn (map.get F) d
     → is_withdrawn F d ≡ true
-is_withdrawn-complete F d w = any_fact-of (withdraws d) F w.place (ConsentWithdrawn w.withdrawal) w.held (ap (λ e. is_same_dot e d) w.names ∙ same_dot-itself d)
+is_withdrawn-complete F d w = any_fact-of (withdraws d) F w.place (ConsentWithdrawn w.withdrawal)
+    w.held (ap (λ e. is_same_dot e d) w.names ∙ same_dot-itself d)
 
 pub unwithdrawn_of : (F : FactSet) (d : Dot) → not (is_withdrawn F d) ≡ true
     → ¬ IsWithdrawn (map.get F) d
-unwithdrawn_of F d h w = true≢false (sym (is_withdrawn-complete F d w) ∙ not-true (is_withdrawn F d) h)
+unwithdrawn_of F d h w =
+    true≢false (sym (is_withdrawn-complete F d w) ∙ not-true (is_withdrawn F d) h)
 
 pub not_withdrawn : (F : FactSet) (d : Dot) → ¬ IsWithdrawn (map.get F) d
     → not (is_withdrawn F d) ≡ true
-not_withdrawn F d none = not_from_false (is_withdrawn F d) (false_from_ne_true (is_withdrawn F d) (λ held. none (is_withdrawn-sound F d held)))
+not_withdrawn F d none = not_from_false (is_withdrawn F d)
+    (false_from_ne_true (is_withdrawn F d) (λ held. none (is_withdrawn-sound F d held)))
 
 -- the subject that gave a consent, and the client that has it
 pub gives_parts : (client : Dot) (subject : List ℕ) (c : given.ConsentGiven)
     → gives client subject (Some c) ≡ true → (c.client ≡ client) × (c.subject ≡ subject)
-gives_parts client subject c h = let p = and_parts _ _ h in (same_dot-true c.client client p.0, (bytes_eq-Decides c.subject subject).0 p.1)
+gives_parts client subject c h = let p = and_parts _ _ h in
+    (same_dot-true c.client client p.0, (bytes_eq-Decides c.subject subject).0 p.1)
 
 pub gives_from : (client : Dot) (subject : List ℕ) (c : given.ConsentGiven) → c.client ≡ client
     → c.subject ≡ subject → gives client subject (Some c) ≡ true
-gives_from client subject c i j = and_from _ _ (ap (λ d. is_same_dot d client) i ∙ same_dot-itself client) ((bytes_eq-Decides c.subject subject).1 j)
+gives_from client subject c i j = and_from _ _
+    (ap (λ d. is_same_dot d client) i ∙ same_dot-itself client)
+    ((bytes_eq-Decides c.subject subject).1 j)
 
 of_found : (F : FactSet) (client : Dot) (subject : List ℕ) (d : Dot) (o : Option given.ConsentGiven)
     → consent_at F d ≡ o → (gives client subject o && not (is_withdrawn F d)) ≡ true
@@ -163,7 +173,8 @@ is_consent_of-sound F client subject d h = of_found F client subject d (consent_
 pub is_consent_of-complete : (F : FactSet) (client : Dot) (subject : List ℕ) (d : Dot)
     → IsConsentOf (map.get F) client subject d → is_consent_of F client subject d ≡ true
 is_consent_of-complete F client subject d x = and_from _ _
-    (ap (λ o. gives client subject (option_and_then given_in o)) x.given ∙ gives_from client subject x.consent x.client_is x.subject_is)
+    (ap (λ o. gives client subject (option_and_then given_in o)) x.given
+    ∙ gives_from client subject x.consent x.client_is x.subject_is)
     (not_withdrawn F d x.unwithdrawn)
 
 pub consent_sound : (F : FactSet) (code : issued.CodeIssued) → is_live_consent F code ≡ true

@@ -57,7 +57,9 @@ module _ {X : Type 0} where
       → ((q : Dot) → map.find dot_cmp q es ≡ map.find dot_cmp q fs) → es ≡ fs
   same_list es fs s r h =
       sym (map.entries-from_sorted dot_cmp es s)
-      ∙ ap map.entries (map.same_map dot_cmp_total dot_same (map.from_sorted es) (map.from_sorted fs) (λ q. map.get-from_sorted dot_cmp es q s ∙ h q ∙ sym (map.get-from_sorted dot_cmp fs q r)))
+      ∙ ap map.entries
+      (map.same_map dot_cmp_total dot_same (map.from_sorted es) (map.from_sorted fs)
+      (λ q. map.get-from_sorted dot_cmp es q s ∙ h q ∙ sym (map.get-from_sorted dot_cmp fs q r)))
       ∙ map.entries-from_sorted dot_cmp fs r
 
   above_is : (a : Option Dot) (es : List (Dot × X))
@@ -75,30 +77,37 @@ module _ (F : FactSet) {X : Type 0} where
   seen_below : (d : Dot) (es : List (Dot × X)) → T (below_all dot_cmp d es)
       → T (below_all dot_cmp d (filter_map seen es))
   seen_below d [] h = h
-  seen_below d (e ∷ es) h = elim (client_view F e.0) as (λ o. T (below_all dot_cmp d (cons_option (option_map (λ c. (e.0, c)) o) (filter_map seen es)))) [
-    | None ↦ seen_below d es (both _ _ h).1
-    | Some c ↦ joined _ _ (both _ _ h).0 (seen_below d es (both _ _ h).1)
-  ]
+  seen_below d (e ∷ es) h = elim (client_view F e.0) as
+      (λ o. T (below_all dot_cmp d
+      (cons_option (option_map (λ c. (e.0, c)) o) (filter_map seen es)))) [
+        | None ↦ seen_below d es (both _ _ h).1
+        | Some c ↦ joined _ _ (both _ _ h).0 (seen_below d es (both _ _ h).1)
+      ]
 
   seen_sorted : (es : List (Dot × X)) → T (map.is_sorted dot_cmp es)
       → T (map.is_sorted dot_cmp (filter_map seen es))
   seen_sorted [] h = h
-  seen_sorted (e ∷ es) h = elim (client_view F e.0) as (λ o. T (map.is_sorted dot_cmp (cons_option (option_map (λ c. (e.0, c)) o) (filter_map seen es)))) [
-    | None ↦ seen_sorted es (both _ _ h).1
-    | Some c ↦ joined _ _ (seen_below e.0 es (both _ _ h).0) (seen_sorted es (both _ _ h).1)
-  ]
+  seen_sorted (e ∷ es) h = elim (client_view F e.0) as
+      (λ o. T (map.is_sorted dot_cmp
+      (cons_option (option_map (λ c. (e.0, c)) o) (filter_map seen es)))) [
+        | None ↦ seen_sorted es (both _ _ h).1
+        | Some c ↦ joined _ _ (seen_below e.0 es (both _ _ h).0) (seen_sorted es (both _ _ h).1)
+      ]
 
   seen_found : (q : Dot) (es : List (Dot × X))
-      → map.find dot_cmp q (filter_map seen es) ≡ cond (is_some (map.find dot_cmp q es)) (client_view F q) None
+      → map.find dot_cmp q (filter_map seen es)
+      ≡ cond (is_some (map.find dot_cmp q es)) (client_view F q) None
   seen_found q [] = refl
   seen_found q (e ∷ es) = elim (cases_Bool (eq_by_cmp dot_cmp q e.0)) [
     | inl here ↦
         let same : q ≡ e.0 = tied q e.0 here in
         first (client_view F e.0) refl here (ap (client_view F) same) (seen_found q es)
-        ∙ sym (ap (λ (o : Option X). cond (is_some o) (client_view F q) None) (cond-true (eq_by_cmp dot_cmp q e.0) (Some e.1) (map.find dot_cmp q es) here))
+        ∙ sym (ap (λ (o : Option X). cond (is_some o) (client_view F q) None)
+        (cond-true (eq_by_cmp dot_cmp q e.0) (Some e.1) (map.find dot_cmp q es) here))
     | inr later ↦
         past (client_view F e.0) later ∙ seen_found q es
-        ∙ sym (ap (λ (o : Option X). cond (is_some o) (client_view F q) None) (cond-false (eq_by_cmp dot_cmp q e.0) (Some e.1) (map.find dot_cmp q es) later))
+        ∙ sym (ap (λ (o : Option X). cond (is_some o) (client_view F q) None)
+        (cond-false (eq_by_cmp dot_cmp q e.0) (Some e.1) (map.find dot_cmp q es) later))
   ]
     where
       gone : (o : Option X) → client_view F q ≡ None
@@ -108,27 +117,36 @@ module _ (F : FactSet) {X : Type 0} where
 
       first : (o : Option ClientFields) → client_view F e.0 ≡ o → eq_by_cmp dot_cmp q e.0 ≡ true
           → client_view F q ≡ client_view F e.0
-          → map.find dot_cmp q (filter_map seen es) ≡ cond (is_some (map.find dot_cmp q es)) (client_view F q) None
-          → map.find dot_cmp q (cons_option (option_map (λ c. (e.0, c)) o) (filter_map seen es)) ≡ client_view F q
-      first None is here view more = more ∙ gone (map.find dot_cmp q es) (view ∙ is) ∙ sym (view ∙ is)
-      first (Some c) is here view more = cond-true (eq_by_cmp dot_cmp q e.0) (Some c) (map.find dot_cmp q (filter_map seen es)) here ∙ sym (view ∙ is)
+          → map.find dot_cmp q (filter_map seen es)
+          ≡ cond (is_some (map.find dot_cmp q es)) (client_view F q) None
+          → map.find dot_cmp q (cons_option (option_map (λ c. (e.0, c)) o) (filter_map seen es))
+          ≡ client_view F q
+      first None is here view more =
+          more ∙ gone (map.find dot_cmp q es) (view ∙ is) ∙ sym (view ∙ is)
+      first (Some c) is here view more = cond-true (eq_by_cmp dot_cmp q e.0) (Some c)
+          (map.find dot_cmp q (filter_map seen es)) here
+          ∙ sym (view ∙ is)
 
       past : (o : Option ClientFields) → eq_by_cmp dot_cmp q e.0 ≡ false
-          → map.find dot_cmp q (cons_option (option_map (λ c. (e.0, c)) o) (filter_map seen es)) ≡ map.find dot_cmp q (filter_map seen es)
+          → map.find dot_cmp q (cons_option (option_map (λ c. (e.0, c)) o) (filter_map seen es))
+          ≡ map.find dot_cmp q (filter_map seen es)
       past None later = refl
-      past (Some c) later = cond-false (eq_by_cmp dot_cmp q e.0) (Some c) (map.find dot_cmp q (filter_map seen es)) later
+      past (Some c) later = cond-false (eq_by_cmp dot_cmp q e.0) (Some c)
+          (map.find dot_cmp q (filter_map seen es)) later
 
 -- ---- the clients of a set
 
 -- no client is where no fact is
 view_of_none : (F : FactSet) (q : Dot) (o : Option Body) → map.get F q ≡ o
     → cond (is_some o) (client_view F q) None ≡ client_view F q
-view_of_none F q None h = sym (ap (λ (b : Option Body). option_map (λ (c : added.ClientAdded). record {
-  client_kind = c.client_kind;
-  scope = c.scope;
-  redirects = c.redirects;
-  live = is_live_client F q;
-}) (option_and_then added_in b)) h)
+view_of_none F q None h = sym (ap (λ (b : Option Body).
+    option_map (λ (c : added.ClientAdded). record {
+      client_kind = c.client_kind;
+      scope = c.scope;
+      redirects = c.redirects;
+      lives = c.lives;
+      live = is_live_client F q;
+    }) (option_and_then added_in b)) h)
 view_of_none F q (Some b) h = refl
 
 pub client_in : (F : FactSet) (q : Dot) → map.get (clients_in F) q ≡ client_view F q
@@ -140,7 +158,8 @@ client_in F q =
 
 pub clients_same : (F G : FactSet) → ((d : Dot) → client_view F d ≡ client_view G d)
     → clients_in F ≡ clients_in G
-clients_same F G views = map.same_map dot_cmp_total dot_same (clients_in F) (clients_in G) (λ q. client_in F q ∙ views q ∙ sym (client_in G q))
+clients_same F G views = map.same_map dot_cmp_total dot_same (clients_in F) (clients_in G)
+    (λ q. client_in F q ∙ views q ∙ sym (client_in G q))
 
 -- ---- the rows
 
@@ -184,28 +203,38 @@ module _ (F : FactSet) (t : BTreeMap Dot ClientRow) (i : IsClients F t) where
       by_client : (o : Option added.ClientAdded) → client_at F q ≡ o → is_some o ≡ false
           → None ≡ client_view F q
       by_client (Some c) at none = absurd (true≢false none)
-      by_client None at none = sym (ap (λ (o : Option added.ClientAdded). option_map (λ (c : added.ClientAdded). record {
-        client_kind = c.client_kind;
-        scope = c.scope;
-        redirects = c.redirects;
-        live = is_live_client F q;
-      }) o) at)
+      by_client None at none = sym (ap (λ (o : Option added.ClientAdded).
+          option_map (λ (c : added.ClientAdded). record {
+            client_kind = c.client_kind;
+            scope = c.scope;
+            redirects = c.redirects;
+            lives = c.lives;
+            live = is_live_client F q;
+          }) o) at)
 
   -- the clients above a dot are those of the rows above it
   pub walk_rows : rows.IsOrdered dot_cmp t → (a : Option Dot)
-      → filter_map (seen F) (entries_between dot_cmp (start_above a) Unbounded t.entries) ≡ above (clients_in F) a
+      → filter_map (seen F) (entries_between dot_cmp (start_above a) Unbounded t.entries)
+      ≡ above (clients_in F) a
   walk_rows sorted a = same_list _ _
-      (seen_sorted F _ (is_sorted-where_key dot_cmp (range_contains dot_cmp (start_above a) Unbounded) t.entries (rises t.entries sorted)))
-      (subst (λ (es : List (Dot × ClientFields)). T (map.is_sorted dot_cmp es)) (sym (above_is a (map.entries (clients_in F))))
-      (is_sorted-where_key dot_cmp (above_dot a) (map.entries (clients_in F)) (map.entries_sorted (clients_in F))))
+      (seen_sorted F _
+      (is_sorted-where_key dot_cmp (range_contains dot_cmp (start_above a) Unbounded) t.entries
+      (rises t.entries sorted)))
+      (subst (λ (es : List (Dot × ClientFields)). T (map.is_sorted dot_cmp es))
+      (sym (above_is a (map.entries (clients_in F))))
+      (is_sorted-where_key dot_cmp (above_dot a) (map.entries (clients_in F))
+      (map.entries_sorted (clients_in F))))
       (λ q. of_rows q ∙ sym (of_clients q))
     where
       of_clients : (q : Dot)
-          → map.find dot_cmp q (above (clients_in F) a) ≡ cond (above_dot a q) (client_view F q) None
+          → map.find dot_cmp q (above (clients_in F) a)
+          ≡ cond (above_dot a q) (client_view F q) None
       of_clients q =
           ap (map.find dot_cmp q) (above_is a (map.entries (clients_in F)))
-          ∙ find-where_key dot_cmp (above_dot a) q (alike (above_dot a) q) (map.entries (clients_in F))
-          ∙ ap (λ (o : Option ClientFields). cond (above_dot a q) o None) (sym (map.get-entries (clients_in F) q) ∙ client_in F q)
+          ∙ find-where_key dot_cmp (above_dot a) q (alike (above_dot a) q)
+          (map.entries (clients_in F))
+          ∙ ap (λ (o : Option ClientFields). cond (above_dot a q) o None)
+          (sym (map.get-entries (clients_in F) q) ∙ client_in F q)
 
       within : (b : Bool) (o : Option ClientRow) (v : Option ClientFields)
           → cond (is_some o) v None ≡ v → cond (is_some (cond b o None)) v None ≡ cond b v None
@@ -213,20 +242,28 @@ module _ (F : FactSet) (t : BTreeMap Dot ClientRow) (i : IsClients F t) where
       within false o v h = refl
 
       of_rows : (q : Dot)
-          → map.find dot_cmp q (filter_map (seen F) (entries_between dot_cmp (start_above a) Unbounded t.entries)) ≡ cond (above_dot a q) (client_view F q) None
+          → map.find dot_cmp q
+          (filter_map (seen F) (entries_between dot_cmp (start_above a) Unbounded t.entries))
+          ≡ cond (above_dot a q) (client_view F q) None
       of_rows q =
           seen_found F q (entries_between dot_cmp (start_above a) Unbounded t.entries)
           ∙ ap (λ (o : Option ClientRow). cond (is_some o) (client_view F q) None)
-          (find-where_key dot_cmp (range_contains dot_cmp (start_above a) Unbounded) q (alike (range_contains dot_cmp (start_above a) Unbounded) q) t.entries
+          (find-where_key dot_cmp (range_contains dot_cmp (start_above a) Unbounded) q
+          (alike (range_contains dot_cmp (start_above a) Unbounded) q) t.entries
           ∙ ap (λ b. cond b (map.find dot_cmp q t.entries) None) (in_range a q))
-          ∙ within (above_dot a q) (map.find dot_cmp q t.entries) (client_view F q) (view_of_row q (map.find dot_cmp q t.entries) (found_in q t.entries))
+          ∙ within (above_dot a q) (map.find dot_cmp q t.entries) (client_view F q)
+          (view_of_row q (map.find dot_cmp q t.entries) (found_in q t.entries))
 
 -- ---- steps of the loop over rows
 
 -- the first client that is found is the first above the dot, and the others are behind it
-pub walk_first : (F : FactSet) (a : Option Dot) (e : Dot × ClientRow) (rest : List (Dot × ClientRow)) (c : ClientFields)
+pub walk_first : (F : FactSet) (a : Option Dot) (e : Dot × ClientRow)
+    (rest : List (Dot × ClientRow)) (c : ClientFields)
     → client_view F e.0 ≡ Some c
     → filter_map (seen F) (e ∷ rest) ≡ above (clients_in F) a → WalksClients F a (Some (e.0, c))
 walk_first F a e rest c here left =
-    let all : above (clients_in F) a ≡ (e.0, c) ∷ filter_map (seen F) rest = sym left ∙ ap (λ (o : Option ClientFields). cons_option (option_map (λ c. (e.0, c)) o) (filter_map (seen F) rest)) here in
-    all ∙ ap (λ l. (e.0, c) ∷ l) (sym (above_next (clients_in F) a (e.0, c) (filter_map (seen F) rest) all))
+    let all : above (clients_in F) a ≡ (e.0, c) ∷ filter_map (seen F) rest =
+    sym left ∙ ap (λ (o : Option ClientFields).
+    cons_option (option_map (λ c. (e.0, c)) o) (filter_map (seen F) rest)) here in
+    all ∙ ap (λ l. (e.0, c) ∷ l)
+    (sym (above_next (clients_in F) a (e.0, c) (filter_map (seen F) rest) all))

@@ -37,13 +37,20 @@ consents_sound F client subject scope d (ConsentGiven c) held h =
     let q = and_parts (gives client subject (Some c)) (is_within scope c.scope) p.0 in
     let r = gives_parts client subject c q.0 in
     record {
-      live = record { consent = c; given = held; client_is = r.0; subject_is = r.1; unwithdrawn = unwithdrawn_of F d p.1 };
+      live = record {
+        consent = c;
+        given = held;
+        client_is = r.0;
+        subject_is = r.1;
+        unwithdrawn = unwithdrawn_of F d p.1;
+      };
       includes = (within_decides (tokens_of scope) (tokens_of c.scope)).0 q.1;
     }
 consents_sound F client subject scope d body held h = absurd (true≢false (sym h))
 
 -- a consent for the scope passes the test
-pub consents_complete : (F : FactSet) (client : Dot) (subject scope : List ℕ) (d : Dot) (x : IsConsentFor (map.get F) client subject scope d)
+pub consents_complete : (F : FactSet) (client : Dot) (subject scope : List ℕ) (d : Dot)
+    (x : IsConsentFor (map.get F) client subject scope d)
     → consents F client subject scope (d, ConsentGiven x.live.consent) ≡ true
 consents_complete F client subject scope d x = and_from _ _
     (and_from _ _
@@ -65,7 +72,8 @@ found_in : (p : Dot × Body → Bool) (F : FactSet) (es : Facts) (f : Dot × Bod
 found_in p F [] f all h = absurd (none_is_not_some f h)
 found_in p F (e ∷ es) f all h = elim (cases_Bool (p e)) [
   | inl here ↦
-      let same : e ≡ f = some_injective e f (sym (cond-true (p e) (Some e) (list.find p es) here) ∙ h) in
+      let same : e ≡ f =
+      some_injective e f (sym (cond-true (p e) (Some e) (list.find p es) here) ∙ h) in
       subst (λ x. (map.get F x.0 ≡ Some x.1) × (p x ≡ true)) same (all.0, here)
   | inr more ↦ found_in p F es f all.1 (sym (cond-false (p e) (Some e) (list.find p es) more) ∙ h)
 ]
@@ -76,7 +84,8 @@ above_key : (d : Dot) (es : Facts) (q : Dot) (b : Body) → T (below_all dot_cmp
 above_key d [] q b low h = absurd (none_is_not_some b h)
 above_key d (e ∷ es) q b low h = elim (cases_Bool (eq_by_cmp dot_cmp q e.0)) [
   | inl here ↦ ap (dot_cmp d) (tied q e.0 here) ∙ less _ (both _ _ low).0
-  | inr more ↦ above_key d es q b (both _ _ low).1 (sym (cond-false (eq_by_cmp dot_cmp q e.0) (Some e.1) (map.find dot_cmp q es) more) ∙ h)
+  | inr more ↦ above_key d es q b (both _ _ low).1
+      (sym (cond-false (eq_by_cmp dot_cmp q e.0) (Some e.1) (map.find dot_cmp q es) more) ∙ h)
 ]
 
 passes_at : (p : Dot × Body → Bool) (e : Dot × Body) (q : Dot) (b : Body) → q ≡ e.0 → b ≡ e.1
@@ -90,14 +99,32 @@ first_least : (p : Dot × Body → Bool) (es : Facts) (f : Dot × Body) → T (m
 first_least p [] f sorted h q b at passes = absurd (none_is_not_some f h)
 first_least p (e ∷ es) f sorted h q b at passes = elim (cases_Bool (p e)) [
   | inl here ↦
-      let same : e ≡ f = some_injective e f (sym (cond-true (p e) (Some e) (list.find p es) here) ∙ h) in
+      let same : e ≡ f =
+      some_injective e f (sym (cond-true (p e) (Some e) (list.find p es) here) ∙ h) in
       subst (λ x. dot_cmp q x.0 ≢ Less) same (elim (cases_Bool (eq_by_cmp dot_cmp q e.0)) [
-        | inl tie ↦ λ below. equal_not_less (sym (tied_itself dot_cmp_total e.0) ∙ ap (λ x. dot_cmp x e.0) (sym (tied q e.0 tie)) ∙ below)
-        | inr more ↦ λ below. greater_not_less (sym (dot_cmp_total.antisymm q e.0 ∙ ap ordering_reverse (above_key e.0 es q b (both _ _ sorted).0 (sym (cond-false (eq_by_cmp dot_cmp q e.0) (Some e.1) (map.find dot_cmp q es) more) ∙ at))) ∙ below)
+        | inl tie ↦ λ below. equal_not_less
+            (sym (tied_itself dot_cmp_total e.0) ∙ ap (λ x. dot_cmp x e.0) (sym (tied q e.0 tie))
+            ∙ below)
+        | inr more ↦ λ below. greater_not_less
+            (sym (dot_cmp_total.antisymm q e.0
+            ∙ ap ordering_reverse
+            (above_key e.0 es q b (both _ _ sorted).0
+            (sym (cond-false (eq_by_cmp dot_cmp q e.0) (Some e.1) (map.find dot_cmp q es) more)
+            ∙ at)))
+            ∙ below)
       ])
   | inr fails ↦ elim (cases_Bool (eq_by_cmp dot_cmp q e.0)) [
-    | inl tie ↦ absurd (true≢false (sym (passes_at p e q b (tied q e.0 tie) (sym (some_injective e.1 b (sym (cond-true (eq_by_cmp dot_cmp q e.0) (Some e.1) (map.find dot_cmp q es) tie) ∙ at))) passes) ∙ fails))
-    | inr more ↦ first_least p es f (both _ _ sorted).1 (sym (cond-false (p e) (Some e) (list.find p es) fails) ∙ h) q b (sym (cond-false (eq_by_cmp dot_cmp q e.0) (Some e.1) (map.find dot_cmp q es) more) ∙ at) passes
+    | inl tie ↦ absurd
+        (true≢false
+        (sym (passes_at p e q b (tied q e.0 tie)
+        (sym (some_injective e.1 b
+        (sym (cond-true (eq_by_cmp dot_cmp q e.0) (Some e.1) (map.find dot_cmp q es) tie) ∙ at)))
+        passes)
+        ∙ fails))
+    | inr more ↦ first_least p es f (both _ _ sorted).1
+        (sym (cond-false (p e) (Some e) (list.find p es) fails) ∙ h) q b
+        (sym (cond-false (eq_by_cmp dot_cmp q e.0) (Some e.1) (map.find dot_cmp q es) more) ∙ at)
+        passes
   ]
 ]
 
@@ -108,8 +135,15 @@ none_passes p [] h q b at passes = none_is_not_some b at
 none_passes p (e ∷ es) h q b at passes = elim (cases_Bool (p e)) [
   | inl here ↦ none_is_not_some e (sym (sym (cond-true (p e) (Some e) (list.find p es) here) ∙ h))
   | inr fails ↦ elim (cases_Bool (eq_by_cmp dot_cmp q e.0)) [
-    | inl tie ↦ true≢false (sym (passes_at p e q b (tied q e.0 tie) (sym (some_injective e.1 b (sym (cond-true (eq_by_cmp dot_cmp q e.0) (Some e.1) (map.find dot_cmp q es) tie) ∙ at))) passes) ∙ fails)
-    | inr more ↦ none_passes p es (sym (cond-false (p e) (Some e) (list.find p es) fails) ∙ h) q b (sym (cond-false (eq_by_cmp dot_cmp q e.0) (Some e.1) (map.find dot_cmp q es) more) ∙ at) passes
+    | inl tie ↦ true≢false
+        (sym (passes_at p e q b (tied q e.0 tie)
+        (sym (some_injective e.1 b
+        (sym (cond-true (eq_by_cmp dot_cmp q e.0) (Some e.1) (map.find dot_cmp q es) tie) ∙ at)))
+        passes)
+        ∙ fails)
+    | inr more ↦ none_passes p es (sym (cond-false (p e) (Some e) (list.find p es) fails) ∙ h) q b
+        (sym (cond-false (eq_by_cmp dot_cmp q e.0) (Some e.1) (map.find dot_cmp q es) more) ∙ at)
+        passes
   ]
 ]
 
@@ -119,13 +153,18 @@ least_of : (F : FactSet) (client : Dot) (subject scope : List ℕ) (o : Option (
     → list.find (consents F client subject scope) (map.entries F) ≡ o
     → IsLeastConsent (map.get F) client subject scope (option_map dot_of o)
 least_of F client subject scope None h = λ d x.
-    none_passes (consents F client subject scope) (map.entries F) h d (ConsentGiven x.live.consent) (sym (map.get-entries F d) ∙ x.live.given) (consents_complete F client subject scope d x)
+    none_passes (consents F client subject scope) (map.entries F) h d (ConsentGiven x.live.consent)
+    (sym (map.get-entries F d) ∙ x.live.given) (consents_complete F client subject scope d x)
 least_of F client subject scope (Some f) h =
-    let found = found_in (consents F client subject scope) F (map.entries F) f (AllIn-entries F) h in (
+    let found =
+    found_in (consents F client subject scope) F (map.entries F) f (AllIn-entries F) h in (
       consents_sound F client subject scope f.0 f.1 found.0 found.1,
-      λ q x. first_least (consents F client subject scope) (map.entries F) f (map.entries_sorted F) h q (ConsentGiven x.live.consent) (sym (map.get-entries F q) ∙ x.live.given) (consents_complete F client subject scope q x),
+      λ q x. first_least (consents F client subject scope) (map.entries F) f
+          (map.entries_sorted F) h q (ConsentGiven x.live.consent)
+          (sym (map.get-entries F q) ∙ x.live.given) (consents_complete F client subject scope q x),
     )
 
 pub least_consent : (F : FactSet) (client : Dot) (subject scope : List ℕ)
     → IsLeastConsent (map.get F) client subject scope (consent_for F client subject scope)
-least_consent F client subject scope = least_of F client subject scope (list.find (consents F client subject scope) (map.entries F)) refl
+least_consent F client subject scope = least_of F client subject scope
+    (list.find (consents F client subject scope) (map.entries F)) refl

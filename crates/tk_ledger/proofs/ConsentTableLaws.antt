@@ -23,7 +23,8 @@ use Rattle.tk_ledger.specs.Index.{is_at, consent_cmp, consent_key, key_of, is_fr
 use Rattle.tk_ledger.specs.Index.{is_listed, IsConsents, IsWithdrawals}
 use Rattle.tk_ledger.specs.declared.change.Change.TheVariants as change
 use Rattle.tk_ledger.specs.declared.consent_keys.ConsentKey.{ConsentKey}
-use Rattle.tk_ledger.proofs.ChangeLaws.{changed, consents_by}
+use Rattle.tk_ledger.proofs.ChangeLaws.{changed}
+use Rattle.tk_ledger.proofs.TableChangeLaws.{consents_by}
 use Rattle.tk_ledger.proofs.KeyLaws.{at_is_same, consent_tied}
 use Rattle.tk_ledger.proofs.SameLaws.{same_dot-true}
 use Rattle.tk_ledger.proofs.TableLaws.{and_yes, and_no, given_on, ranged_on}
@@ -46,27 +47,43 @@ key_is None d key k h = absurd (none_is_not_some key (sym h))
 key_is (Some c) d key k h =
     ap (λ (x : ConsentKey). eq_by_cmp consent_cmp x k) (some_injective key (key_of d c) h)
     ∙ consent_tied c.client k.client (sha256 c.subject) k.subject d k.consent
-    ∙ turned (is_same_dot c.client k.client) (bytes_eq (sha256 c.subject) k.subject) (is_same_dot d k.consent)
+    ∙ turned (is_same_dot c.client k.client) (bytes_eq (sha256 c.subject) k.subject)
+    (is_same_dot d k.consent)
     ∙ ap (λ x. x && is_from k.client k.subject (Some c)) (sym (at_is_same d k.consent))
 
 -- the table without the key of the consent at a dot
 pub unlisted : (F : FactSet) (d : Dot) (key k : ConsentKey) (before after : Bool)
     → Some key ≡ option_map (key_of d) (consent_at F d)
-    → after ≡ cond (eq_by_cmp consent_cmp key k) false before → after ≡ (before && not (is_key_at F d k))
-unlisted F d key k before after h r = r ∙ removed (eq_by_cmp consent_cmp key k) before ∙ ap (λ x. before && not x) (key_is (consent_at F d) d key k h)
+    → after ≡ cond (eq_by_cmp consent_cmp key k) false before
+    → after ≡ (before && not (is_key_at F d k))
+unlisted F d key k before after h r = r ∙ removed (eq_by_cmp consent_cmp key k) before
+    ∙ ap (λ x. before && not x) (key_is (consent_at F d) d key k h)
 
 -- ---- a consent that was given
 
 -- the new key is listed unless its consent is withdrawn
-pub give_row : (G : FactSet) (d client : Dot) (subject : List ℕ) (ws : BTreeSet Dot) (t u : BTreeSet ConsentKey)
-    → option_map change_in (map.get G d) ≡ Some (change.Give client subject) → IsWithdrawals (map.remove G d) ws → IsConsents (map.remove G d) t → IsDot d
-    → ((k : ConsentKey) → contains consent_cmp u k ≡ ((eq_by_cmp consent_cmp (consent_key client subject d) k && not (contains dot_cmp ws d)) || contains consent_cmp t k))
+pub give_row : (G : FactSet) (d client : Dot) (subject : List ℕ) (ws : BTreeSet Dot)
+    (t u : BTreeSet ConsentKey)
+    → option_map change_in (map.get G d) ≡ Some (change.Give client subject)
+    → IsWithdrawals (map.remove G d) ws → IsConsents (map.remove G d) t → IsDot d
+    → ((k : ConsentKey)
+    → contains consent_cmp u k
+    ≡ ((eq_by_cmp consent_cmp (consent_key client subject d) k && not (contains dot_cmp ws d))
+    || contains consent_cmp t k))
     → IsConsents G u
 give_row G d client subject ws t u h w i here r =
-    consents_by G d (change.Give client subject) t u h i (ranged_on t u d (λ e s. gives_to e s (change.Give client subject) && not (contains dot_cmp ws d)) here i.ranged own)
+    consents_by G d (change.Give client subject) t u h i
+    (ranged_on t u d
+    (λ e s. gives_to e s (change.Give client subject) && not (contains dot_cmp ws d)) here i.ranged
+    own)
     (λ e s q. own e s q
-    ∙ ap (λ x. x || is_listed t e s q) (moved (gives_to e s (change.Give client subject)) (is_same_dot d q) (contains dot_cmp ws d) (is_withdrawn (map.remove G d) q) (λ same. w d ∙ ap (is_withdrawn (map.remove G d)) (same_dot-true d q same)))
-    ∙ ap (λ x. ((gives_to e s (change.Give client subject) && x) && not (is_withdrawn (map.remove G d) q)) || is_listed t e s q) (sym (at_is_same d q))
+    ∙ ap (λ x. x || is_listed t e s q)
+    (moved (gives_to e s (change.Give client subject)) (is_same_dot d q) (contains dot_cmp ws d)
+    (is_withdrawn (map.remove G d) q)
+    (λ same. w d ∙ ap (is_withdrawn (map.remove G d)) (same_dot-true d q same)))
+    ∙ ap (λ x. ((gives_to e s (change.Give client subject) && x)
+    && not (is_withdrawn (map.remove G d) q))
+    || is_listed t e s q) (sym (at_is_same d q))
     ∙ sym (and_yes _))
   where
     regroup : (a b c n : Bool) → ((a && (b && c)) && n) ≡ (((a && b) && n) && c)
@@ -76,10 +93,16 @@ give_row G d client subject ws t u h w i here r =
     regroup false b c n = refl
 
     own : (e : Dot) (s : List ℕ) (q : Dot)
-        → is_listed u e s q ≡ (((gives_to e s (change.Give client subject) && not (contains dot_cmp ws d)) && is_same_dot d q) || is_listed t e s q)
+        → is_listed u e s q
+        ≡ (((gives_to e s (change.Give client subject) && not (contains dot_cmp ws d))
+        && is_same_dot d q)
+        || is_listed t e s q)
     own e s q = r (consent_key e s q)
-        ∙ ap (λ x. (x && not (contains dot_cmp ws d)) || is_listed t e s q) (consent_tied client e subject s d q)
-        ∙ ap (λ x. x || is_listed t e s q) (regroup (is_same_dot client e) (bytes_eq subject s) (is_same_dot d q) (not (contains dot_cmp ws d)))
+        ∙ ap (λ x. (x && not (contains dot_cmp ws d)) || is_listed t e s q)
+        (consent_tied client e subject s d q)
+        ∙ ap (λ x. x || is_listed t e s q)
+        (regroup (is_same_dot client e) (bytes_eq subject s) (is_same_dot d q)
+        (not (contains dot_cmp ws d)))
 
     moved : (g s v w : Bool) → (s ≡ true → v ≡ w) → ((g && not v) && s) ≡ ((g && s) && not w)
     moved true true v w h = and_yes (not v) ∙ ap not (h refl)
@@ -91,26 +114,36 @@ give_row G d client subject ws t u h w i here r =
 -- the key of a consent that is withdrawn is listed no more
 pub withdraw_row : (G : FactSet) (d c : Dot) (t u : BTreeSet ConsentKey)
     → option_map change_in (map.get G d) ≡ Some (change.Withdraw c) → IsConsents (map.remove G d) t
-    → ((k : ConsentKey) → contains consent_cmp u k ≡ (contains consent_cmp t k && not (is_key_at G c k)))
+    → ((k : ConsentKey)
+    → contains consent_cmp u k ≡ (contains consent_cmp t k && not (is_key_at G c k)))
     → IsConsents G u
 withdraw_row G d c t u h i r =
     consents_by G d (change.Withdraw c) t u h i
-    (λ e s q listed. i.ranged e s q (and_parts (is_listed t e s q) (not (is_key_at G c (consent_key e s q))) (sym (r (consent_key e s q)) ∙ listed)).0)
+    (λ e s q listed.
+    i.ranged e s q
+    (and_parts (is_listed t e s q) (not (is_key_at G c (consent_key e s q)))
+    (sym (r (consent_key e s q)) ∙ listed)).0)
     (λ e s q. r (consent_key e s q)
-    ∙ gone (is_at c q) (is_from e s (consent_at (map.remove G d) q)) (is_from e s (consent_at G c)) (is_listed t e s q) (not (is_withdrawn (map.remove G d) q)) (i.listed e s q)
-    (λ same. given e s c ∙ ap (λ x. is_from e s (consent_at (map.remove G d) x)) (same_dot-true c q (sym (at_is_same c q) ∙ same)))
+    ∙ gone (is_at c q) (is_from e s (consent_at (map.remove G d) q)) (is_from e s (consent_at G c))
+    (is_listed t e s q) (not (is_withdrawn (map.remove G d) q)) (i.listed e s q)
+    (λ same. given e s c
+    ∙ ap (λ x. is_from e s (consent_at (map.remove G d) x))
+    (same_dot-true c q (sym (at_is_same c q) ∙ same)))
     ∙ ap (λ x. is_listed t e s q && not x) (at_is_same c q))
   where
     given : (e : Dot) (s : List ℕ) (q : Dot)
         → is_from e s (consent_at G q) ≡ is_from e s (consent_at (map.remove G d) q)
     given e s q =
         let x = changed G d (change.Withdraw c) h in
-        sym (given_on (map.remove G d) G d x.body e s q (is_from e s (consent_at (map.remove G d) q)) x.more refl)
-        ∙ ap (λ z. (gives_to e s z && is_at d q) || is_from e s (consent_at (map.remove G d) q)) x.is
+        sym (given_on (map.remove G d) G d x.body e s q
+        (is_from e s (consent_at (map.remove G d) q)) x.more refl)
+        ∙ ap (λ z. (gives_to e s z && is_at d q) || is_from e s (consent_at (map.remove G d) q))
+        x.is
 
     gone : (a f g x n : Bool) → x ≡ (f && n) → (a ≡ true → g ≡ f)
         → (x && not (a && g)) ≡ (x && not a)
-    gone true f g x n h same = ap (λ z. x && not z) (same refl) ∙ ap (λ z. z && not f) h ∙ none f n ∙ sym (and_no x)
+    gone true f g x n h same =
+        ap (λ z. x && not z) (same refl) ∙ ap (λ z. z && not f) h ∙ none f n ∙ sym (and_no x)
       where
         none : (f n : Bool) → ((f && n) && not f) ≡ false
         none true n = and_no n

@@ -30,7 +30,7 @@ use Rattle.tk_ledger.specs.Status.{IsActive}
 use Rattle.tk_ledger.specs.Ends.{FamilyEnds}
 use Rattle.tk_ledger.proofs.EndingLaws.{under_itself}
 use Rattle.tk_ledger.proofs.RootLaws.{from_some, ended-under}
-use Rattle.tk_ledger.proofs.TokenLaws.{IsBad-below, IsEnded-below, IsOut-below}
+use Rattle.tk_ledger.proofs.TokenGrowthLaws.{IsBad-below, IsEnded-below, IsOut-below}
 use Rattle.tk_ledger.proofs.StatusLaws.{no_code_is}
 
 -- ---- bad grants
@@ -68,8 +68,10 @@ grant_there : (body_at : Bodies) (k : TokenId) (m : MintedFields) → k.kind ≢
     → minted_in body_at k ≡ Some m
     → (l : Link) × (links_in body_at k.dot ≡ Some l) × (grant_at k.dot l ≡ k)
 grant_there body_at k m na mints =
-    let x : (b : Body) × (body_at k.dot ≡ Some b) × (minted_of b k.kind ≡ Some m) = from_some (λ b. minted_of b k.kind) (body_at k.dot) m mints in
-    let l : (l : Link) × (link_of x.0 ≡ Some l) × (grant_at k.dot l ≡ k) = grant_of k.kind k.dot x.0 m na x.2 in
+    let x : (b : Body) × (body_at k.dot ≡ Some b) × (minted_of b k.kind ≡ Some m) =
+    from_some (λ b. minted_of b k.kind) (body_at k.dot) m mints in
+    let l : (l : Link) × (link_of x.0 ≡ Some l) × (grant_at k.dot l ≡ k) =
+    grant_of k.kind k.dot x.0 m na x.2 in
     (l.0, ap (option_and_then link_of) x.1 ∙ l.1, l.2)
 
 same_link : (l j : Link) → Some l ≡ Some j → l ≡ j
@@ -77,11 +79,21 @@ same_link l j h = cc
 
 pub bad_grants : (body_at : Bodies) (k : TokenId) (m : MintedFields) → k.kind ≢ kind.Access
     → minted_in body_at k ≡ Some m
-    → (IsBad (links_in body_at) (IsMarked body_at) k.dot → IsMarked body_at k ⊎ IsTwice (links_in body_at) k) × (IsMarked body_at k ⊎ IsTwice (links_in body_at) k → IsBad (links_in body_at) (IsMarked body_at) k.dot)
+    → (IsBad (links_in body_at) (IsMarked body_at) k.dot
+    → IsMarked body_at k ⊎ IsTwice (links_in body_at) k)
+    × (IsMarked body_at k ⊎ IsTwice (links_in body_at) k
+    → IsBad (links_in body_at) (IsMarked body_at) k.dot)
 bad_grants body_at k m na mints =
-    let l : (l : Link) × (links_in body_at k.dot ≡ Some l) × (grant_at k.dot l ≡ k) = grant_there body_at k m na mints in (
-      λ bad. subst (λ (t : TokenId). IsMarked body_at t ⊎ IsTwice (links_in body_at) t) (ap (grant_at k.dot) (same_link bad.link l.0 (sym bad.here ∙ l.1)) ∙ l.2) bad.why,
-      λ why. record { link = l.0; here = l.1; why = subst (λ (t : TokenId). IsMarked body_at t ⊎ IsTwice (links_in body_at) t) (sym l.2) why },
+    let l : (l : Link) × (links_in body_at k.dot ≡ Some l) × (grant_at k.dot l ≡ k) =
+    grant_there body_at k m na mints in (
+      λ bad. subst (λ (t : TokenId). IsMarked body_at t ⊎ IsTwice (links_in body_at) t)
+          (ap (grant_at k.dot) (same_link bad.link l.0 (sym bad.here ∙ l.1)) ∙ l.2) bad.why,
+      λ why. record {
+        link = l.0;
+        here = l.1;
+        why = subst (λ (t : TokenId). IsMarked body_at t ⊎ IsTwice (links_in body_at) t)
+            (sym l.2) why;
+      },
     )
 
 -- ---- in the set itself
@@ -89,8 +101,10 @@ bad_grants body_at k m na mints =
 -- no token of a family with a bad grant is active
 pub family_ends : (body_at : Bodies) (now : ℕ) (h : Handle) → FamilyEnds body_at now h
 family_ends body_at now h d c bad under member a =
-    let one : c ≡ a.code = IsUnder-one (links_in body_at) (anchor_in body_at h.id.dot) c a.code member a.under in
-    a.alive (subst (λ (x : Dot). IsDead (links_in body_at) (IsMarked body_at) x) one (record { member = d; under = under; bad = bad }))
+    let one : c ≡ a.code =
+    IsUnder-one (links_in body_at) (anchor_in body_at h.id.dot) c a.code member a.under in
+    a.alive (subst (λ (x : Dot). IsDead (links_in body_at) (IsMarked body_at) x) one
+    (record { member = d; under = under; bad = bad }))
 
 -- no token that its client revoked is active
 pub revoked_ends : (body_at : Bodies) (now : ℕ) (h : Handle) → IsEnded body_at h.id
@@ -98,8 +112,10 @@ pub revoked_ends : (body_at : Bodies) (now : ℕ) (h : Handle) → IsEnded body_
 revoked_ends body_at now h e a = elim (no_code_is h.id.kind a.no_code) [
   | inl access ↦ a.access access e
   | inr refresh ↦
-      let bad = (bad_grants body_at h.id e.minted (λ same. clash (sym refresh ∙ same)) e.mints).1 (inl (inr (inl (refresh, e)))) in
-      family_ends body_at now h h.id.dot e.code bad (ended-under body_at h.id (λ same. clash (sym refresh ∙ same)) e) e.under a
+      let bad = (bad_grants body_at h.id e.minted (λ same. clash (sym refresh ∙ same)) e.mints).1
+      (inl (inr (inl (refresh, e)))) in
+      family_ends body_at now h h.id.dot e.code bad
+      (ended-under body_at h.id (λ same. clash (sym refresh ∙ same)) e) e.under a
 ]
   where
     clash : ¬ (kind.Refresh ≡ kind.Access)
@@ -110,7 +126,8 @@ revoked_ends body_at now h e a = elim (no_code_is h.id.kind a.no_code) [
 pub family_inactive : (F G : FactSet) → IsSubset F G → (now : ℕ) (h : Handle) (d c : Dot)
     → IsBad (links_in (map.get F)) (IsMarked (map.get F)) d → IsUnder (links_in (map.get G)) d c
     → IsMintedUnder (map.get G) h.id.dot c → ¬ IsActive (map.get G) now h
-family_inactive F G w now h d c bad under member = family_ends (map.get G) now h d c (IsBad-below F G w d bad) under member
+family_inactive F G w now h d c bad under member =
+    family_ends (map.get G) now h d c (IsBad-below F G w d bad) under member
 
 pub revoked_inactive : (F G : FactSet) → IsSubset F G → (now : ℕ) (h : Handle)
     → IsEnded (map.get F) h.id → ¬ IsActive (map.get G) now h
@@ -122,4 +139,6 @@ pub signed_out_inactive : (F G : FactSet) → IsSubset F G → (now : ℕ) (h : 
 signed_out_inactive F G w now h c gone member =
     let before = under_itself F c gone.issued gone.issues in
     let after = IsOut-below F G w c gone in
-    family_inactive F G w now h c c (record { link = Code; here = before.leads.1; why = inl (inr (inr (refl, gone))) }) (under_itself G c after.issued after.issues) member
+    family_inactive F G w now h c c
+    (record { link = Code; here = before.leads.1; why = inl (inr (inr (refl, gone))) })
+    (under_itself G c after.issued after.issues) member

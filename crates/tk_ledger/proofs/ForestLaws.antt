@@ -34,11 +34,12 @@ use Rattle.tk_ledger.specs.Changes.{change_in, reuses_of}
 use Rattle.tk_ledger.specs.Index.{IsTied, Wakes}
 use Rattle.tk_ledger.specs.declared.change.Change.{Change}
 use Rattle.tk_ledger.specs.declared.change.Change.TheVariants as change
-use Rattle.tk_ledger.proofs.TokenLaws.{is_marked-sound, is_marked-complete, IsMarked-below}
-use Rattle.tk_ledger.proofs.RootLaws.{links-below}
+use Rattle.tk_ledger.proofs.TokenLaws.{is_marked-sound, is_marked-complete}
+use Rattle.tk_ledger.proofs.TokenGrowthLaws.{IsMarked-below}
+use Rattle.tk_ledger.proofs.RootLaws.{link_under, links-below}
 use Rattle.tk_ledger.proofs.SameLaws.{same_token-true}
 use Rattle.tk_ledger.proofs.KeyLaws.{same_tests, at_itself}
-use Rattle.tk_ledger.proofs.EndingLaws.{Revokes, SignsOut, Stops, link_under, marks_by_one}
+use Rattle.tk_ledger.proofs.EndingLaws.{Revokes, SignsOut, Stops, marks_by_one}
 use Rattle.tk_ledger.proofs.WakeLaws.{grant_place, wakes_none}
 
 -- ---- a change and its body have the same link, revocation and sign-out
@@ -93,25 +94,33 @@ put_signs other l h = refl
 pub links_still : (F G : FactSet) (d : Dot) (b : Body) → OneMore F G d b → puts (change_in b) ≡ None
     → (q : Dot) → links_in (map.get F) q ≡ links_in (map.get G) q
 links_still F G d b m none q = elim (cases_dots q d) [
-  | inl same ↦ ap (option_and_then link_of) (ap (map.get F) same ∙ m.free) ∙ sym (ap (option_and_then link_of) (ap (map.get G) same ∙ m.here) ∙ link-change b ∙ none)
+  | inl same ↦ ap (option_and_then link_of) (ap (map.get F) same ∙ m.free)
+      ∙ sym (ap (option_and_then link_of) (ap (map.get G) same ∙ m.here) ∙ link-change b ∙ none)
   | inr ne ↦ sym (ap (option_and_then link_of) (m.there q ne))
 ]
 
 pub links_put : (F G : FactSet) (d : Dot) (b : Body) (l : Link) (L N : Links) → OneMore F G d b
     → puts (change_in b) ≡ Some l
-    → ((q : Dot) → L q ≡ links_in (map.get F) q) → ((q : Dot) → N q ≡ cond (dot_eq q d) (Some l) (L q)) → (q : Dot) → N q ≡ links_in (map.get G) q
+    → ((q : Dot) → L q ≡ links_in (map.get F) q)
+    → ((q : Dot) → N q ≡ cond (dot_eq q d) (Some l) (L q)) → (q : Dot)
+    → N q ≡ links_in (map.get G) q
 links_put F G d b l L N m some old new q = elim (cases_dots q d) [
-  | inl same ↦ new q ∙ cond-true (dot_eq q d) (Some l) (L q) (ap (λ (x : Dot). dot_eq x d) same ∙ at_itself d) ∙ sym some ∙ sym (link-change b)
+  | inl same ↦ new q
+      ∙ cond-true (dot_eq q d) (Some l) (L q) (ap (λ (x : Dot). dot_eq x d) same ∙ at_itself d)
+      ∙ sym some ∙ sym (link-change b)
       ∙ sym (ap (option_and_then link_of) (ap (map.get G) same ∙ m.here))
-  | inr ne ↦ new q ∙ cond-false (dot_eq q d) (Some l) (L q) (apart_at q d ne) ∙ old q ∙ sym (ap (option_and_then link_of) (m.there q ne))
+  | inr ne ↦ new q ∙ cond-false (dot_eq q d) (Some l) (L q) (apart_at q d ne) ∙ old q
+      ∙ sym (ap (option_and_then link_of) (m.there q ne))
 ]
 
 unraised : (f g : Links) (q : Dot) → ((x : Dot) → f x ≡ g x) → IsRaised f g q → ⊥
-unraised f g q h r = r.before r.code (subst (λ (x : Links). IsUnder x q r.code) (sym (λ i x. h x i)) r.now)
+unraised f g q h r =
+    r.before r.code (subst (λ (x : Links). IsUnder x q r.code) (sym (λ i x. h x i)) r.now)
 
 raised_by : (f g L N : Links) (q : Dot) → ((x : Dot) → L x ≡ f x) → ((x : Dot) → N x ≡ g x)
     → IsRaised f g q → IsRaised L N q
-raised_by f g L N q h i r = subst (λ (x : Links). IsRaised x N q) (sym (λ j x. h x j)) (subst (λ (x : Links). IsRaised f x q) (sym (λ j x. i x j)) r)
+raised_by f g L N q h i r = subst (λ (x : Links). IsRaised x N q) (sym (λ j x. h x j))
+    (subst (λ (x : Links). IsRaised f x q) (sym (λ j x. i x j)) r)
 
 -- ---- the forest after one more fact
 
@@ -121,7 +130,8 @@ Touches F G b k = (reuses_of k (change_in b) ≡ true) ⊎ Stops F G b k
 
 still_marked : (F G : FactSet) (d : Dot) (b : Body) → OneMore F G d b → (k : TokenId)
     → is_marked F k ≡ true → is_marked G k ≡ true
-still_marked F G d b m k h = is_marked-complete G k (IsMarked-below F G (more_subset F G d b m) k (is_marked-sound F k h))
+still_marked F G d b m k h =
+    is_marked-complete G k (IsMarked-below F G (more_subset F G d b m) k (is_marked-sound F k h))
 
 -- a token that one more fact does not touch, or that was marked before, is marked as before
 pub same_mark : (F G : FactSet) (d : Dot) (b : Body) (k : TokenId) → OneMore F G d b
@@ -155,15 +165,25 @@ tied_by F G d b x y z at m t links same woke raised touched = record {
 
     by_code : (q c : Dot) (l : Link) → at q ≡ false → links_in (map.get G) q ≡ Some l
         → IsUnder (links_in (map.get G)) q c
-        → (o : Option Dot) → code_of (links_in (map.get F)) q ≡ o → set.contains x.marks (grant_at q l) ≡ is_marked G (grant_at q l)
+        → (o : Option Dot) → code_of (links_in (map.get F)) q ≡ o
+        → set.contains x.marks (grant_at q l) ≡ is_marked G (grant_at q l)
     by_code q c l apart link under None none =
-        let here : IsRaised (links_in (map.get F)) (links_in (map.get G)) q = record { code = c; now = under; before = λ e u. none_is_not_some e (sym none ∙ code_of-complete (links_in (map.get F)) q e u) } in
+        let here : IsRaised (links_in (map.get F)) (links_in (map.get G)) q = record {
+          code = c;
+          now = under;
+          before =
+              λ e u. none_is_not_some e (sym none ∙ code_of-complete (links_in (map.get F)) q e u);
+        } in
         absurd (true≢false (sym (raised q here) ∙ apart))
     by_code q c l apart link under (Some e) found =
-        let before : IsUnder (links_in (map.get F)) q e = code_of-sound (links_in (map.get F)) q e found in
-        let one : (j : Link) × (links_in (map.get F) q ≡ Some j) = link_under (links_in (map.get F)) q e before in
-        let kept : one.0 ≡ l = some_injective one.0 l (sym (links-below F G (more_subset F G d b m) q one.0 one.1) ∙ link) in
-        t.marks q e l (one.1 ∙ ap (λ (j : Link). Some j) kept) before ∙ same_mark F G d b (grant_at q l) m (marked q l apart)
+        let before : IsUnder (links_in (map.get F)) q e =
+        code_of-sound (links_in (map.get F)) q e found in
+        let one : (j : Link) × (links_in (map.get F) q ≡ Some j) =
+        link_under (links_in (map.get F)) q e before in
+        let kept : one.0 ≡ l = some_injective one.0 l
+        (sym (links-below F G (more_subset F G d b m) q one.0 one.1) ∙ link) in
+        t.marks q e l (one.1 ∙ ap (λ (j : Link). Some j) kept) before
+        ∙ same_mark F G d b (grant_at q l) m (marked q l apart)
 
     by_test : (q c : Dot) (l : Link) → links_in (map.get G) q ≡ Some l
         → IsUnder (links_in (map.get G)) q c → (at q ≡ true) ⊎ (at q ≡ false)
@@ -187,7 +207,8 @@ unrevoked b k none r = absurd (none_is_not_some r.revocation (sym none ∙ revok
 -- a change without a link brings no dot under a code
 unlinked : (F G : FactSet) (d : Dot) (b : Body) (q : Dot) {P : Type 0} → OneMore F G d b
     → puts (change_in b) ≡ None → IsRaised (links_in (map.get F)) (links_in (map.get G)) q → P
-unlinked F G d b q m none r = absurd (unraised (links_in (map.get F)) (links_in (map.get G)) q (links_still F G d b m none) r)
+unlinked F G d b q m none r =
+    absurd (unraised (links_in (map.get F)) (links_in (map.get G)) q (links_still F G d b m none) r)
 
 -- the forest after a change without a link, if the marks at all dots with a token that the change
 -- reuses, revokes or signs out were written, but for codes that were marked before
@@ -217,16 +238,22 @@ tied_still F G d b x m put revoke sign reuse t =
 -- the forest after a link, and the marks at the dots that the link brings under a code
 pub tied_put : (F G : FactSet) (d : Dot) (b : Body) (l : Link) (x y z : ForestFacts) (ds : List Dot)
     → OneMore F G d b → puts (change_in b) ≡ Some l → IsTied F x
-    → ((q : Dot) → map.get y.links q ≡ links_in (map.get G) q) → y.marks ≡ x.marks → ((q : Dot) → IsRaised (links_at x) (links_at y) q → has ds q ≡ true)
+    → ((q : Dot) → map.get y.links q ≡ links_in (map.get G) q) → y.marks ≡ x.marks
+    → ((q : Dot) → IsRaised (links_at x) (links_at y) q → has ds q ≡ true)
     → Wakes G y (has ds) z → IsTied G z
 tied_put F G d b l x y z ds m is t links same all woke =
     tied_by F G d b x y z (has ds) m t links same woke
-    (λ q r. all q (raised_by (links_in (map.get F)) (links_in (map.get G)) (links_at x) (links_at y) q t.links links r))
+    (λ q r. all q
+    (raised_by (links_in (map.get F)) (links_in (map.get G)) (links_at x)
+    (links_at y) q t.links links r))
     (λ k touch. elim touch [
       | inl seen ↦ absurd (true≢false (sym seen ∙ put_reuses (change_in b) l k is))
       | inr (inl r) ↦ unrevoked b k (put_revokes (change_in b) l is) r
       | inr (inr (inl r)) ↦ unsigned G b k (put_signs (change_in b) l is) r
-      | inr (inr (inr r)) ↦ inl (all k.dot (raised_by (links_in (map.get F)) (links_in (map.get G)) (links_at x) (links_at y) k.dot t.links links r))
+      | inr (inr (inr r)) ↦ inl
+          (all k.dot
+          (raised_by (links_in (map.get F)) (links_in (map.get G)) (links_at x)
+          (links_at y) k.dot t.links links r))
     ])
 
 -- the forest after a reuse, and the marks at the token's dot
@@ -235,18 +262,23 @@ pub tied_mark : (F G : FactSet) (d : Dot) (b : Body) (j : TokenId) (x z : Forest
     → Wakes G x (λ q. dot_eq q j.dot) z → IsTied G z
 tied_mark F G d b j x z m is t woke =
     tied_quiet F G d b x z (λ q. dot_eq q j.dot) m (ap puts is) t woke
-    (λ k h. ap (λ (t : TokenId). dot_eq k.dot t.dot) (same_token-true j k (sym (ap (reuses_of k) is) ∙ h)) ∙ at_itself k.dot)
+    (λ k h. ap (λ (t : TokenId). dot_eq k.dot t.dot)
+    (same_token-true j k (sym (ap (reuses_of k) is) ∙ h))
+    ∙ at_itself k.dot)
     (λ k r. unrevoked b k (ap revoking is) r) (λ k r. unsigned G b k (ap signs is) r)
 
 -- a token that a revocation revokes is the revocation's
 pub revokes_at : (b : Body) (f : revoked.TokenRevoked) (k : TokenId) → change_in b ≡ change.Revoke f
     → Revokes b k → dot_eq k.dot f.token.dot ≡ true
 revokes_at b f k is r =
-    let same : f ≡ r.revocation = some_injective f r.revocation (sym (ap revoking is) ∙ revoking-change b k r) in
-    ap (λ (g : revoked.TokenRevoked). dot_eq k.dot g.token.dot) same ∙ ap (λ (t : TokenId). dot_eq k.dot t.dot) r.token ∙ at_itself k.dot
+    let same : f ≡ r.revocation =
+    some_injective f r.revocation (sym (ap revoking is) ∙ revoking-change b k r) in
+    ap (λ (g : revoked.TokenRevoked). dot_eq k.dot g.token.dot) same
+    ∙ ap (λ (t : TokenId). dot_eq k.dot t.dot) r.token ∙ at_itself k.dot
 
 -- the forest after a revocation, and the marks at the token's dot
-pub tied_revoke : (F G : FactSet) (d : Dot) (b : Body) (f : revoked.TokenRevoked) (x z : ForestFacts)
+pub tied_revoke : (F G : FactSet) (d : Dot) (b : Body) (f : revoked.TokenRevoked)
+    (x z : ForestFacts)
     → OneMore F G d b → change_in b ≡ change.Revoke f → IsTied F x
     → Wakes G x (λ q. dot_eq q f.token.dot) z → IsTied G z
 tied_revoke F G d b f x z m is t woke =
@@ -264,7 +296,9 @@ unfound (Some c) h = absurd (h c refl)
 -- the code of a top is the one that the dot is under
 pub top_code : (f : Links) (m : Marks) (d : Dot) (x : Top) → IsTop f m d x
     → code_in_top x ≡ code_of f d
-top_code f m d top.Absent h = unfound (code_of f d) (λ c e. (let l = link_under f d c (code_of-sound f d c e) in none_is_not_some l.0 (sym h ∙ l.1)))
+top_code f m d top.Absent h = unfound (code_of f d)
+    (λ c e. (let l = link_under f d c (code_of-sound f d c e) in
+    none_is_not_some l.0 (sym h ∙ l.1)))
 top_code f m d top.Broken h = unfound (code_of f d) (λ c e. h.1 c (code_of-sound f d c e))
 top_code f m d (top.Code c) h = sym (code_of-complete f d c h.0)
 top_code f m d (top.Dead c) h = sym (code_of-complete f d c h.0)

@@ -49,12 +49,15 @@ module _ (P : StoreFields) (now : ℕ) (h : Handle) where
   pub here_unknown : map.get P.slots h.id.dot ≡ None → status_here P now h ≡ Unseen
   here_unknown at =
       ap (λ (o : Option Slot). cond (is_skipped_slot o) Wrong (status_in F now h)) at
-      ∙ ap (λ (o : Option Body). status_by F now h.id o (minted_as (map.get F) h) (root_in (map.get F) h.id.dot)) (get_held P.slots h.id.dot ∙ ap held_slot at)
+      ∙ ap (λ (o : Option Body).
+      status_by F now h.id o (minted_as (map.get F) h) (root_in (map.get F) h.id.dot))
+      (get_held P.slots h.id.dot ∙ ap held_slot at)
 
   by_test : (R : Status → Type 0) → (map.get P.slots h.id.dot ≡ Some Skipped → R Wrong)
       → (is_skipped P.slots h.id.dot ≡ false → R (status_in F now h)) → R (status_here P now h)
   by_test R gone here =
-      elim (is_skipped P.slots h.id.dot) as (λ t. is_skipped P.slots h.id.dot ≡ t → R (cond t Wrong (status_in F now h))) [
+      elim (is_skipped P.slots h.id.dot) as
+      (λ t. is_skipped P.slots h.id.dot ≡ t → R (cond t Wrong (status_in F now h))) [
         | true ↦ λ is. gone (skipped_slot (map.get P.slots h.id.dot) is)
         | false ↦ here
       ] refl
@@ -64,7 +67,10 @@ module _ (P : StoreFields) (now : ℕ) (h : Handle) where
   -- no token was minted at a skipped dot, as far as the facts that are held go
   none_minted : (m : MintedFields) → map.get P.slots h.id.dot ≡ Some Skipped
       → minted_in (map.get F) h.id ≡ Some m → ⊥
-  none_minted m at mints = none_is_not_some m (sym (ap (option_and_then (λ (b : Body). minted_of b h.id.kind)) (get_held P.slots h.id.dot ∙ ap held_slot at)) ∙ mints)
+  none_minted m at mints = none_is_not_some m
+      (sym (ap (option_and_then (λ (b : Body). minted_of b h.id.kind))
+      (get_held P.slots h.id.dot ∙ ap held_slot at))
+      ∙ mints)
 
   from_says : (x : Status) → is_skipped P.slots h.id.dot ≡ false → Says (map.get F) h x
       → SaysHere P h x
@@ -75,7 +81,10 @@ module _ (P : StoreFields) (now : ℕ) (h : Handle) where
 
   pub says_here : SaysHere P h (status_here P now h)
   says_here = by_test (SaysHere P h)
-      (λ at. (λ none. none_is_not_some Skipped (sym none ∙ at), λ t. none_minted t.minted at t.mints))
+      (λ at. (
+        λ none. none_is_not_some Skipped (sym none ∙ at),
+        λ t. none_minted t.minted at t.mints,
+      ))
       (λ whole. from_says (status_in F now h) whole (says F now h))
 
   pub known_here : IsKnown (status_here P now h) ↔ IsKnownToken (map.get F) h
@@ -91,11 +100,13 @@ module _ (P : StoreFields) (now : ℕ) (h : Handle) where
   -- a standing is that by the facts that are held
   pub here_known : (s : StandingFields) → status_here P now h ≡ Known s
       → status_in F now h ≡ Known s
-  here_known s = by_test (λ x. x ≡ Known s → status_in F now h ≡ Known s) (λ at e. absurd (cc)) (λ _ e. e)
+  here_known s =
+      by_test (λ x. x ≡ Known s → status_in F now h ≡ Known s) (λ at e. absurd (cc)) (λ _ e. e)
 
   -- the status of an active token is that by the facts that are held
   pub active_here : IsActive (map.get F) now h → status_here P now h ≡ status_in F now h
-  active_here a = by_test (λ x. x ≡ status_in F now h) (λ at. absurd (none_minted a.minted at a.mints)) (λ _. refl)
+  active_here a = by_test (λ x. x ≡ status_in F now h)
+      (λ at. absurd (none_minted a.minted at a.mints)) (λ _. refl)
 
   pub sound_here : IsFactSet F → IsSound now (status_here P now h)
   sound_here sound = by_test (IsSound now) (λ _. tt) (λ _. sound_status F now h sound)

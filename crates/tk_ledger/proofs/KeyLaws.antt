@@ -58,13 +58,16 @@ number_tied a b = same_tests (is_eq (nat_cmp a b)) (a == b)
 pub bytes_tied : (xs ys : List ℕ) → is_eq (slice_cmp nat_cmp xs ys) ≡ bytes_eq xs ys
 bytes_tied xs ys = same_tests (is_eq (slice_cmp nat_cmp xs ys)) (bytes_eq xs ys)
     (λ h. (bytes_eq-Decides xs ys).1 (exact_bytes xs ys (equal_of (slice_cmp nat_cmp xs ys) h)))
-    (λ h. ap is_eq (ap (slice_cmp nat_cmp xs) (sym ((bytes_eq-Decides xs ys).0 h)) ∙ tied_itself nat_list_cmp_total xs))
+    (λ h. ap is_eq
+    (ap (slice_cmp nat_cmp xs) (sym ((bytes_eq-Decides xs ys).0 h))
+    ∙ tied_itself nat_list_cmp_total xs))
 
 -- tokens tie exactly if they are equal, either way round
 pub token_tied : (j k : TokenId) → eq_by_cmp token_cmp k j ≡ is_same_token j k
 token_tied j k =
     both_tied (dot_cmp k.dot j.dot) _
-    ∙ ap (λ x. x && is_eq (nat_cmp (kind_number k.kind) (kind_number j.kind))) (at_is_same k.dot j.dot)
+    ∙ ap (λ x. x && is_eq (nat_cmp (kind_number k.kind) (kind_number j.kind)))
+    (at_is_same k.dot j.dot)
     ∙ ap (λ x. is_same_dot k.dot j.dot && x) (number_tied (kind_number k.kind) (kind_number j.kind))
     ∙ same_tests (is_same_token k j) (is_same_token j k)
     (λ h. ap (is_same_token j) (same_token-true k j h) ∙ same_token-itself j)
@@ -72,7 +75,8 @@ token_tied j k =
 
 -- the keys of consents tie exactly if client, digest and dot are equal
 pub consent_tied : (c e : Dot) (g h : List ℕ) (d q : Dot)
-    → eq_by_cmp consent_cmp (consent_key c g d) (consent_key e h q) ≡ (is_same_dot c e && (bytes_eq g h && is_same_dot d q))
+    → eq_by_cmp consent_cmp (consent_key c g d) (consent_key e h q)
+    ≡ (is_same_dot c e && (bytes_eq g h && is_same_dot d q))
 consent_tied c e g h d q =
     both_tied (dot_cmp c e) _
     ∙ ap (λ x. is_eq (dot_cmp c e) && x) (both_tied (slice_cmp nat_cmp g h) (dot_cmp d q))

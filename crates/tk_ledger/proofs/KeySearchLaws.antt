@@ -46,7 +46,8 @@ module _ {K : Type 0} (cmp : K → K → Ordering) where
   abbrev pub among : K → List K → Bool
   among k ks = list_any (is_at (cmp k)) ks
 
-module _ {K : Type 0} (cmp : K → K → Ordering) (total : IsTotalOrder cmp) (tied_same : (a b : K) → eq_by_cmp cmp a b ≡ true → a ≡ b) (p c : K → Bool) where
+module _ {K : Type 0} (cmp : K → K → Ordering) (total : IsTotalOrder cmp)
+    (tied_same : (a b : K) → eq_by_cmp cmp a b ≡ true → a ≡ b) (p c : K → Bool) where
   later : (e x : K) (xs : List K) → among cmp e xs ≡ true → among cmp e (x ∷ xs) ≡ true
   later e x xs h = or_more (is_at (cmp e) x) (among cmp e xs) h
     where
@@ -60,14 +61,20 @@ module _ {K : Type 0} (cmp : K → K → Ordering) (total : IsTotalOrder cmp) (t
   found_passes (x ∷ xs) e h = elim (cases_Bool (c x)) [
     | inl kept ↦ elim (cases_Bool (p x)) [
       | inl here ↦
-          let same : x ≡ e = some_injective x e (sym (cond-true (p x) (Some x) (find p (filter c xs)) here) ∙ sym (ap (find p) (cond-true (c x) (x ∷ filter c xs) (filter c xs) kept)) ∙ h) in
-          subst (λ (y : K). (p y ≡ true) × (c y ≡ true) × (among cmp y (x ∷ xs) ≡ true)) same (here, kept, or_left (is_at (cmp x) x) (among cmp x xs) (ap is_eq (tied_itself total x)))
+          let same : x ≡ e = some_injective x e
+          (sym (cond-true (p x) (Some x) (find p (filter c xs)) here)
+          ∙ sym (ap (find p) (cond-true (c x) (x ∷ filter c xs) (filter c xs) kept)) ∙ h) in
+          subst (λ (y : K). (p y ≡ true) × (c y ≡ true) × (among cmp y (x ∷ xs) ≡ true)) same
+          (here, kept, or_left (is_at (cmp x) x) (among cmp x xs) (ap is_eq (tied_itself total x)))
       | inr fails ↦
-          let more = found_passes xs e (sym (cond-false (p x) (Some x) (find p (filter c xs)) fails) ∙ sym (ap (find p) (cond-true (c x) (x ∷ filter c xs) (filter c xs) kept)) ∙ h) in
+          let more = found_passes xs e
+          (sym (cond-false (p x) (Some x) (find p (filter c xs)) fails)
+          ∙ sym (ap (find p) (cond-true (c x) (x ∷ filter c xs) (filter c xs) kept)) ∙ h) in
           (more.0, more.1, later e x xs more.2)
     ]
     | inr left ↦
-        let more = found_passes xs e (sym (ap (find p) (cond-false (c x) (x ∷ filter c xs) (filter c xs) left)) ∙ h) in
+        let more = found_passes xs e
+        (sym (ap (find p) (cond-false (c x) (x ∷ filter c xs) (filter c xs) left)) ∙ h) in
         (more.0, more.1, later e x xs more.2)
   ]
 
@@ -77,16 +84,24 @@ module _ {K : Type 0} (cmp : K → K → Ordering) (total : IsTotalOrder cmp) (t
   none_passes (x ∷ xs) h k at kept passes = elim (or_cases (is_at (cmp k) x) (among cmp k xs) at) [
     | inl tie ↦
         let same : k ≡ x = tied_same k x tie in
-        none_is_not_some x (sym h ∙ ap (find p) (cond-true (c x) (x ∷ filter c xs) (filter c xs) (sym (ap c same) ∙ kept)) ∙ cond-true (p x) (Some x) (find p (filter c xs)) (sym (ap p same) ∙ passes))
+        none_is_not_some x
+        (sym h ∙ ap (find p)
+        (cond-true (c x) (x ∷ filter c xs) (filter c xs) (sym (ap c same) ∙ kept))
+        ∙ cond-true (p x) (Some x) (find p (filter c xs)) (sym (ap p same) ∙ passes))
     | inr more ↦ none_passes xs (rest (cases_Bool (c x))) k more kept passes
   ]
     where
       rest : (c x ≡ true) ⊎ (c x ≡ false) → find p (filter c xs) ≡ None
       rest (inl kept) = elim (cases_Bool (p x)) [
-        | inl here ↦ absurd (none_is_not_some x (sym h ∙ ap (find p) (cond-true (c x) (x ∷ filter c xs) (filter c xs) kept) ∙ cond-true (p x) (Some x) (find p (filter c xs)) here))
-        | inr fails ↦ sym (cond-false (p x) (Some x) (find p (filter c xs)) fails) ∙ sym (ap (find p) (cond-true (c x) (x ∷ filter c xs) (filter c xs) kept)) ∙ h
+        | inl here ↦ absurd
+            (none_is_not_some x
+            (sym h ∙ ap (find p) (cond-true (c x) (x ∷ filter c xs) (filter c xs) kept)
+            ∙ cond-true (p x) (Some x) (find p (filter c xs)) here))
+        | inr fails ↦ sym (cond-false (p x) (Some x) (find p (filter c xs)) fails)
+            ∙ sym (ap (find p) (cond-true (c x) (x ∷ filter c xs) (filter c xs) kept)) ∙ h
       ]
-      rest (inr left) = sym (ap (find p) (cond-false (c x) (x ∷ filter c xs) (filter c xs) left)) ∙ h
+      rest (inr left) =
+          sym (ap (find p) (cond-false (c x) (x ∷ filter c xs) (filter c xs) left)) ∙ h
 
   above_key : (x : K) (xs : List K) → AllByRecursion (λ y. cmp x y ≡ Less) xs → (k : K)
       → among cmp k xs ≡ true → cmp x k ≡ Less
@@ -104,11 +119,19 @@ module _ {K : Type 0} (cmp : K → K → Ordering) (total : IsTotalOrder cmp) (t
   first_least [] sorted e h k at kept passes = λ _. true≢false (sym at)
   first_least (x ∷ xs) sorted e h k at kept passes = elim (cases_Bool (c x && p x)) [
     | inl here ↦ elim (or_cases (is_at (cmp k) x) (among cmp k xs) at) [
-      | inl tie ↦ λ below. equal_not_less (sym (tied_itself total x) ∙ ap (λ (y : K). cmp y x) (sym (tied_same k x tie)) ∙ ap (cmp k) (is_first here) ∙ below)
-      | inr more ↦ λ below. greater_not_less (sym (total.antisymm k x ∙ ap ordering_reverse (above_key x xs sorted.0 k more)) ∙ ap (cmp k) (is_first here) ∙ below)
+      | inl tie ↦ λ below. equal_not_less
+          (sym (tied_itself total x) ∙ ap (λ (y : K). cmp y x) (sym (tied_same k x tie))
+          ∙ ap (cmp k) (is_first here) ∙ below)
+      | inr more ↦ λ below. greater_not_less
+          (sym (total.antisymm k x ∙ ap ordering_reverse (above_key x xs sorted.0 k more))
+          ∙ ap (cmp k) (is_first here) ∙ below)
     ]
     | inr fails ↦ elim (or_cases (is_at (cmp k) x) (among cmp k xs) at) [
-      | inl tie ↦ absurd (true≢false (sym (ap (λ (y : K). c y && p y) (sym (tied_same k x tie)) ∙ and_from (c k) (p k) kept passes) ∙ fails))
+      | inl tie ↦ absurd
+          (true≢false
+          (sym (ap (λ (y : K). c y && p y) (sym (tied_same k x tie))
+          ∙ and_from (c k) (p k) kept passes)
+          ∙ fails))
       | inr more ↦ first_least xs sorted.1 e (rest fails) k more kept passes
     ]
   ]
@@ -116,10 +139,14 @@ module _ {K : Type 0} (cmp : K → K → Ordering) (total : IsTotalOrder cmp) (t
       is_first : (c x && p x) ≡ true → x ≡ e
       is_first here =
           let both = and_parts (c x) (p x) here in
-          some_injective x e (sym (cond-true (p x) (Some x) (find p (filter c xs)) both.1) ∙ sym (ap (find p) (cond-true (c x) (x ∷ filter c xs) (filter c xs) both.0)) ∙ h)
+          some_injective x e
+          (sym (cond-true (p x) (Some x) (find p (filter c xs)) both.1)
+          ∙ sym (ap (find p) (cond-true (c x) (x ∷ filter c xs) (filter c xs) both.0)) ∙ h)
 
       rest : (c x && p x) ≡ false → find p (filter c xs) ≡ Some e
       rest fails = elim (cases_Bool (c x)) [
-        | inl kept ↦ sym (cond-false (p x) (Some x) (find p (filter c xs)) (sym (ap (λ b. b && p x) kept) ∙ fails)) ∙ sym (ap (find p) (cond-true (c x) (x ∷ filter c xs) (filter c xs) kept)) ∙ h
+        | inl kept ↦ sym (cond-false (p x) (Some x) (find p (filter c xs))
+            (sym (ap (λ b. b && p x) kept) ∙ fails))
+            ∙ sym (ap (find p) (cond-true (c x) (x ∷ filter c xs) (filter c xs) kept)) ∙ h
         | inr left ↦ sym (ap (find p) (cond-false (c x) (x ∷ filter c xs) (filter c xs) left)) ∙ h
       ]

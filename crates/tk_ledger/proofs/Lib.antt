@@ -22,6 +22,7 @@ pub mod SameLaws
 pub mod SignOutLaws
 pub mod SkipLaws
 pub mod SliceLaws
+pub mod SlicePassLaws
 pub mod SpanLaws
 pub mod StandingLaws
 pub mod StatusCases
@@ -29,7 +30,10 @@ pub mod StatusLaws
 pub mod StoringLaws
 pub mod SubjectKeyLaws
 pub mod SubjectTableLaws
+pub mod TableChangeLaws
 pub mod TableLaws
+pub mod TableLossLaws
+pub mod TokenGrowthLaws
 pub mod TokenLaws
 pub mod TopLaws
 pub mod WakeLaws

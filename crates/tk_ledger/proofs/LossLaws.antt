@@ -1,19 +1,13 @@
--- The tables and the forest follow the set when that loses a fact. Key results:
---   clients_less .. outs_less          tables that have no key of the fact
---   codes_less, revocations_less, reuses_less
---                                      a table without the key of the fact
+-- The forest and all tables follow the set when that loses a fact. Key results:
 --   untied_link, untied_revocation, untied_reuse
 --                                      the forest after the loss of a link, a revocation, a reuse
 --   lost_code, lost_link, lost_revocation, lost_reuse
 --                                      all tables, and the forest
-use Rattle.std.proofs.Common.{◌≡◌, ◌≢◌, ◌⊎◌, inl, inr, ℕ, Bool, true, false, ◌&&◌, ◌||◌, not, ◌==◌}
-use Rattle.std.proofs.Common.{cond, if◌then◌else◌, List, Some, None, is_some, refl, sym, ap, subst}
-use Rattle.std.proofs.Common.{◌∙◌}
-use Rattle.std.proofs.lemmas.Bool.{true≢false, cases_Bool, cond-true, cond-false, and_parts}
+use Rattle.std.proofs.Common.{◌≡◌, ◌≢◌, ◌⊎◌, inl, inr, ℕ, Bool, true, false, cond, if◌then◌else◌}
+use Rattle.std.proofs.Common.{List, Some, None, refl, sym, ap, subst, ◌∙◌}
+use Rattle.std.proofs.lemmas.Bool.{true≢false, cases_Bool, cond-true, cond-false}
 use Rattle.std.specs.Option.{option_and_then}
 use Rattle.std.specs.Ordering.{eq_by_cmp}
-use Rattle.std.specs.Str.{bytes_eq}
-use Rattle.std.specs.BTreeMap.{BTreeMap}
 use Rattle.std.specs.BTreeSet.{BTreeSet, contains}
 use Rattle.std.specs.FinMap as map
 use Rattle.std.specs.FinSet as set
@@ -29,209 +23,86 @@ use Rattle.tk_family.proofs.FamilyLaws.{IsUnder-within}
 use Rattle.tk_fact.specs.declared.body.Body.{Body}
 use Rattle.tk_fact.specs.declared.token_revoked.TokenRevoked as revoked
 use Rattle.tk_store.specs.FactSet.{FactSet}
-use Rattle.tk_store.proofs.PutLaws.{none_is_not_some}
-use Rattle.tk_store.proofs.OneMoreLaws.{OneMore, more_subset, any_fact-more, cases_dots, apart_at}
-use Rattle.tk_ledger.specs.Bodies.{is_same_dot, is_same_token}
+use Rattle.tk_store.proofs.OneMoreLaws.{OneMore, more_subset, cases_dots, apart_at}
 use Rattle.tk_ledger.specs.Changes.{change_in, adds, retires_of, gives_to, withdraws_of, revokes_of}
 use Rattle.tk_ledger.specs.Changes.{reuses_of}
-use Rattle.tk_ledger.specs.Clients.{client_at, retires, is_retired, consent_at, is_withdrawn}
-use Rattle.tk_ledger.specs.Index.{is_at, IsClients, is_from, IsConsents, IsWithdrawals}
-use Rattle.tk_ledger.specs.Index.{revocation_cmp, revocation_key, is_revocation_of}
-use Rattle.tk_ledger.specs.Index.{is_listed_revocation, IsRevocations, code_cmp, code_key, is_to}
-use Rattle.tk_ledger.specs.Index.{is_listed_code, IsCodes, is_left_by, IsOuts, reuse_cmp, reuse_key}
-use Rattle.tk_ledger.specs.Index.{is_reuse_of, is_listed_reuse, IsReuses, IsTied, Wakes, IsIndexed}
+use Rattle.tk_ledger.specs.Index.{revocation_cmp, revocation_key, IsRevocations, code_cmp, code_key}
+use Rattle.tk_ledger.specs.Index.{IsOuts, reuse_cmp, reuse_key, IsReuses, IsTied, Wakes, IsIndexed}
 use Rattle.tk_ledger.specs.Losses.{WasIndexed}
-use Rattle.tk_ledger.specs.SignOuts.{sign_out_in, sign_out_at}
-use Rattle.tk_ledger.specs.Tokens.{link_of, links_in, issued_in, issued_at, is_marked}
+use Rattle.tk_ledger.specs.Tokens.{link_of, links_in, is_marked}
 use Rattle.tk_ledger.specs.declared.change.Change.{Change}
 use Rattle.tk_ledger.specs.declared.change.Change.TheVariants as change
-use Rattle.tk_ledger.specs.declared.client_rows.ClientRow.{ClientRow}
-use Rattle.tk_ledger.specs.declared.consent_keys.ConsentKey.{ConsentKey}
 use Rattle.tk_ledger.specs.declared.index.Index.{Index}
 use Rattle.tk_ledger.specs.declared.reuses.ReuseKey.{ReuseKey}
 use Rattle.tk_ledger.specs.declared.revocations.Revocation.{Revocation}
 use Rattle.tk_ledger.specs.declared.subject_keys.CodeKey.{CodeKey}
-use Rattle.tk_ledger.specs.declared.subject_keys.OutKey.{OutKey}
 use Rattle.tk_ledger.proofs.EndingLaws.{under_none}
 use Rattle.tk_ledger.proofs.ChangeLaws.{Changed, changed}
 use Rattle.tk_ledger.proofs.ForestLaws.{puts, revoking, signs, Touches, same_mark, put_reuses}
 use Rattle.tk_ledger.proofs.ForestLaws.{put_revokes, put_signs, unsigned, unrevoked, revokes_at}
 use Rattle.tk_ledger.proofs.ForestLaws.{links_still}
-use Rattle.tk_ledger.proofs.KeyLaws.{at_is_same, at_itself}
-use Rattle.tk_ledger.proofs.ReuseLaws.{reuse_tied, reused_on}
-use Rattle.tk_ledger.proofs.RevocationLaws.{revocation_tied, revoked_on}
-use Rattle.tk_ledger.proofs.SameLaws.{same_dot-true, same_token-true}
-use Rattle.tk_ledger.proofs.SubjectKeyLaws.{code_tied, code_tied-dot}
-use Rattle.tk_ledger.proofs.SubjectTableLaws.{issuing, issues_to, issues_none, signs_none}
-use Rattle.tk_ledger.proofs.SubjectTableLaws.{issued_on, signed_on, without}
-use Rattle.tk_ledger.proofs.TableLaws.{retires-change, added_on, given_on, withdrawn_on}
+use Rattle.tk_ledger.proofs.KeyLaws.{at_itself}
+use Rattle.tk_ledger.proofs.SameLaws.{same_token-true}
+use Rattle.tk_ledger.proofs.SubjectTableLaws.{issuing}
 use Rattle.tk_ledger.proofs.RootLaws.{links-below}
 use Rattle.tk_ledger.proofs.WakeLaws.{grant_place}
-
--- ---- tables that have no key of the fact
-
-pub clients_less : (F G : FactSet) (d : Dot) (b : Body) (t : BTreeMap Dot ClientRow) → OneMore F G d b → adds (change_in b) ≡ false → ((q : Dot) → retires_of q (change_in b) ≡ false) → IsClients G t → IsClients F t
-clients_less F G d b t m none kept i = record {
-  added = λ q. i.added q ∙ sym (added_on F G d b q (is_some (client_at F q)) m refl) ∙ ap (λ a. (a && is_at d q) || is_some (client_at F q)) none;
-  retired = λ q. i.retired q ∙ any_fact-more (retires q) F G d b m ∙ ap (λ a. a || is_retired F q) (retires-change q b ∙ kept q);
-}
-
-pub consents_less : (F G : FactSet) (d : Dot) (b : Body) (t : BTreeSet ConsentKey) → OneMore F G d b → ((client : Dot) (subject : List ℕ) → gives_to client subject (change_in b) ≡ false) → ((q : Dot) → withdraws_of q (change_in b) ≡ false) → IsConsents G t → IsConsents F t
-consents_less F G d b t m none kept i = record {
-  listed = λ c s q. i.listed c s q
-      ∙ ap (λ x. x && not (is_withdrawn G q)) (sym (given_on F G d b c s q (is_from c s (consent_at F q)) m refl) ∙ ap (λ a. (a && is_at d q) || is_from c s (consent_at F q)) (none c s))
-      ∙ ap (λ x. is_from c s (consent_at F q) && not x) (sym (withdrawn_on F G d b q m) ∙ ap (λ a. a || is_withdrawn F q) (kept q));
-  ranged = i.ranged;
-}
-
-pub withdrawals_less : (F G : FactSet) (d : Dot) (b : Body) (t : BTreeSet Dot) → OneMore F G d b → ((q : Dot) → withdraws_of q (change_in b) ≡ false) → IsWithdrawals G t → IsWithdrawals F t
-withdrawals_less F G d b t m none i q = i q ∙ sym (withdrawn_on F G d b q m) ∙ ap (λ a. a || is_withdrawn F q) (none q)
-
-pub revocations_kept : (F G : FactSet) (d : Dot) (b : Body) (t : BTreeSet Revocation) → OneMore F G d b → ((k : TokenId) (digest : List ℕ) (client : Dot) → revokes_of k digest client (change_in b) ≡ false) → IsRevocations G t → IsRevocations F t
-revocations_kept F G d b t m none i = record {
-  listed = λ k g c q. i.listed k g c q ∙ sym (revoked_on F G d b k g c q (is_revocation_of k g c (map.get F q)) m refl) ∙ ap (λ a. (a && is_at d q) || is_revocation_of k g c (map.get F q)) (none k g c);
-  ranged = i.ranged;
-}
-
-pub outs_less : (F G : FactSet) (d : Dot) (b : Body) (t : BTreeSet OutKey) → OneMore F G d b → signs (change_in b) ≡ false → IsOuts G t → IsOuts F t
-outs_less F G d b t m none i = record {
-  listed = λ s l q. i.listed s l q ∙ sym (signed_on F G d b s l q (is_left_by s l (sign_out_at (map.get F) q)) m refl) ∙ ap (λ a. (a && is_at d q) || is_left_by s l (sign_out_at (map.get F) q)) (signs_none s l (change_in b) none);
-  ranged = i.ranged;
-  early = λ q f h. i.early q f (ap (option_and_then sign_out_in) (m.there q (λ same. none_is_not_some f (sym (ap (option_and_then sign_out_in) (ap (map.get F) same ∙ m.free)) ∙ h))) ∙ h);
-}
-
-pub codes_kept : (F G : FactSet) (d : Dot) (b : Body) (t : BTreeSet CodeKey) → OneMore F G d b → issuing (change_in b) ≡ None → IsCodes G t → IsCodes F t
-codes_kept F G d b t m none i = record {
-  listed = λ s n q. i.listed s n q ∙ sym (issued_on F G d b s n q (is_to s n (issued_at (map.get F) q)) m refl) ∙ ap (λ a. (a && is_at d q) || is_to s n (issued_at (map.get F) q)) (issues_none s n (change_in b) none);
-  ranged = i.ranged;
-}
-
-pub reuses_kept : (F G : FactSet) (d : Dot) (b : Body) (t : BTreeSet ReuseKey) → OneMore F G d b → ((k : TokenId) → reuses_of k (change_in b) ≡ false) → IsReuses G t → IsReuses F t
-reuses_kept F G d b t m none i = record {
-  listed = λ k q. i.listed k q ∙ sym (reused_on F G d b k q (is_reuse_of k (map.get F q)) m refl) ∙ ap (λ a. (a && is_at d q) || is_reuse_of k (map.get F q)) (none k);
-  ranged = i.ranged;
-}
-
--- ---- tables without a key
-
-fewer : (a b : Bool) → cond a false b ≡ true → b ≡ true
-fewer true b h = absurd (true≢false (sym h))
-fewer false b h = h
-
--- the table without the key of a code
-codes_less : (F G : FactSet) (d : Dot) (b : Body) (subject : List ℕ) (start : ℕ) (t u : BTreeSet CodeKey) → OneMore F G d b → change_in b ≡ change.Issue subject start → IsCodes G t
-    → ((k : CodeKey) → contains code_cmp u k ≡ cond (eq_by_cmp code_cmp (code_key subject start d) k) false (contains code_cmp t k))
-    → IsCodes F u
-codes_less F G d b subject start t u m is i r = record {
-  listed = listed;
-  ranged = λ g n q h. i.ranged g n q (fewer (eq_by_cmp code_cmp (code_key subject start d) (code_key g n q)) (is_listed_code t g n q) (sym (r (code_key g n q)) ∙ h));
-}
-  where
-    regroup : (a c e : Bool) → ((a && c) && e) ≡ (a && (c && e))
-    regroup true c e = refl
-    regroup false c e = refl
-
-    before : (g : List ℕ) (n : ℕ) (q : Dot) → is_listed_code t g n q ≡ (eq_by_cmp code_cmp (code_key subject start d) (code_key g n q) || is_to g n (issued_at (map.get F) q))
-    before g n q =
-        i.listed g n q ∙ sym (issued_on F G d b g n q (is_to g n (issued_at (map.get F) q)) m refl)
-        ∙ ap (λ y. (issues_to g n y && is_at d q) || is_to g n (issued_at (map.get F) q)) is
-        ∙ ap (λ a. ((bytes_eq subject g && (start == n)) && a) || is_to g n (issued_at (map.get F) q)) (at_is_same d q)
-        ∙ ap (λ a. a || is_to g n (issued_at (map.get F) q)) (regroup (bytes_eq subject g) (start == n) (is_same_dot d q) ∙ sym (code_tied subject g start n d q))
-
-    gone : (g : List ℕ) (n : ℕ) (q : Dot) → eq_by_cmp code_cmp (code_key subject start d) (code_key g n q) ≡ true → is_to g n (issued_at (map.get F) q) ≡ false
-    gone g n q h =
-        let same : d ≡ q = code_tied-dot subject g start n d q h in
-        ap (λ e. is_to g n (option_and_then issued_in e)) (ap (map.get F) (sym same) ∙ m.free)
-
-    listed : (g : List ℕ) (n : ℕ) (q : Dot) → is_listed_code u g n q ≡ is_to g n (issued_at (map.get F) q)
-    listed g n q =
-        r (code_key g n q) ∙ ap (λ x. cond (eq_by_cmp code_cmp (code_key subject start d) (code_key g n q)) false x) (before g n q)
-        ∙ without (eq_by_cmp code_cmp (code_key subject start d) (code_key g n q)) (is_to g n (issued_at (map.get F) q)) (gone g n q)
-
--- the table without the key of a revocation
-revocations_less : (F G : FactSet) (d : Dot) (b : Body) (f : revoked.TokenRevoked) (t u : BTreeSet Revocation) → OneMore F G d b → change_in b ≡ change.Revoke f → IsRevocations G t
-    → ((e : Revocation) → contains revocation_cmp u e ≡ cond (eq_by_cmp revocation_cmp (revocation_key f.token f.digest f.client d) e) false (contains revocation_cmp t e))
-    → IsRevocations F u
-revocations_less F G d b f t u m is i r = record {
-  listed = listed;
-  ranged = λ k g c q h. i.ranged k g c q (fewer (eq_by_cmp revocation_cmp (revocation_key f.token f.digest f.client d) (revocation_key k g c q)) (is_listed_revocation t k g c q) (sym (r (revocation_key k g c q)) ∙ h));
-}
-  where
-    before : (k : TokenId) (g : List ℕ) (c q : Dot) → is_listed_revocation t k g c q ≡ (eq_by_cmp revocation_cmp (revocation_key f.token f.digest f.client d) (revocation_key k g c q) || is_revocation_of k g c (map.get F q))
-    before k g c q =
-        i.listed k g c q ∙ sym (revoked_on F G d b k g c q (is_revocation_of k g c (map.get F q)) m refl)
-        ∙ ap (λ y. (revokes_of k g c y && is_at d q) || is_revocation_of k g c (map.get F q)) is
-        ∙ ap (λ a. (revokes_of k g c (change.Revoke f) && a) || is_revocation_of k g c (map.get F q)) (at_is_same d q)
-        ∙ ap (λ a. a || is_revocation_of k g c (map.get F q)) (sym (revocation_tied f.token k f.digest g f.client c d q))
-
-    gone : (k : TokenId) (g : List ℕ) (c q : Dot) → eq_by_cmp revocation_cmp (revocation_key f.token f.digest f.client d) (revocation_key k g c q) ≡ true → is_revocation_of k g c (map.get F q) ≡ false
-    gone k g c q h =
-        let same : d ≡ q = same_dot-true d q (and_parts (revokes_of k g c (change.Revoke f)) (is_same_dot d q) (sym (revocation_tied f.token k f.digest g f.client c d q) ∙ h)).1 in
-        ap (is_revocation_of k g c) (ap (map.get F) (sym same) ∙ m.free)
-
-    listed : (k : TokenId) (g : List ℕ) (c q : Dot) → is_listed_revocation u k g c q ≡ is_revocation_of k g c (map.get F q)
-    listed k g c q =
-        r (revocation_key k g c q) ∙ ap (λ x. cond (eq_by_cmp revocation_cmp (revocation_key f.token f.digest f.client d) (revocation_key k g c q)) false x) (before k g c q)
-        ∙ without (eq_by_cmp revocation_cmp (revocation_key f.token f.digest f.client d) (revocation_key k g c q)) (is_revocation_of k g c (map.get F q)) (gone k g c q)
-
--- the table without the key of a reuse
-reuses_less : (F G : FactSet) (d : Dot) (b : Body) (j : TokenId) (t u : BTreeSet ReuseKey) → OneMore F G d b → change_in b ≡ change.Mark j → IsReuses G t
-    → ((k : ReuseKey) → contains reuse_cmp u k ≡ cond (eq_by_cmp reuse_cmp (reuse_key j d) k) false (contains reuse_cmp t k))
-    → IsReuses F u
-reuses_less F G d b j t u m is i r = record {
-  listed = listed;
-  ranged = λ k q h. i.ranged k q (fewer (eq_by_cmp reuse_cmp (reuse_key j d) (reuse_key k q)) (is_listed_reuse t k q) (sym (r (reuse_key k q)) ∙ h));
-}
-  where
-    before : (k : TokenId) (q : Dot) → is_listed_reuse t k q ≡ (eq_by_cmp reuse_cmp (reuse_key j d) (reuse_key k q) || is_reuse_of k (map.get F q))
-    before k q =
-        i.listed k q ∙ sym (reused_on F G d b k q (is_reuse_of k (map.get F q)) m refl)
-        ∙ ap (λ y. (reuses_of k y && is_at d q) || is_reuse_of k (map.get F q)) is
-        ∙ ap (λ a. (is_same_token j k && a) || is_reuse_of k (map.get F q)) (at_is_same d q)
-        ∙ ap (λ a. a || is_reuse_of k (map.get F q)) (sym (reuse_tied j k d q))
-
-    gone : (k : TokenId) (q : Dot) → eq_by_cmp reuse_cmp (reuse_key j d) (reuse_key k q) ≡ true → is_reuse_of k (map.get F q) ≡ false
-    gone k q h =
-        let same : d ≡ q = same_dot-true d q (and_parts (is_same_token j k) (is_same_dot d q) (sym (reuse_tied j k d q) ∙ h)).1 in
-        ap (is_reuse_of k) (ap (map.get F) (sym same) ∙ m.free)
-
-    listed : (k : TokenId) (q : Dot) → is_listed_reuse u k q ≡ is_reuse_of k (map.get F q)
-    listed k q =
-        r (reuse_key k q) ∙ ap (λ x. cond (eq_by_cmp reuse_cmp (reuse_key j d) (reuse_key k q)) false x) (before k q)
-        ∙ without (eq_by_cmp reuse_cmp (reuse_key j d) (reuse_key k q)) (is_reuse_of k (map.get F q)) (gone k q)
+use Rattle.tk_ledger.proofs.TableLossLaws.{clients_less, codes_kept, codes_less, consents_less}
+use Rattle.tk_ledger.proofs.TableLossLaws.{outs_less, reuses_kept, reuses_less, revocations_kept}
+use Rattle.tk_ledger.proofs.TableLossLaws.{revocations_less, withdrawals_less}
 
 -- ---- the forest
 
 -- the forest of one fact less, if the marks at all dots with a token that the fact touched were
 -- written, but for dots that it brought under a code
-pub tied_less : (F G : FactSet) (d : Dot) (b : Body) (x y z : ForestFacts) (at : Dot → Bool) → OneMore F G d b → IsTied G x
-    → ((q : Dot) → map.get y.links q ≡ links_in (map.get F) q) → ((k : TokenId) → k.dot ≢ d → set.contains y.marks k ≡ set.contains x.marks k) → Wakes F y at z
-    → ((k : TokenId) → Touches F G b k → at k.dot ≡ false → (c : Dot) → ¬ IsUnder (links_in (map.get F)) k.dot c) → IsTied F z
+pub tied_less : (F G : FactSet) (d : Dot) (b : Body) (x y z : ForestFacts) (at : Dot → Bool)
+    → OneMore F G d b → IsTied G x
+    → ((q : Dot) → map.get y.links q ≡ links_in (map.get F) q)
+    → ((k : TokenId) → k.dot ≢ d → set.contains y.marks k ≡ set.contains x.marks k) → Wakes F y at z
+    → ((k : TokenId) → Touches F G b k → at k.dot ≡ false → (c : Dot)
+    → ¬ IsUnder (links_in (map.get F)) k.dot c) → IsTied F z
 tied_less F G d b x y z at m t links kept woke touched = record {
   links = λ q. ap (λ s. map.get s q) woke.links ∙ links q;
   marks = λ q c l link under. by_test q c l link under (cases_Bool (at q));
 }
   where
-    by_test : (q c : Dot) (l : Link) → links_in (map.get F) q ≡ Some l → IsUnder (links_in (map.get F)) q c → (at q ≡ true) ⊎ (at q ≡ false) → set.contains z.marks (grant_at q l) ≡ is_marked F (grant_at q l)
+    by_test : (q c : Dot) (l : Link) → links_in (map.get F) q ≡ Some l
+        → IsUnder (links_in (map.get F)) q c → (at q ≡ true) ⊎ (at q ≡ false)
+        → set.contains z.marks (grant_at q l) ≡ is_marked F (grant_at q l)
     by_test q c l link under (inl now) = woke.here q c l now link under
     by_test q c l link under (inr apart) =
         let other : q ≢ d = λ same. under_none F q c (ap (map.get F) same ∙ m.free) under in
         woke.there (grant_at q l) (ap at (grant_place q l) ∙ apart)
         ∙ kept (grant_at q l) (λ same. other (sym (grant_place q l) ∙ same))
-        ∙ t.marks q c l (links-below F G (more_subset F G d b m) q l link) (IsUnder-within (links_in (map.get F)) (links_in (map.get G)) (links-below F G (more_subset F G d b m)) q c under)
-        ∙ sym (same_mark F G d b (grant_at q l) m (λ touch. absurd (touched (grant_at q l) touch (ap at (grant_place q l) ∙ apart) c (subst (λ (p : Dot). IsUnder (links_in (map.get F)) p c) (sym (grant_place q l)) under))))
+        ∙ t.marks q c l (links-below F G (more_subset F G d b m) q l link)
+        (IsUnder-within (links_in (map.get F)) (links_in (map.get G))
+        (links-below F G (more_subset F G d b m)) q c under)
+        ∙ sym (same_mark F G d b (grant_at q l) m
+        (λ touch. absurd
+        (touched (grant_at q l) touch (ap at (grant_place q l) ∙ apart) c
+        (subst (λ (p : Dot). IsUnder (links_in (map.get F)) p c) (sym (grant_place q l)) under))))
 
 -- the forest without a link
-untied_link : (F G : FactSet) (d : Dot) (b : Body) (l : Link) (x y : ForestFacts) → OneMore F G d b → puts (change_in b) ≡ Some l → IsTied G x
-    → y.links ≡ map.remove x.links d → ((k : TokenId) → set.contains y.marks k ≡ (if dot_eq d k.dot then false else set.contains x.marks k)) → IsTied F y
+untied_link : (F G : FactSet) (d : Dot) (b : Body) (l : Link) (x y : ForestFacts) → OneMore F G d b
+    → puts (change_in b) ≡ Some l → IsTied G x
+    → y.links ≡ map.remove x.links d
+    → ((k : TokenId)
+    → set.contains y.marks k ≡ (if dot_eq d k.dot then false else set.contains x.marks k))
+    → IsTied F y
 untied_link F G d b l x y m is t links marks =
     tied_less F G d b x y y (λ _. false) m t
-    (λ q. ap (λ (s : map.FinMap dot_cmp Link). map.get s q) links ∙ map.get-remove dot_cmp_total x.links d q ∙ elim (cases_dots q d) [
-      | inl same ↦ cond-true _ _ _ (ap (λ (p : Dot). dot_eq p d) same ∙ at_itself d) ∙ sym (ap (option_and_then link_of) (ap (map.get F) same ∙ m.free))
-      | inr ne ↦ cond-false _ _ _ (apart_at q d ne) ∙ t.links q ∙ ap (option_and_then link_of) (m.there q ne)
+    (λ q. ap (λ (s : map.FinMap dot_cmp Link). map.get s q) links
+    ∙ map.get-remove dot_cmp_total x.links d q ∙ elim (cases_dots q d) [
+      | inl same ↦ cond-true _ _ _ (ap (λ (p : Dot). dot_eq p d) same ∙ at_itself d)
+          ∙ sym (ap (option_and_then link_of) (ap (map.get F) same ∙ m.free))
+      | inr ne ↦ cond-false _ _ _ (apart_at q d ne) ∙ t.links q
+          ∙ ap (option_and_then link_of) (m.there q ne)
     ])
     (λ k ne. marks k ∙ cond-false _ _ _ (apart_at d k.dot (λ same. ne (sym same))))
-    (record { links = refl; here = λ q c l at _ _. absurd (true≢false (sym at)); there = λ _ _. refl })
+    (record {
+      links = refl;
+      here = λ q c l at _ _. absurd (true≢false (sym at));
+      there = λ _ _. refl;
+    })
     (λ k touch _ c under. elim touch [
       | inl seen ↦ true≢false (sym seen ∙ put_reuses (change_in b) l k is)
       | inr (inl r) ↦ unrevoked b k (put_revokes (change_in b) l is) r
@@ -240,7 +111,8 @@ untied_link F G d b l x y m is t links marks =
     ])
 
 -- the forest without a reuse, if the marks at the token's dot were written
-untied_reuse : (F G : FactSet) (d : Dot) (b : Body) (j : TokenId) (x z : ForestFacts) → OneMore F G d b → change_in b ≡ change.Mark j → IsTied G x
+untied_reuse : (F G : FactSet) (d : Dot) (b : Body) (j : TokenId) (x z : ForestFacts)
+    → OneMore F G d b → change_in b ≡ change.Mark j → IsTied G x
     → Wakes F x (λ q. dot_eq q j.dot) z → IsTied F z
 untied_reuse F G d b j x z m is t woke =
     tied_less F G d b x x z (λ q. dot_eq q j.dot) m t
@@ -248,14 +120,19 @@ untied_reuse F G d b j x z m is t woke =
     (λ _ _. refl)
     woke
     (λ k touch apart c under. elim touch [
-      | inl seen ↦ true≢false (sym (ap (λ (h : TokenId). dot_eq k.dot h.dot) (same_token-true j k (sym (ap (reuses_of k) is) ∙ seen)) ∙ at_itself k.dot) ∙ apart)
+      | inl seen ↦ true≢false
+          (sym (ap (λ (h : TokenId). dot_eq k.dot h.dot)
+          (same_token-true j k (sym (ap (reuses_of k) is) ∙ seen))
+          ∙ at_itself k.dot)
+          ∙ apart)
       | inr (inl r) ↦ unrevoked b k (ap revoking is) r
       | inr (inr (inl r)) ↦ unsigned G b k (ap signs is) r
       | inr (inr (inr r)) ↦ r.before c under
     ])
 
 -- the forest without a revocation, if the marks at the token's dot were written
-untied_revocation : (F G : FactSet) (d : Dot) (b : Body) (f : revoked.TokenRevoked) (x z : ForestFacts) → OneMore F G d b → change_in b ≡ change.Revoke f → IsTied G x
+untied_revocation : (F G : FactSet) (d : Dot) (b : Body) (f : revoked.TokenRevoked)
+    (x z : ForestFacts) → OneMore F G d b → change_in b ≡ change.Revoke f → IsTied G x
     → Wakes F x (λ q. dot_eq q f.token.dot) z → IsTied F z
 untied_revocation F G d b f x z m is t woke =
     tied_less F G d b x x z (λ q. dot_eq q f.token.dot) m t
@@ -282,105 +159,202 @@ pub record Loss (F : FactSet) (d : Dot) (y : Change) (x : Index) : Type 0 where
 pub loss : (F : FactSet) (d : Dot) (y : Change) (x : Index) → WasIndexed F d y x → Loss F d y x
 loss F d y x w =
     let c : Changed w.before d y = changed w.before d y w.makes in
-    record { before = w.before; body = c.body; is = c.is; more = subst (λ (S : FactSet). OneMore S w.before d c.body) (sym w.rest) c.more; indexed = w.indexed }
+    record {
+      before = w.before;
+      body = c.body;
+      is = c.is;
+      more = subst (λ (S : FactSet). OneMore S w.before d c.body) (sym w.rest) c.more;
+      indexed = w.indexed;
+    }
 
-pub lost_code : (F : FactSet) (d : Dot) (subject : List ℕ) (start : ℕ) (x : Index) (s : BTreeSet CodeKey) (z : ForestFacts) → WasIndexed F d (change.Issue subject start) x
-    → ((k : CodeKey) → contains code_cmp s k ≡ cond (eq_by_cmp code_cmp (code_key subject start d) k) false (contains code_cmp x.codes k))
-    → z.links ≡ map.remove x.forest.links d → ((k : TokenId) → set.contains z.marks k ≡ (if dot_eq d k.dot then false else set.contains x.forest.marks k))
-    → IsIndexed F (record { clients = x.clients; consents = x.consents; withdrawn = x.withdrawn; revocations = x.revocations; codes = s; outs = x.outs; reuses = x.reuses; forest = z })
+pub lost_code : (F : FactSet) (d : Dot) (subject : List ℕ) (start : ℕ) (x : Index)
+    (s : BTreeSet CodeKey) (z : ForestFacts) → WasIndexed F d (change.Issue subject start) x
+    → ((k : CodeKey)
+    → contains code_cmp s k
+    ≡ cond (eq_by_cmp code_cmp (code_key subject start d) k) false (contains code_cmp x.codes k))
+    → z.links ≡ map.remove x.forest.links d
+    → ((k : TokenId)
+    → set.contains z.marks k ≡ (if dot_eq d k.dot then false else set.contains x.forest.marks k))
+    → IsIndexed F
+    (record {
+      clients = x.clients;
+      consents = x.consents;
+      withdrawn = x.withdrawn;
+      revocations = x.revocations;
+      codes = s;
+      outs = x.outs;
+      reuses = x.reuses;
+      forest = z;
+    })
 lost_code F d subject start x s z w r links marks =
     let o : Loss F d (change.Issue subject start) x = loss F d (change.Issue subject start) x w in
     record {
-      clients_are = clients_less F o.before d o.body x.clients o.more (ap adds o.is) (λ q. ap (retires_of q) o.is) o.indexed.clients_are;
-      consents_are = consents_less F o.before d o.body x.consents o.more (λ c g. ap (gives_to c g) o.is) (λ q. ap (withdraws_of q) o.is) o.indexed.consents_are;
-      withdrawn_are = withdrawals_less F o.before d o.body x.withdrawn o.more (λ q. ap (withdraws_of q) o.is) o.indexed.withdrawn_are;
-      revocations_are = revocations_kept F o.before d o.body x.revocations o.more (λ k g c. ap (revokes_of k g c) o.is) o.indexed.revocations_are;
-      codes_are = codes_less F o.before d o.body subject start x.codes s o.more o.is o.indexed.codes_are r;
+      clients_are = clients_less F o.before d o.body x.clients o.more (ap adds o.is)
+          (λ q. ap (retires_of q) o.is) o.indexed.clients_are;
+      consents_are = consents_less F o.before d o.body x.consents o.more
+          (λ c g. ap (gives_to c g) o.is) (λ q. ap (withdraws_of q) o.is) o.indexed.consents_are;
+      withdrawn_are = withdrawals_less F o.before d o.body x.withdrawn o.more
+          (λ q. ap (withdraws_of q) o.is) o.indexed.withdrawn_are;
+      revocations_are = revocations_kept F o.before d o.body x.revocations o.more
+          (λ k g c. ap (revokes_of k g c) o.is) o.indexed.revocations_are;
+      codes_are =
+          codes_less F o.before d o.body subject start x.codes s o.more o.is o.indexed.codes_are r;
       outs_are = outs_less F o.before d o.body x.outs o.more (ap signs o.is) o.indexed.outs_are;
-      reuses_are = reuses_kept F o.before d o.body x.reuses o.more (λ k. ap (reuses_of k) o.is) o.indexed.reuses_are;
-      tied = untied_link F o.before d o.body Code x.forest z o.more (ap puts o.is) o.indexed.tied links marks;
+      reuses_are = reuses_kept F o.before d o.body x.reuses o.more (λ k. ap (reuses_of k) o.is)
+          o.indexed.reuses_are;
+      tied = untied_link F o.before d o.body Code x.forest z o.more (ap puts o.is) o.indexed.tied
+          links marks;
     }
 
-pub lost_link : (F : FactSet) (d : Dot) (l : Link) (x : Index) (z : ForestFacts) → WasIndexed F d (change.Put l) x
-    → z.links ≡ map.remove x.forest.links d → ((k : TokenId) → set.contains z.marks k ≡ (if dot_eq d k.dot then false else set.contains x.forest.marks k))
-    → IsIndexed F (record { clients = x.clients; consents = x.consents; withdrawn = x.withdrawn; revocations = x.revocations; codes = x.codes; outs = x.outs; reuses = x.reuses; forest = z })
+pub lost_link : (F : FactSet) (d : Dot) (l : Link) (x : Index) (z : ForestFacts)
+    → WasIndexed F d (change.Put l) x
+    → z.links ≡ map.remove x.forest.links d
+    → ((k : TokenId)
+    → set.contains z.marks k ≡ (if dot_eq d k.dot then false else set.contains x.forest.marks k))
+    → IsIndexed F
+    (record {
+      clients = x.clients;
+      consents = x.consents;
+      withdrawn = x.withdrawn;
+      revocations = x.revocations;
+      codes = x.codes;
+      outs = x.outs;
+      reuses = x.reuses;
+      forest = z;
+    })
 lost_link F d l x z w links marks =
     let o : Loss F d (change.Put l) x = loss F d (change.Put l) x w in
     record {
-      clients_are = clients_less F o.before d o.body x.clients o.more (ap adds o.is) (λ q. ap (retires_of q) o.is) o.indexed.clients_are;
-      consents_are = consents_less F o.before d o.body x.consents o.more (λ c g. ap (gives_to c g) o.is) (λ q. ap (withdraws_of q) o.is) o.indexed.consents_are;
-      withdrawn_are = withdrawals_less F o.before d o.body x.withdrawn o.more (λ q. ap (withdraws_of q) o.is) o.indexed.withdrawn_are;
-      revocations_are = revocations_kept F o.before d o.body x.revocations o.more (λ k g c. ap (revokes_of k g c) o.is) o.indexed.revocations_are;
-      codes_are = codes_kept F o.before d o.body x.codes o.more (ap issuing o.is) o.indexed.codes_are;
+      clients_are = clients_less F o.before d o.body x.clients o.more (ap adds o.is)
+          (λ q. ap (retires_of q) o.is) o.indexed.clients_are;
+      consents_are = consents_less F o.before d o.body x.consents o.more
+          (λ c g. ap (gives_to c g) o.is) (λ q. ap (withdraws_of q) o.is) o.indexed.consents_are;
+      withdrawn_are = withdrawals_less F o.before d o.body x.withdrawn o.more
+          (λ q. ap (withdraws_of q) o.is) o.indexed.withdrawn_are;
+      revocations_are = revocations_kept F o.before d o.body x.revocations o.more
+          (λ k g c. ap (revokes_of k g c) o.is) o.indexed.revocations_are;
+      codes_are =
+          codes_kept F o.before d o.body x.codes o.more (ap issuing o.is) o.indexed.codes_are;
       outs_are = outs_less F o.before d o.body x.outs o.more (ap signs o.is) o.indexed.outs_are;
-      reuses_are = reuses_kept F o.before d o.body x.reuses o.more (λ k. ap (reuses_of k) o.is) o.indexed.reuses_are;
-      tied = untied_link F o.before d o.body l x.forest z o.more (ap puts o.is) o.indexed.tied links marks;
+      reuses_are = reuses_kept F o.before d o.body x.reuses o.more (λ k. ap (reuses_of k) o.is)
+          o.indexed.reuses_are;
+      tied = untied_link F o.before d o.body l x.forest z o.more (ap puts o.is) o.indexed.tied links
+          marks;
     }
 
 -- the tables by which the marks at the token's dot are written, after the loss of a reuse
-pub lost_revocations : (F : FactSet) (d : Dot) (j : TokenId) (x : Index) → WasIndexed F d (change.Mark j) x → IsRevocations F x.revocations
+pub lost_revocations : (F : FactSet) (d : Dot) (j : TokenId) (x : Index)
+    → WasIndexed F d (change.Mark j) x → IsRevocations F x.revocations
 lost_revocations F d j x w =
     let o : Loss F d (change.Mark j) x = loss F d (change.Mark j) x w in
-    revocations_kept F o.before d o.body x.revocations o.more (λ k g c. ap (revokes_of k g c) o.is) o.indexed.revocations_are
+    revocations_kept F o.before d o.body x.revocations o.more (λ k g c. ap (revokes_of k g c) o.is)
+    o.indexed.revocations_are
 
-pub lost_reuses : (F : FactSet) (d : Dot) (j : TokenId) (x : Index) (s : BTreeSet ReuseKey) → WasIndexed F d (change.Mark j) x
-    → ((k : ReuseKey) → contains reuse_cmp s k ≡ cond (eq_by_cmp reuse_cmp (reuse_key j d) k) false (contains reuse_cmp x.reuses k)) → IsReuses F s
+pub lost_reuses : (F : FactSet) (d : Dot) (j : TokenId) (x : Index) (s : BTreeSet ReuseKey)
+    → WasIndexed F d (change.Mark j) x
+    → ((k : ReuseKey)
+    → contains reuse_cmp s k
+    ≡ cond (eq_by_cmp reuse_cmp (reuse_key j d) k) false (contains reuse_cmp x.reuses k))
+    → IsReuses F s
 lost_reuses F d j x s w r =
     let o : Loss F d (change.Mark j) x = loss F d (change.Mark j) x w in
     reuses_less F o.before d o.body j x.reuses s o.more o.is o.indexed.reuses_are r
 
 -- and after the loss of a revocation
-pub less_revocations : (F : FactSet) (d : Dot) (f : revoked.TokenRevoked) (x : Index) (s : BTreeSet Revocation) → WasIndexed F d (change.Revoke f) x
-    → ((e : Revocation) → contains revocation_cmp s e ≡ cond (eq_by_cmp revocation_cmp (revocation_key f.token f.digest f.client d) e) false (contains revocation_cmp x.revocations e)) → IsRevocations F s
+pub less_revocations : (F : FactSet) (d : Dot) (f : revoked.TokenRevoked) (x : Index)
+    (s : BTreeSet Revocation) → WasIndexed F d (change.Revoke f) x
+    → ((e : Revocation)
+    → contains revocation_cmp s e
+    ≡ cond (eq_by_cmp revocation_cmp (revocation_key f.token f.digest f.client d) e) false
+    (contains revocation_cmp x.revocations e)) → IsRevocations F s
 less_revocations F d f x s w r =
     let o : Loss F d (change.Revoke f) x = loss F d (change.Revoke f) x w in
     revocations_less F o.before d o.body f x.revocations s o.more o.is o.indexed.revocations_are r
 
-pub less_reuses : (F : FactSet) (d : Dot) (f : revoked.TokenRevoked) (x : Index) → WasIndexed F d (change.Revoke f) x → IsReuses F x.reuses
+pub less_reuses : (F : FactSet) (d : Dot) (f : revoked.TokenRevoked) (x : Index)
+    → WasIndexed F d (change.Revoke f) x → IsReuses F x.reuses
 less_reuses F d f x w =
     let o : Loss F d (change.Revoke f) x = loss F d (change.Revoke f) x w in
-    reuses_kept F o.before d o.body x.reuses o.more (λ k. ap (reuses_of k) o.is) o.indexed.reuses_are
+    reuses_kept F o.before d o.body x.reuses o.more (λ k. ap (reuses_of k) o.is)
+    o.indexed.reuses_are
 
 -- and after the loss of either
-pub lost_outs : (F : FactSet) (d : Dot) (y : Change) (x : Index) → WasIndexed F d y x → signs y ≡ false → IsOuts F x.outs
+pub lost_outs : (F : FactSet) (d : Dot) (y : Change) (x : Index) → WasIndexed F d y x
+    → signs y ≡ false → IsOuts F x.outs
 lost_outs F d y x w none =
     let o : Loss F d y x = loss F d y x w in
     outs_less F o.before d o.body x.outs o.more (ap signs o.is ∙ none) o.indexed.outs_are
 
-pub lost_links : (F : FactSet) (d : Dot) (y : Change) (x : Index) → WasIndexed F d y x → puts y ≡ None → (q : Dot) → map.get x.forest.links q ≡ links_in (map.get F) q
+pub lost_links : (F : FactSet) (d : Dot) (y : Change) (x : Index) → WasIndexed F d y x
+    → puts y ≡ None → (q : Dot) → map.get x.forest.links q ≡ links_in (map.get F) q
 lost_links F d y x w none q =
     let o : Loss F d y x = loss F d y x w in
     o.indexed.tied.links q ∙ sym (links_still F o.before d o.body o.more (ap puts o.is ∙ none) q)
 
-pub lost_reuse : (F : FactSet) (d : Dot) (j : TokenId) (x : Index) (s : BTreeSet ReuseKey) (z : ForestFacts) → WasIndexed F d (change.Mark j) x
-    → ((k : ReuseKey) → contains reuse_cmp s k ≡ cond (eq_by_cmp reuse_cmp (reuse_key j d) k) false (contains reuse_cmp x.reuses k))
+pub lost_reuse : (F : FactSet) (d : Dot) (j : TokenId) (x : Index) (s : BTreeSet ReuseKey)
+    (z : ForestFacts) → WasIndexed F d (change.Mark j) x
+    → ((k : ReuseKey)
+    → contains reuse_cmp s k
+    ≡ cond (eq_by_cmp reuse_cmp (reuse_key j d) k) false (contains reuse_cmp x.reuses k))
     → Wakes F x.forest (λ q. dot_eq q j.dot) z
-    → IsIndexed F (record { clients = x.clients; consents = x.consents; withdrawn = x.withdrawn; revocations = x.revocations; codes = x.codes; outs = x.outs; reuses = s; forest = z })
+    → IsIndexed F
+    (record {
+      clients = x.clients;
+      consents = x.consents;
+      withdrawn = x.withdrawn;
+      revocations = x.revocations;
+      codes = x.codes;
+      outs = x.outs;
+      reuses = s;
+      forest = z;
+    })
 lost_reuse F d j x s z w r woke =
     let o : Loss F d (change.Mark j) x = loss F d (change.Mark j) x w in
     record {
-      clients_are = clients_less F o.before d o.body x.clients o.more (ap adds o.is) (λ q. ap (retires_of q) o.is) o.indexed.clients_are;
-      consents_are = consents_less F o.before d o.body x.consents o.more (λ c g. ap (gives_to c g) o.is) (λ q. ap (withdraws_of q) o.is) o.indexed.consents_are;
-      withdrawn_are = withdrawals_less F o.before d o.body x.withdrawn o.more (λ q. ap (withdraws_of q) o.is) o.indexed.withdrawn_are;
+      clients_are = clients_less F o.before d o.body x.clients o.more (ap adds o.is)
+          (λ q. ap (retires_of q) o.is) o.indexed.clients_are;
+      consents_are = consents_less F o.before d o.body x.consents o.more
+          (λ c g. ap (gives_to c g) o.is) (λ q. ap (withdraws_of q) o.is) o.indexed.consents_are;
+      withdrawn_are = withdrawals_less F o.before d o.body x.withdrawn o.more
+          (λ q. ap (withdraws_of q) o.is) o.indexed.withdrawn_are;
       revocations_are = lost_revocations F d j x w;
-      codes_are = codes_kept F o.before d o.body x.codes o.more (ap issuing o.is) o.indexed.codes_are;
+      codes_are =
+          codes_kept F o.before d o.body x.codes o.more (ap issuing o.is) o.indexed.codes_are;
       outs_are = lost_outs F d (change.Mark j) x w refl;
       reuses_are = lost_reuses F d j x s w r;
       tied = untied_reuse F o.before d o.body j x.forest z o.more o.is o.indexed.tied woke;
     }
 
-pub lost_revocation : (F : FactSet) (d : Dot) (f : revoked.TokenRevoked) (x : Index) (s : BTreeSet Revocation) (z : ForestFacts) → WasIndexed F d (change.Revoke f) x
-    → ((e : Revocation) → contains revocation_cmp s e ≡ cond (eq_by_cmp revocation_cmp (revocation_key f.token f.digest f.client d) e) false (contains revocation_cmp x.revocations e))
+pub lost_revocation : (F : FactSet) (d : Dot) (f : revoked.TokenRevoked) (x : Index)
+    (s : BTreeSet Revocation) (z : ForestFacts) → WasIndexed F d (change.Revoke f) x
+    → ((e : Revocation)
+    → contains revocation_cmp s e
+    ≡ cond (eq_by_cmp revocation_cmp (revocation_key f.token f.digest f.client d) e) false
+    (contains revocation_cmp x.revocations e))
     → Wakes F x.forest (λ q. dot_eq q f.token.dot) z
-    → IsIndexed F (record { clients = x.clients; consents = x.consents; withdrawn = x.withdrawn; revocations = s; codes = x.codes; outs = x.outs; reuses = x.reuses; forest = z })
+    → IsIndexed F
+    (record {
+      clients = x.clients;
+      consents = x.consents;
+      withdrawn = x.withdrawn;
+      revocations = s;
+      codes = x.codes;
+      outs = x.outs;
+      reuses = x.reuses;
+      forest = z;
+    })
 lost_revocation F d f x s z w r woke =
     let o : Loss F d (change.Revoke f) x = loss F d (change.Revoke f) x w in
     record {
-      clients_are = clients_less F o.before d o.body x.clients o.more (ap adds o.is) (λ q. ap (retires_of q) o.is) o.indexed.clients_are;
-      consents_are = consents_less F o.before d o.body x.consents o.more (λ c g. ap (gives_to c g) o.is) (λ q. ap (withdraws_of q) o.is) o.indexed.consents_are;
-      withdrawn_are = withdrawals_less F o.before d o.body x.withdrawn o.more (λ q. ap (withdraws_of q) o.is) o.indexed.withdrawn_are;
+      clients_are = clients_less F o.before d o.body x.clients o.more (ap adds o.is)
+          (λ q. ap (retires_of q) o.is) o.indexed.clients_are;
+      consents_are = consents_less F o.before d o.body x.consents o.more
+          (λ c g. ap (gives_to c g) o.is) (λ q. ap (withdraws_of q) o.is) o.indexed.consents_are;
+      withdrawn_are = withdrawals_less F o.before d o.body x.withdrawn o.more
+          (λ q. ap (withdraws_of q) o.is) o.indexed.withdrawn_are;
       revocations_are = less_revocations F d f x s w r;
-      codes_are = codes_kept F o.before d o.body x.codes o.more (ap issuing o.is) o.indexed.codes_are;
+      codes_are =
+          codes_kept F o.before d o.body x.codes o.more (ap issuing o.is) o.indexed.codes_are;
       outs_are = lost_outs F d (change.Revoke f) x w refl;
       reuses_are = less_reuses F d f x w;
       tied = untied_revocation F o.before d o.body f x.forest z o.more o.is o.indexed.tied woke;

@@ -2,8 +2,9 @@
 -- results:
 --   may_skip-sound, may_skip-complete   the test and the relation
 --   dots_over-sound, dots_over-complete
---                                       the dots of exactly the facts that may be skipped are listed
-use Rattle.std.proofs.Common.{map as map_list, ◌≡◌, ◌⊎◌, inl, inr, ℕ, Bool, true, false, ◌&&◌, ◌||◌, not}
+--       the dots of exactly the facts that may be skipped are listed
+use Rattle.std.proofs.Common.{map as map_list, ◌≡◌, ◌⊎◌, inl, inr, ℕ, Bool, true, false, ◌&&◌, ◌||◌}
+use Rattle.std.proofs.Common.{not}
 use Rattle.std.proofs.Common.{[], ◌∷◌, filter, Option, Some, None, refl, sym, ap, ◌∙◌}
 use borrow.Author.Tests.{le-leb}
 use Rattle.std.proofs.lemmas.Bool.{true≢false, cases_Bool, leb-true, cond-true, cond-false}
@@ -53,10 +54,11 @@ over_root F horizon d (Some root) j h =
 
 over_why : (F : FactSet) (horizon : ℕ) (k : TokenId) → is_over F horizon k ≡ true
     → IsOverAt (map.get F) horizon k.dot ⊎ MintsNothing (map.get F) k.dot
-over_why F horizon k h = elim (or_cases (mints_nothing (map.get F k.dot)) (is_over_by horizon (root_in (map.get F) k.dot)) h) [
-  | inl nothing ↦ inr (barren_here F k.dot (map.get F k.dot) refl nothing)
-  | inr over ↦ inl (over_root F horizon k.dot (root_in (map.get F) k.dot) refl over)
-]
+over_why F horizon k h = elim (or_cases (mints_nothing (map.get F k.dot))
+    (is_over_by horizon (root_in (map.get F) k.dot)) h) [
+      | inl nothing ↦ inr (barren_here F k.dot (map.get F k.dot) refl nothing)
+      | inr over ↦ inl (over_root F horizon k.dot (root_in (map.get F) k.dot) refl over)
+    ]
 
 pub may_skip-sound : (F : FactSet) (horizon : ℕ) (d : Dot) (b : Body) → map.get F d ≡ Some b
     → may_skip F horizon (d, b) ≡ true → MaySkip (map.get F) horizon d
@@ -65,19 +67,24 @@ may_skip-sound F horizon d b here h = by_token (kept_for d b) refl h
     by_token : (o : Option TokenId) → kept_for d b ≡ o → is_any_over F horizon o ≡ true
         → MaySkip (map.get F) horizon d
     by_token None kept h = absurd (true≢false (sym h))
-    by_token (Some k) kept h = record { fact = b; here = here; token = k; kept = kept; why = over_why F horizon k h }
+    by_token (Some k) kept h =
+        record { fact = b; here = here; token = k; kept = kept; why = over_why F horizon k h }
 
 why_over : (F : FactSet) (horizon : ℕ) (k : TokenId)
     → IsOverAt (map.get F) horizon k.dot ⊎ MintsNothing (map.get F) k.dot
     → is_over F horizon k ≡ true
-why_over F horizon k (inl o) = or_right (mints_nothing (map.get F k.dot)) (is_over_by horizon (root_in (map.get F) k.dot))
-    (ap (is_over_by horizon) (root-complete F k.dot o.root o.code o.under o.issues) ∙ le-leb o.code.family_end horizon o.over)
-why_over F horizon k (inr n) = or_left (mints_nothing (map.get F k.dot)) (is_over_by horizon (root_in (map.get F) k.dot))
+why_over F horizon k (inl o) =
+    or_right (mints_nothing (map.get F k.dot)) (is_over_by horizon (root_in (map.get F) k.dot))
+    (ap (is_over_by horizon) (root-complete F k.dot o.root o.code o.under o.issues)
+    ∙ le-leb o.code.family_end horizon o.over)
+why_over F horizon k (inr n) =
+    or_left (mints_nothing (map.get F k.dot)) (is_over_by horizon (root_in (map.get F) k.dot))
     (ap mints_nothing n.here ∙ ap not n.barren)
 
 pub may_skip-complete : (F : FactSet) (horizon : ℕ) (d : Dot) (s : MaySkip (map.get F) horizon d)
     → may_skip F horizon (d, s.fact) ≡ true
-may_skip-complete F horizon d s = ap (is_any_over F horizon) s.kept ∙ why_over F horizon s.token s.why
+may_skip-complete F horizon d s =
+    ap (is_any_over F horizon) s.kept ∙ why_over F horizon s.token s.why
 
 -- ---- all facts that may be skipped
 
@@ -90,11 +97,13 @@ has_picked : (p : Dot × Body → Bool) (fs : Facts) (q : Dot)
 has_picked p [] q = refl
 has_picked p (f ∷ fs) q = elim (cases_Bool (p f)) [
   | inl passes ↦
-      ap (λ xs. has (map_list (λ (g : Dot × Body). g.0) xs) q) (cond-true (p f) (f ∷ filter p fs) (filter p fs) passes)
+      ap (λ xs. has (map_list (λ (g : Dot × Body). g.0) xs) q)
+      (cond-true (p f) (f ∷ filter p fs) (filter p fs) passes)
       ∙ ap (λ a. (a && dot_eq q f.0) || has (picked p fs) q) (sym passes)
       ∙ ap (λ a. (p f && dot_eq q f.0) || a) (has_picked p fs q)
   | inr fails ↦
-      ap (λ xs. has (map_list (λ (g : Dot × Body). g.0) xs) q) (cond-false (p f) (f ∷ filter p fs) (filter p fs) fails)
+      ap (λ xs. has (map_list (λ (g : Dot × Body). g.0) xs) q)
+      (cond-false (p f) (f ∷ filter p fs) (filter p fs) fails)
       ∙ ap (λ a. (a && dot_eq q f.0) || has (picked p fs) q) (sym fails)
       ∙ ap (λ a. (p f && dot_eq q f.0) || a) (has_picked p fs q)
 ]
@@ -104,31 +113,44 @@ picked-sound : (p : Dot × Body → Bool) (F : FactSet) (q : Dot)
     → has (picked p (map.entries F)) q ≡ true
     → (b : Body) × (map.get F q ≡ Some b) × (p (q, b) ≡ true)
 picked-sound p F q h =
-    let x : Passing (at_dot p q) F = any_fact-held (at_dot p q) F (sym (has_picked p (map.entries F) q) ∙ h) in
+    let x : Passing (at_dot p q) F =
+    any_fact-held (at_dot p q) F (sym (has_picked p (map.entries F) q) ∙ h) in
     let both = and_parts (p (x.dot, x.body)) (dot_eq q x.dot) x.passes in
     let same : q ≡ x.dot = tied q x.dot both.1 in
     (x.body, ap (map.get F) same ∙ x.held, ap (λ (d : Dot). p (d, x.body)) same ∙ both.0)
 
 picked-complete : (p : Dot × Body → Bool) (F : FactSet) (q : Dot) (b : Body) → map.get F q ≡ Some b
     → p (q, b) ≡ true → has (picked p (map.entries F)) q ≡ true
-picked-complete p F q b held passes = has_picked p (map.entries F) q ∙ any_fact-of (at_dot p q) F q b held (and_from _ _ passes (at_itself q))
+picked-complete p F q b held passes = has_picked p (map.entries F) q
+    ∙ any_fact-of (at_dot p q) F q b held (and_from _ _ passes (at_itself q))
 
 pub dots_over-sound : (F : FactSet) (horizon : ℕ) (q : Dot) → has (dots_over F horizon) q ≡ true
     → MaySkip (map.get F) horizon q
-dots_over-sound F horizon q h = elim (has-append (picked (picks_code F horizon) (map.entries F)) (picked (picks_other F horizon) (map.entries F)) q h) [
-  | inl code ↦
-      let x : (b : Body) × (map.get F q ≡ Some b) × (picks_code F horizon (q, b) ≡ true) = picked-sound (picks_code F horizon) F q code in
-      may_skip-sound F horizon q x.0 x.1 (and_parts (issues x.0) (may_skip F horizon (q, x.0)) x.2).1
-  | inr other ↦
-      let x : (b : Body) × (map.get F q ≡ Some b) × (picks_other F horizon (q, b) ≡ true) = picked-sound (picks_other F horizon) F q other in
-      may_skip-sound F horizon q x.0 x.1 (and_parts (not (issues x.0)) (may_skip F horizon (q, x.0)) x.2).1
-]
+dots_over-sound F horizon q h = elim (has-append (picked (picks_code F horizon) (map.entries F))
+    (picked (picks_other F horizon) (map.entries F)) q h) [
+      | inl code ↦
+          let x : (b : Body) × (map.get F q ≡ Some b) × (picks_code F horizon (q, b) ≡ true) =
+          picked-sound (picks_code F horizon) F q code in
+          may_skip-sound F horizon q x.0 x.1
+          (and_parts (issues x.0) (may_skip F horizon (q, x.0)) x.2).1
+      | inr other ↦
+          let x : (b : Body) × (map.get F q ≡ Some b) × (picks_other F horizon (q, b) ≡ true) =
+          picked-sound (picks_other F horizon) F q other in
+          may_skip-sound F horizon q x.0 x.1
+          (and_parts (not (issues x.0)) (may_skip F horizon (q, x.0)) x.2).1
+    ]
 
 pub dots_over-complete : (F : FactSet) (horizon : ℕ) (q : Dot) → MaySkip (map.get F) horizon q
     → has (dots_over F horizon) q ≡ true
 dots_over-complete F horizon q s = elim (cases_Bool (issues s.fact)) [
-  | inl code ↦ has-left (picked (picks_code F horizon) (map.entries F)) (picked (picks_other F horizon) (map.entries F)) q
-      (picked-complete (picks_code F horizon) F q s.fact s.here (and_from (issues s.fact) (may_skip F horizon (q, s.fact)) code (may_skip-complete F horizon q s)))
-  | inr other ↦ has-right (picked (picks_code F horizon) (map.entries F)) (picked (picks_other F horizon) (map.entries F)) q
-      (picked-complete (picks_other F horizon) F q s.fact s.here (and_from (not (issues s.fact)) (may_skip F horizon (q, s.fact)) (ap not other) (may_skip-complete F horizon q s)))
+  | inl code ↦ has-left (picked (picks_code F horizon) (map.entries F))
+      (picked (picks_other F horizon) (map.entries F)) q
+      (picked-complete (picks_code F horizon) F q s.fact s.here
+      (and_from (issues s.fact) (may_skip F horizon (q, s.fact)) code
+      (may_skip-complete F horizon q s)))
+  | inr other ↦ has-right (picked (picks_code F horizon) (map.entries F))
+      (picked (picks_other F horizon) (map.entries F)) q
+      (picked-complete (picks_other F horizon) F q s.fact s.here
+      (and_from (not (issues s.fact)) (may_skip F horizon (q, s.fact)) (ap not other)
+      (may_skip-complete F horizon q s)))
 ]

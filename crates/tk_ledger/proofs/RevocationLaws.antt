@@ -50,26 +50,50 @@ use Rattle.tk_ledger.proofs.TableLaws.{own_on, revokes-change}
 
 revocations_total : IsTotalOrder revocation_cmp
 revocations_total =
-    then_total (on_total (λ k. k.dot) dot_cmp_total) (then_total (on_total (λ k. k.kind) nat_cmp_total)
+    then_total (on_total (λ k. k.dot) dot_cmp_total)
+    (then_total (on_total (λ k. k.kind) nat_cmp_total)
     (then_total (on_total (λ k. k.digest) nat_list_cmp_total)
     (then_total (on_total (λ k. k.client) dot_cmp_total) (on_total (λ k. k.place) dot_cmp_total))))
 
 key_tied : (a b : Revocation)
-    → eq_by_cmp revocation_cmp a b ≡ (is_same_dot a.dot b.dot && ((a.kind == b.kind) && (bytes_eq a.digest b.digest && (is_same_dot a.client b.client && is_same_dot a.place b.place))))
+    → eq_by_cmp revocation_cmp a b
+    ≡ (is_same_dot a.dot b.dot
+    && ((a.kind == b.kind)
+    && (bytes_eq a.digest b.digest
+    && (is_same_dot a.client b.client && is_same_dot a.place b.place))))
 key_tied a b =
     both_tied (dot_cmp a.dot b.dot) _
     ∙ ap (λ x. is_eq (dot_cmp a.dot b.dot) && x) (both_tied (nat_cmp a.kind b.kind) _)
-    ∙ ap (λ x. is_eq (dot_cmp a.dot b.dot) && (is_eq (nat_cmp a.kind b.kind) && x)) (both_tied (slice_cmp nat_cmp a.digest b.digest) _)
-    ∙ ap (λ x. is_eq (dot_cmp a.dot b.dot) && (is_eq (nat_cmp a.kind b.kind) && (is_eq (slice_cmp nat_cmp a.digest b.digest) && x))) (both_tied (dot_cmp a.client b.client) (dot_cmp a.place b.place))
-    ∙ ap (λ x. x && (is_eq (nat_cmp a.kind b.kind) && (is_eq (slice_cmp nat_cmp a.digest b.digest) && (is_eq (dot_cmp a.client b.client) && is_eq (dot_cmp a.place b.place))))) (at_is_same a.dot b.dot)
-    ∙ ap (λ x. is_same_dot a.dot b.dot && (x && (is_eq (slice_cmp nat_cmp a.digest b.digest) && (is_eq (dot_cmp a.client b.client) && is_eq (dot_cmp a.place b.place))))) (number_tied a.kind b.kind)
-    ∙ ap (λ x. is_same_dot a.dot b.dot && ((a.kind == b.kind) && (x && (is_eq (dot_cmp a.client b.client) && is_eq (dot_cmp a.place b.place))))) (bytes_tied a.digest b.digest)
-    ∙ ap (λ x. is_same_dot a.dot b.dot && ((a.kind == b.kind) && (bytes_eq a.digest b.digest && (x && is_eq (dot_cmp a.place b.place))))) (at_is_same a.client b.client)
-    ∙ ap (λ x. is_same_dot a.dot b.dot && ((a.kind == b.kind) && (bytes_eq a.digest b.digest && (is_same_dot a.client b.client && x)))) (at_is_same a.place b.place)
+    ∙ ap (λ x. is_eq (dot_cmp a.dot b.dot) && (is_eq (nat_cmp a.kind b.kind) && x))
+    (both_tied (slice_cmp nat_cmp a.digest b.digest) _)
+    ∙ ap (λ x. is_eq (dot_cmp a.dot b.dot)
+    && (is_eq (nat_cmp a.kind b.kind) && (is_eq (slice_cmp nat_cmp a.digest b.digest) && x)))
+    (both_tied (dot_cmp a.client b.client) (dot_cmp a.place b.place))
+    ∙ ap (λ x. x
+    && (is_eq (nat_cmp a.kind b.kind)
+    && (is_eq (slice_cmp nat_cmp a.digest b.digest)
+    && (is_eq (dot_cmp a.client b.client) && is_eq (dot_cmp a.place b.place)))))
+    (at_is_same a.dot b.dot)
+    ∙ ap (λ x. is_same_dot a.dot b.dot
+    && (x && (is_eq (slice_cmp nat_cmp a.digest b.digest)
+    && (is_eq (dot_cmp a.client b.client) && is_eq (dot_cmp a.place b.place)))))
+    (number_tied a.kind b.kind)
+    ∙ ap (λ x. is_same_dot a.dot b.dot
+    && ((a.kind == b.kind)
+    && (x && (is_eq (dot_cmp a.client b.client) && is_eq (dot_cmp a.place b.place)))))
+    (bytes_tied a.digest b.digest)
+    ∙ ap (λ x. is_same_dot a.dot b.dot
+    && ((a.kind == b.kind)
+    && (bytes_eq a.digest b.digest && (x && is_eq (dot_cmp a.place b.place)))))
+    (at_is_same a.client b.client)
+    ∙ ap (λ x. is_same_dot a.dot b.dot
+    && ((a.kind == b.kind) && (bytes_eq a.digest b.digest && (is_same_dot a.client b.client && x))))
+    (at_is_same a.place b.place)
 
 key_by : (a b : Revocation) → a.dot ≡ b.dot → a.kind ≡ b.kind → a.digest ≡ b.digest
     → a.client ≡ b.client → a.place ≡ b.place → a ≡ b
-key_by a b h i j k l = λ x. record { dot = h x; kind = i x; digest = j x; client = k x; place = l x }
+key_by a b h i j k l =
+    λ x. record { dot = h x; kind = i x; digest = j x; client = k x; place = l x }
 
 -- keys that tie are equal
 key_same : (a b : Revocation) → eq_by_cmp revocation_cmp a b ≡ true → a ≡ b
@@ -78,14 +102,18 @@ key_same a b h =
     let q = and_parts _ _ p.1 in
     let r = and_parts _ _ q.1 in
     let s = and_parts _ _ r.1 in
-    key_by a b (same_dot-true a.dot b.dot p.0) (eqb-true a.kind b.kind q.0) ((bytes_eq-Decides a.digest b.digest).0 r.0) (same_dot-true a.client b.client s.0) (same_dot-true a.place b.place s.1)
+    key_by a b (same_dot-true a.dot b.dot p.0) (eqb-true a.kind b.kind q.0)
+    ((bytes_eq-Decides a.digest b.digest).0 r.0) (same_dot-true a.client b.client s.0)
+    (same_dot-true a.place b.place s.1)
 
 -- the keys of revocations tie exactly if token, digest, client and dot are equal
 pub revocation_tied : (j k : TokenId) (g h : List ℕ) (c e d q : Dot)
-    → eq_by_cmp revocation_cmp (revocation_key j g c d) (revocation_key k h e q) ≡ ((is_same_token j k && (bytes_eq g h && is_same_dot c e)) && is_same_dot d q)
+    → eq_by_cmp revocation_cmp (revocation_key j g c d) (revocation_key k h e q)
+    ≡ ((is_same_token j k && (bytes_eq g h && is_same_dot c e)) && is_same_dot d q)
 revocation_tied j k g h c e d q =
     key_tied (revocation_key j g c d) (revocation_key k h e q)
-    ∙ regroup (is_same_dot j.dot k.dot) (kind_number j.kind == kind_number k.kind) (bytes_eq g h) (is_same_dot c e) (is_same_dot d q)
+    ∙ regroup (is_same_dot j.dot k.dot) (kind_number j.kind == kind_number k.kind) (bytes_eq g h)
+    (is_same_dot c e) (is_same_dot d q)
   where
     regroup : (a b s c d : Bool) → (a && (b && (s && (c && d)))) ≡ (((a && b) && (s && c)) && d)
     regroup true true true c d = refl
@@ -99,9 +127,15 @@ revocation_tied j k g h c e d q =
 key_order : (k : TokenId) (g : List ℕ) (c a b : Dot)
     → revocation_cmp (revocation_key k g c a) (revocation_key k g c b) ≡ dot_cmp a b
 key_order k g c a b =
-    ap (λ o. ordering_then o (ordering_then (nat_cmp (kind_number k.kind) (kind_number k.kind)) (ordering_then (slice_cmp nat_cmp g g) (ordering_then (dot_cmp c c) (dot_cmp a b))))) (tied_itself dot_cmp_total k.dot)
-    ∙ ap (λ o. ordering_then o (ordering_then (slice_cmp nat_cmp g g) (ordering_then (dot_cmp c c) (dot_cmp a b)))) (tied_itself nat_cmp_total (kind_number k.kind))
-    ∙ ap (λ o. ordering_then o (ordering_then (dot_cmp c c) (dot_cmp a b))) (tied_itself nat_list_cmp_total g)
+    ap (λ o. ordering_then o
+    (ordering_then (nat_cmp (kind_number k.kind) (kind_number k.kind))
+    (ordering_then (slice_cmp nat_cmp g g) (ordering_then (dot_cmp c c) (dot_cmp a b)))))
+    (tied_itself dot_cmp_total k.dot)
+    ∙ ap (λ o. ordering_then o
+    (ordering_then (slice_cmp nat_cmp g g) (ordering_then (dot_cmp c c) (dot_cmp a b))))
+    (tied_itself nat_cmp_total (kind_number k.kind))
+    ∙ ap (λ o. ordering_then o (ordering_then (dot_cmp c c) (dot_cmp a b)))
+    (tied_itself nat_list_cmp_total g)
     ∙ ap (λ o. ordering_then o (dot_cmp a b)) (tied_itself dot_cmp_total c)
 
 pub revocations_forward : (k : TokenId) (g : List ℕ) (c : Dot) (a b : Revocation)
@@ -113,14 +147,17 @@ revocations_forward k g c a b first last =
     ∙ ap is_gt (key_order k g c least_dot greatest_dot)
 
 abbrev in_range : TokenId → List ℕ → Dot → Revocation → Bool
-in_range k g c e = range_contains revocation_cmp (Included (revocation_key k g c least_dot)) (Included (revocation_key k g c greatest_dot)) e
+in_range k g c e = range_contains revocation_cmp (Included (revocation_key k g c least_dot))
+    (Included (revocation_key k g c greatest_dot)) e
 
 -- each dot in range has its key in the span
 in_span : (k : TokenId) (g : List ℕ) (c q : Dot) → IsDot q
     → in_range k g c (revocation_key k g c q) ≡ true
 in_span k g c q h = and_from _ _
     (ap is_le (key_order k g c least_dot q) ∙ from_first q h)
-    (ap (λ o. not (is_lt o)) (key_order k g c greatest_dot q ∙ dot_cmp_total.antisymm greatest_dot q) ∙ not_past (dot_cmp q greatest_dot) (to_last q h))
+    (ap (λ o. not (is_lt o))
+    (key_order k g c greatest_dot q ∙ dot_cmp_total.antisymm greatest_dot q)
+    ∙ not_past (dot_cmp q greatest_dot) (to_last q h))
 
 -- a key in the span is one of the token, the digest and the client
 of_token : (k : TokenId) (g : List ℕ) (c : Dot) (e : Revocation) → in_range k g c e ≡ true
@@ -130,16 +167,21 @@ of_token k g c e h =
     let dot = between (dot_cmp k.dot e.dot) (by_kind least_dot) (by_kind greatest_dot) p.0 p.1 in
     let low = sym (ap (λ o. is_le (ordering_then o (by_kind least_dot))) dot) ∙ p.0 in
     let high = sym (ap (λ o. not (is_lt (ordering_then o (by_kind greatest_dot)))) dot) ∙ p.1 in
-    let kind = between (nat_cmp (kind_number k.kind) e.kind) (by_digest least_dot) (by_digest greatest_dot) low high in
+    let kind = between (nat_cmp (kind_number k.kind) e.kind) (by_digest least_dot)
+    (by_digest greatest_dot) low high in
     let low = sym (ap (λ o. is_le (ordering_then o (by_digest least_dot))) kind) ∙ low in
     let high = sym (ap (λ o. not (is_lt (ordering_then o (by_digest greatest_dot)))) kind) ∙ high in
-    let digest = between (slice_cmp nat_cmp g e.digest) (by_client least_dot) (by_client greatest_dot) low high in
+    let digest = between (slice_cmp nat_cmp g e.digest) (by_client least_dot)
+    (by_client greatest_dot) low high in
     let low = sym (ap (λ o. is_le (ordering_then o (by_client least_dot))) digest) ∙ low in
-    let high = sym (ap (λ o. not (is_lt (ordering_then o (by_client greatest_dot)))) digest) ∙ high in
-    let client = between (dot_cmp c e.client) (dot_cmp least_dot e.place) (dot_cmp greatest_dot e.place) low high in
+    let high =
+    sym (ap (λ o. not (is_lt (ordering_then o (by_client greatest_dot)))) digest) ∙ high in
+    let client = between (dot_cmp c e.client) (dot_cmp least_dot e.place)
+    (dot_cmp greatest_dot e.place) low high in
     key_by e (revocation_key k g c e.place)
     (sym (tied k.dot e.dot (ap is_eq dot)))
-    (sym (eqb-true (kind_number k.kind) e.kind (sym (number_tied (kind_number k.kind) e.kind) ∙ ap is_eq kind)))
+    (sym (eqb-true (kind_number k.kind) e.kind
+    (sym (number_tied (kind_number k.kind) e.kind) ∙ ap is_eq kind)))
     (sym (exact_bytes g e.digest digest))
     (sym (tied c e.client (ap is_eq client)))
     refl
@@ -164,14 +206,19 @@ pub has_revocation_is : (F : FactSet) (t : BTreeSet Revocation) (k : TokenId) (g
     → IsRevocations F t → has_revocation t k g c ≡ is_revoked F k g c
 has_revocation_is F t k g c i = same_tests (has_revocation t k g c) (is_revoked F k g c)
     (λ h.
-    let e : (e : Revocation) × (find every (revocation_keys t k g c) ≡ Some e) = some_key (revocation_keys t k g c) h in
-    let found = found_passes revocation_cmp revocations_total key_same every (in_range k g c) t.keys e.0 e.1 in
+    let e : (e : Revocation) × (find every (revocation_keys t k g c) ≡ Some e) =
+    some_key (revocation_keys t k g c) h in
+    let found =
+    found_passes revocation_cmp revocations_total key_same every (in_range k g c) t.keys e.0 e.1 in
     revocation_held F k g c e.0.place (map.get F e.0.place) refl
-    (sym (i.listed k g c e.0.place) ∙ (ap (contains revocation_cmp t) (sym (of_token k g c e.0 found.1)) ∙ found.2)))
+    (sym (i.listed k g c e.0.place)
+    ∙ (ap (contains revocation_cmp t) (sym (of_token k g c e.0 found.1)) ∙ found.2)))
     (λ h. any_key (revocation_keys t k g c) (λ none.
     let x : Passing (revokes k g c) F = any_fact-held (revokes k g c) F h in
-    let at : is_listed_revocation t k g c x.dot ≡ true = i.listed k g c x.dot ∙ ap (is_revocation_of k g c) x.held ∙ x.passes in
-    none_passes revocation_cmp revocations_total key_same every (in_range k g c) t.keys none (revocation_key k g c x.dot) at (in_span k g c x.dot (i.ranged k g c x.dot at)) refl))
+    let at : is_listed_revocation t k g c x.dot ≡ true =
+    i.listed k g c x.dot ∙ ap (is_revocation_of k g c) x.held ∙ x.passes in
+    none_passes revocation_cmp revocations_total key_same every (in_range k g c) t.keys none
+    (revocation_key k g c x.dot) at (in_span k g c x.dot (i.ranged k g c x.dot at)) refl))
 
 -- a token is ended by the table exactly as by the facts
 pub ended_same : (F : FactSet) (t : BTreeSet Revocation) (k : TokenId) → IsRevocations F t
@@ -184,13 +231,16 @@ ended_same F t k i (Some m) (Some r) = has_revocation_is F t k m.digest r.issued
 
 -- each dot that is listed is in range
 abbrev pub RangedRevocations : BTreeSet Revocation → Type 0
-RangedRevocations t = (k : TokenId) (g : List ℕ) (c d : Dot) → is_listed_revocation t k g c d ≡ true → IsDot d
+RangedRevocations t =
+    (k : TokenId) (g : List ℕ) (c d : Dot) → is_listed_revocation t k g c d ≡ true → IsDot d
 
-pub revoked_on : (F G : FactSet) (d : Dot) (b : Body) (k : TokenId) (g : List ℕ) (c q : Dot) (x : Bool)
+pub revoked_on : (F G : FactSet) (d : Dot) (b : Body) (k : TokenId) (g : List ℕ) (c q : Dot)
+    (x : Bool)
     → OneMore F G d b → x ≡ is_revocation_of k g c (map.get F q)
     → ((revokes_of k g c (change_in b) && is_at d q) || x) ≡ is_revocation_of k g c (map.get G q)
 revoked_on F G d b k g c q x m i =
-    own_on d q (revokes_of k g c (change_in b)) x (is_revocation_of k g c (map.get F q)) (is_revocation_of k g c (map.get G q))
+    own_on d q (revokes_of k g c (change_in b)) x (is_revocation_of k g c (map.get F q))
+    (is_revocation_of k g c (map.get G q))
     (λ same. ap (is_revocation_of k g c) (ap (map.get F) same ∙ m.free))
     (λ same. ap (is_revocation_of k g c) (ap (map.get G) same ∙ m.here) ∙ revokes-change k g c b)
     (λ ne. ap (is_revocation_of k g c) (m.there q ne))
@@ -198,22 +248,29 @@ revoked_on F G d b k g c q x m i =
 
 pub revocations_on : (F G : FactSet) (d : Dot) (b : Body) (t u : BTreeSet Revocation)
     → OneMore F G d b → IsRevocations F t → RangedRevocations u
-    → ((k : TokenId) (g : List ℕ) (c q : Dot) → is_listed_revocation u k g c q ≡ ((revokes_of k g c (change_in b) && is_at d q) || is_listed_revocation t k g c q))
+    → ((k : TokenId) (g : List ℕ) (c q : Dot)
+    → is_listed_revocation u k g c q
+    ≡ ((revokes_of k g c (change_in b) && is_at d q) || is_listed_revocation t k g c q))
     → IsRevocations G u
 revocations_on F G d b t u m i ranged l = record {
-  listed = λ k g c q. l k g c q ∙ revoked_on F G d b k g c q (is_listed_revocation t k g c q) m (i.listed k g c q);
+  listed = λ k g c q.
+      l k g c q ∙ revoked_on F G d b k g c q (is_listed_revocation t k g c q) m (i.listed k g c q);
   ranged = ranged;
 }
 
 -- dots that are newly listed are in range if their dot is
 pub revocations_ranged : (t u : BTreeSet Revocation) (d : Dot) (n : TokenId → List ℕ → Dot → Bool)
     → IsDot d → RangedRevocations t
-    → ((k : TokenId) (g : List ℕ) (c q : Dot) → is_listed_revocation u k g c q ≡ ((n k g c && is_same_dot d q) || is_listed_revocation t k g c q))
+    → ((k : TokenId) (g : List ℕ) (c q : Dot)
+    → is_listed_revocation u k g c q
+    ≡ ((n k g c && is_same_dot d q) || is_listed_revocation t k g c q))
     → RangedRevocations u
-revocations_ranged t u d n here before l k g c q h = elim (or_cases (n k g c && is_same_dot d q) (is_listed_revocation t k g c q) (sym (l k g c q) ∙ h)) [
-  | inl new ↦ subst (λ (x : Dot). IsDot x) (same_dot-true d q (and_parts (n k g c) (is_same_dot d q) new).1) here
-  | inr old ↦ before k g c q old
-]
+revocations_ranged t u d n here before l k g c q h = elim (or_cases (n k g c && is_same_dot d q)
+    (is_listed_revocation t k g c q) (sym (l k g c q) ∙ h)) [
+      | inl new ↦ subst (λ (x : Dot). IsDot x)
+          (same_dot-true d q (and_parts (n k g c) (is_same_dot d q) new).1) here
+      | inr old ↦ before k g c q old
+    ]
 
 pub revocations_alike : (F : FactSet) (t u : BTreeSet Revocation) → IsRevocations F t
     → ((e : Revocation) → contains revocation_cmp u e ≡ contains revocation_cmp t e)

@@ -6,7 +6,8 @@
 --   under-minted, minted-linked   what is minted at a link is under the link's code
 --   minted-under-below            a token stays under its code in a greater set
 --   root-sound, root-complete     the root of a family
-use Rattle.std.proofs.Common.{◌≡◌, ◌≢◌, List, [], ◌∷◌, Option, Some, None, refl, sym, ap, subst, ◌∙◌}
+use Rattle.std.proofs.Common.{◌≡◌, ◌≢◌, List, [], ◌∷◌, Option, Some, None, refl, sym, ap, subst}
+use Rattle.std.proofs.Common.{◌∙◌}
 use Rattle.std.specs.Option.{option_and_then, option_map}
 use Rattle.std.specs.FinMap as map
 use Rattle.tk_handle.specs.declared.dot.Dot.{Dot}
@@ -24,7 +25,8 @@ use Rattle.tk_fact.specs.declared.code_issued.CodeIssued as issued
 use Rattle.tk_fact.specs.Tokens.{MintedFields, anchor_of, minted_of}
 use Rattle.tk_store.specs.FactSet.{FactSet, IsSubset}
 use Rattle.tk_ledger.specs.Bodies.{Bodies}
-use Rattle.tk_ledger.specs.Tokens.{link_of, links_in, code_in, anchor_by, anchor_in, IsMintedUnder, issued_at, Root, root_of, root_in, minted_in, IsEnded}
+use Rattle.tk_ledger.specs.Tokens.{link_of, links_in, code_in, anchor_by, anchor_in, IsMintedUnder}
+use Rattle.tk_ledger.specs.Tokens.{issued_at, Root, root_of, root_in, minted_in, IsEnded}
 
 -- a value of a function on an option is that of a value in the option
 pub from_some : {A B : Type 0} (f : A → Option B) (o : Option A) (y : B)
@@ -79,8 +81,8 @@ anchor-linked body_at d l h =
     ap (anchor_by d) x.1 ∙ own_anchor d x.0 l x.2
 
 -- a dot that is under a code has a link
-pub linked : (f : Links) (d c : Dot) → IsUnder f d c → (l : Link) × (f d ≡ Some l)
-linked f d c under = by under.path under.leads
+pub link_under : (f : Links) (d c : Dot) → IsUnder f d c → (l : Link) × (f d ≡ Some l)
+link_under f d c under = by under.path under.leads
   where
     by : (ps : List Dot) → IsPath f d ps c → (l : Link) × (f d ≡ Some l)
     by [] leads = (Code, ap f leads.0 ∙ leads.1)
@@ -90,8 +92,9 @@ linked f d c under = by under.path under.leads
 pub under-minted : (body_at : Bodies) (d c : Dot) → IsUnder (links_in body_at) d c
     → IsMintedUnder body_at d c
 under-minted body_at d c under =
-    let x = linked (links_in body_at) d c under in
-    subst (λ (q : Dot). IsUnder (links_in body_at) q c) (sym (anchor-linked body_at d x.0 x.1)) under
+    let x = link_under (links_in body_at) d c under in
+    subst (λ (q : Dot). IsUnder (links_in body_at) q c) (sym (anchor-linked body_at d x.0 x.1))
+    under
 
 -- what is minted at a link is under a code only if the link is
 pub minted-linked : (body_at : Bodies) (d c : Dot) (l : Link) → links_in body_at d ≡ Some l
@@ -130,8 +133,9 @@ anchor-below : (F G : FactSet) → IsSubset F G → (d c : Dot) (o : Option Body
     → IsMintedUnder (map.get F) d c → anchor_in (map.get G) d ≡ anchor_in (map.get F) d
 anchor-below F G w d c (Some b) at under = ap (anchor_by d) (w d b at) ∙ sym (ap (anchor_by d) at)
 anchor-below F G w d c None at under =
-    let here : IsUnder (links_in (map.get F)) d c = subst (λ (q : Dot). IsUnder (links_in (map.get F)) q c) (ap (anchor_by d) at) under in
-    let x = linked (links_in (map.get F)) d c here in
+    let here : IsUnder (links_in (map.get F)) d c =
+    subst (λ (q : Dot). IsUnder (links_in (map.get F)) q c) (ap (anchor_by d) at) under in
+    let x = link_under (links_in (map.get F)) d c here in
     absurd (nothing x.0 (sym (ap (option_and_then link_of) at) ∙ x.1))
   where
     nothing : (l : Link) → ¬ (None ≡ Some l)
@@ -141,8 +145,10 @@ anchor-below F G w d c None at under =
 pub minted-under-below : (F G : FactSet) → IsSubset F G → (d c : Dot)
     → IsMintedUnder (map.get F) d c → IsMintedUnder (map.get G) d c
 minted-under-below F G w d c under =
-    subst (λ (q : Dot). IsUnder (links_in (map.get G)) q c) (sym (anchor-below F G w d c (map.get F d) refl under))
-    (IsUnder-within (links_in (map.get F)) (links_in (map.get G)) (links-below F G w) (anchor_in (map.get F) d) c under)
+    subst (λ (q : Dot). IsUnder (links_in (map.get G)) q c)
+    (sym (anchor-below F G w d c (map.get F d) refl under))
+    (IsUnder-within (links_in (map.get F)) (links_in (map.get G)) (links-below F G w)
+    (anchor_in (map.get F) d) c under)
 
 -- ---- roots
 
@@ -157,23 +163,30 @@ root_at F c o h = parts (issued_at (map.get F) c) refl h
       where
         nothing : ¬ (None ≡ Some o)
         nothing h = cc
-    parts (Some f) at h = subst (λ (x : Root). (c ≡ x.code) × (issued_at (map.get F) x.code ≡ Some x.issued)) (same h) (refl, at)
+    parts (Some f) at h = subst (λ (x : Root).
+        (c ≡ x.code) × (issued_at (map.get F) x.code ≡ Some x.issued)) (same h) (refl, at)
       where
         same : Some (record { code = c; issued = f }) ≡ Some o → record { code = c; issued = f } ≡ o
         same h = cc
 
--- the root that is found has the code that what is minted at the dot is under, and the fact that issued that code
+-- the root that is found has the code that what is minted at the dot is under, and the fact that
+-- issued that code
 pub root-sound : (F : FactSet) (d : Dot) (o : Root) → root_in (map.get F) d ≡ Some o
     → IsMintedUnder (map.get F) d o.code × (issued_at (map.get F) o.code ≡ Some o.issued)
 root-sound F d o h =
     let a : Dot = anchor_in (map.get F) d in
-    let c : (c : Dot) × (code_in (map.get F) a ≡ Some c) × (root_of (map.get F) c ≡ Some o) = from_some (root_of (map.get F)) (code_in (map.get F) a) o h in
-    let p = root_at F c.0 o c.2 in
-    (subst (λ (x : Dot). IsMintedUnder (map.get F) d x) p.0 (code_of-sound (links_in (map.get F)) a c.0 c.1), p.1)
+    let c : (c : Dot) × (code_in (map.get F) a ≡ Some c) × (root_of (map.get F) c ≡ Some o) =
+    from_some (root_of (map.get F)) (code_in (map.get F) a) o h in
+    let p = root_at F c.0 o c.2 in (
+      subst (λ (x : Dot). IsMintedUnder (map.get F) d x) p.0
+          (code_of-sound (links_in (map.get F)) a c.0 c.1),
+      p.1,
+    )
 
 pub root-complete : (F : FactSet) (d c : Dot) (code : issued.CodeIssued)
     → IsMintedUnder (map.get F) d c → issued_at (map.get F) c ≡ Some code
     → root_in (map.get F) d ≡ Some (record { code = c; issued = code })
 root-complete F d c code under issues =
-    ap (option_and_then (root_of (map.get F))) (code_of-complete (links_in (map.get F)) (anchor_in (map.get F) d) c under)
+    ap (option_and_then (root_of (map.get F)))
+    (code_of-complete (links_in (map.get F)) (anchor_in (map.get F) d) c under)
     ∙ ap (option_map (λ (f : issued.CodeIssued). record { code = c; issued = f })) issues

@@ -14,7 +14,8 @@ pub same_dot-true : (a b : Dot) → is_same_dot a b ≡ true → a ≡ b
 same_dot-true a b h =
     let region : a.region ≡ b.region = region_of a b h in
     let serial : a.serial ≡ b.serial = serial_of a b h in
-    ap (λ n. record { region = n; serial = a.serial }) region ∙ ap (λ n. record { region = b.region; serial = n }) serial
+    ap (λ n. record { region = n; serial = a.serial }) region
+    ∙ ap (λ n. record { region = b.region; serial = n }) serial
   where
     region_of : (a b : Dot) → is_same_dot a b ≡ true → a.region ≡ b.region
     region_of a b h = grind (arith, nat_tests)
@@ -52,7 +53,9 @@ both : (d e : Dot) (k j : Kind) (a b : TokenId) → d ≡ e → k ≡ j → a �
 both d e k j a b h i p q = cc
 
 pub same_token-true : (a b : TokenId) → is_same_token a b ≡ true → a ≡ b
-same_token-true a b h = let p = and_parts _ _ h in both a.dot b.dot a.kind b.kind a b (same_dot-true a.dot b.dot p.0) (same_kind a.kind b.kind p.1) refl refl
+same_token-true a b h = let p = and_parts _ _ h in
+    both a.dot b.dot a.kind b.kind a b (same_dot-true a.dot b.dot p.0) (same_kind a.kind b.kind p.1)
+    refl refl
 
 pub same_token-itself : (a : TokenId) → is_same_token a a ≡ true
 same_token-itself a = and_from _ _ (same_dot-itself a.dot) (kind_itself a.kind)

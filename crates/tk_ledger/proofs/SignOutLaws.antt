@@ -54,22 +54,30 @@ abbrev pub its_key : List ℕ → out.SubjectOut → Dot → OutKey
 its_key subject f d = out_key (sha256 subject) (left_after f.moment) d
 
 -- the key of the sign-out is in the table and in the span, and passes
-record Listed (F : FactSet) (t : BTreeSet OutKey) (subject : List ℕ) (f : out.SubjectOut) (d : Dot) : Type 0 where
+record Listed (F : FactSet) (t : BTreeSet OutKey) (subject : List ℕ) (f : out.SubjectOut)
+    (d : Dot) : Type 0 where
   pub at : among out_cmp (its_key subject f d) t.keys ≡ true
   pub ranged : f.moment ≤ greatest_moment
-  pub kept : range_contains out_cmp (Included (out_key (sha256 subject) 0 least_dot)) (Included (out_key (sha256 subject) greatest_moment greatest_dot)) (its_key subject f d) ≡ true
+  pub kept : range_contains out_cmp (Included (out_key (sha256 subject) 0 least_dot))
+      (Included (out_key (sha256 subject) greatest_moment greatest_dot)) (its_key subject f d)
+      ≡ true
   pub passes : tells_of F subject (its_key subject f d) ≡ true
 
 listed : (F : FactSet) (t : BTreeSet OutKey) (subject : List ℕ) (moment : ℕ) → IsOuts F t
     → (s : IsSignedOut (map.get F) subject moment) → Listed F t subject s.sign_out s.place
 listed F t subject moment i s =
-    let there : sign_out_at (map.get F) s.place ≡ Some s.sign_out = ap (option_and_then sign_out_in) s.held in
+    let there : sign_out_at (map.get F) s.place ≡ Some s.sign_out =
+    ap (option_and_then sign_out_in) s.held in
     let key = out_listed F t s.place s.sign_out i there in
     record {
-      at = ap (λ x. contains out_cmp t (out_key (sha256 x) (left_after s.sign_out.moment) s.place)) (sym s.subject_is) ∙ key.0;
+      at = ap (λ x. contains out_cmp t (out_key (sha256 x) (left_after s.sign_out.moment) s.place))
+          (sym s.subject_is)
+          ∙ key.0;
       ranged = key.2;
       kept = in_outs (sha256 subject) (left_after s.sign_out.moment) s.place (omega arith) key.1;
-      passes = ap (tells_by subject (left_after s.sign_out.moment)) there ∙ and_from _ _ ((bytes_eq-Decides s.sign_out.subject subject).1 s.subject_is) (eq-eqb (left_after s.sign_out.moment) (left_after s.sign_out.moment) refl);
+      passes = ap (tells_by subject (left_after s.sign_out.moment)) there
+          ∙ and_from _ _ ((bytes_eq-Decides s.sign_out.subject subject).1 s.subject_is)
+          (eq-eqb (left_after s.sign_out.moment) (left_after s.sign_out.moment) refl);
     }
 
 -- if no key is found, the subject has no sign-out
@@ -78,10 +86,12 @@ pub last_none : (F : FactSet) (t : BTreeSet OutKey) (subject : List ℕ) → IsO
     → IsLastSignOut (map.get F) subject None
 last_none F t subject i h = λ moment s.
     let l = listed F t subject moment i s in
-    none_passes out_cmp outs_total out_same (tells_of F subject) _ t.keys h (its_key subject s.sign_out s.place) l.at l.kept l.passes
+    none_passes out_cmp outs_total out_same (tells_of F subject) _ t.keys h
+    (its_key subject s.sign_out s.place) l.at l.kept l.passes
 
 less_is : (a b : ℕ) → a < b → nat_cmp a b ≡ Less
-less_is a b lt = by_ranked (a < b) (a ≡ b) (b < a) (nat_cmp a b) (ranked a b (nat_cmp a b) refl) (λ o _. o) (λ _ e. absurd (apart e)) (λ _ g. absurd (turned g))
+less_is a b lt = by_ranked (a < b) (a ≡ b) (b < a) (nat_cmp a b) (ranked a b (nat_cmp a b) refl)
+    (λ o _. o) (λ _ e. absurd (apart e)) (λ _ g. absurd (turned g))
   where
     apart : ¬ (a ≡ b)
     apart e = omega (arith, lt, e)
@@ -94,15 +104,19 @@ later_first : (m n : ℕ) → m < n → n ≤ greatest_moment → nat_cmp (left_
 later_first m n lt le = less_is (left_after n) (left_after m) (omega (arith, lt, le))
 
 -- the sign-out of the key that is found is the last
-pub last_some : (F : FactSet) (t : BTreeSet OutKey) (subject : List ℕ) (e : OutKey) (f : out.SubjectOut)
+pub last_some : (F : FactSet) (t : BTreeSet OutKey) (subject : List ℕ) (e : OutKey)
+    (f : out.SubjectOut)
     → IsOuts F t → IsStrictlySortedBy out_cmp t.keys
     → find (tells_of F subject) (outs_of t (sha256 subject)) ≡ Some e
     → sign_out_at (map.get F) e.place ≡ Some f → IsLastSignOut (map.get F) subject (Some f.moment)
 last_some F t subject e f i sorted h there =
     let found = found_passes out_cmp outs_total out_same (tells_of F subject) _ t.keys e h in
     let told = and_parts _ _ (sym (ap (tells_by subject e.left) there) ∙ found.0) in
-    let b : (b : Body) × (map.get F e.place ≡ Some b) × (sign_out_in b ≡ Some f) = from_some sign_out_in (map.get F e.place) f there in
-    let itself : e ≡ its_key subject f e.place = out_by e (its_key subject f e.place) (of_subject (sha256 subject) e found.1) (sym (eqb-true (left_after f.moment) e.left told.1)) refl in (
+    let b : (b : Body) × (map.get F e.place ≡ Some b) × (sign_out_in b ≡ Some f) =
+    from_some sign_out_in (map.get F e.place) f there in
+    let itself : e ≡ its_key subject f e.place =
+    out_by e (its_key subject f e.place) (of_subject (sha256 subject) e found.1)
+    (sym (eqb-true (left_after f.moment) e.left told.1)) refl in (
       record {
         place = e.place;
         sign_out = f;
@@ -112,17 +126,24 @@ last_some F t subject e f i sorted h there =
       },
       λ moment s. (let l = listed F t subject moment i s in
           no_later moment s l (cases_Bool (nat_lt f.moment s.sign_out.moment)) itself
-          (first_least out_cmp outs_total out_same (tells_of F subject) _ t.keys sorted e h (its_key subject s.sign_out s.place) l.at l.kept l.passes)),
+          (first_least out_cmp outs_total out_same (tells_of F subject) _ t.keys sorted e h
+          (its_key subject s.sign_out s.place) l.at l.kept l.passes)),
     )
   where
     no_later : (moment : ℕ) (s : IsSignedOut (map.get F) subject moment)
         → Listed F t subject s.sign_out s.place
-        → (nat_lt f.moment s.sign_out.moment ≡ true) ⊎ (nat_lt f.moment s.sign_out.moment ≡ false) → e ≡ its_key subject f e.place → out_cmp (its_key subject s.sign_out s.place) e ≢ Less → moment ≤ f.moment
+        → (nat_lt f.moment s.sign_out.moment ≡ true) ⊎ (nat_lt f.moment s.sign_out.moment ≡ false)
+        → e ≡ its_key subject f e.place → out_cmp (its_key subject s.sign_out s.place) e ≢ Less
+        → moment ≤ f.moment
     no_later moment s l (inl later) itself first = absurd (first (
         ap (out_cmp (its_key subject s.sign_out s.place)) itself
-        ∙ out_order (sha256 subject) (left_after s.sign_out.moment) (left_after f.moment) s.place e.place
-        ∙ ap (λ o. ordering_then o (dot_cmp s.place e.place)) (later_first f.moment s.sign_out.moment (ltb-true f.moment s.sign_out.moment later) l.ranged)))
-    no_later moment s l (inr early) itself first = omega (arith, s.not_before, ltb-false f.moment s.sign_out.moment early)
+        ∙ out_order (sha256 subject) (left_after s.sign_out.moment) (left_after f.moment) s.place
+        e.place
+        ∙ ap (λ o. ordering_then o (dot_cmp s.place e.place))
+        (later_first f.moment s.sign_out.moment (ltb-true f.moment s.sign_out.moment later)
+        l.ranged)))
+    no_later moment s l (inr early) itself first =
+        omega (arith, s.not_before, ltb-false f.moment s.sign_out.moment early)
 
 -- the dot of the key that is found has a sign-out
 pub last_missing : (F : FactSet) (t : BTreeSet OutKey) (subject : List ℕ) (e : OutKey)
@@ -137,8 +158,10 @@ last_missing F t subject e h none =
 pub last_tells : (F : FactSet) (subject : List ℕ) (last : Option ℕ)
     → IsLastSignOut (map.get F) subject last → (moment : ℕ)
     → is_signed_out F subject moment ≡ reaches last moment
-last_tells F subject None none moment = false_from_ne_true (is_signed_out F subject moment) (λ h. none moment (is_signed_out-sound F subject moment h))
-last_tells F subject (Some m) last moment = same_tests (is_signed_out F subject moment) (nat_le moment m)
+last_tells F subject None none moment = false_from_ne_true (is_signed_out F subject moment)
+    (λ h. none moment (is_signed_out-sound F subject moment h))
+last_tells F subject (Some m) last moment =
+    same_tests (is_signed_out F subject moment) (nat_le moment m)
     (λ h. le-leb moment m (last.1 moment (is_signed_out-sound F subject moment h)))
     (λ h. is_signed_out-complete F subject moment (record {
       place = last.0.place;
@@ -155,7 +178,8 @@ after (Some m) = m + 1
 
 pub last_leaves : (F : FactSet) (subject : List ℕ) (last : Option ℕ)
     → IsLastSignOut (map.get F) subject last → IsFirstUnreached (map.get F) subject (after last)
-last_leaves F subject None none = record { unreached = none 0; reached = λ moment lt. absurd (below_none moment lt) }
+last_leaves F subject None none =
+    record { unreached = none 0; reached = λ moment lt. absurd (below_none moment lt) }
   where
     below_none : (n : ℕ) → ¬ (n < 0)
     below_none n lt = omega (arith, lt)
@@ -177,8 +201,14 @@ last_leaves F subject (Some m) last = record {
 
 pub sign_out-gone : (F : FactSet) (d q : Dot) → is_same_dot d q ≡ true
     → sign_out_at (map.get (map.remove F d)) q ≡ None
-sign_out-gone F d q same = ap (option_and_then sign_out_in) (map.get-remove dot_cmp_total F d q ∙ cond-true _ _ _ (ap (λ (p : Dot). dot_eq p d) (sym (same_dot-true d q same)) ∙ at_itself d))
+sign_out-gone F d q same = ap (option_and_then sign_out_in)
+    (map.get-remove dot_cmp_total F d q
+    ∙ cond-true _ _ _ (ap (λ (p : Dot). dot_eq p d) (sym (same_dot-true d q same)) ∙ at_itself d))
 
 pub sign_out-kept : (F : FactSet) (d q : Dot) → is_same_dot d q ≡ false
     → sign_out_at (map.get (map.remove F d)) q ≡ sign_out_at (map.get F) q
-sign_out-kept F d q apart = ap (option_and_then sign_out_in) (map.get-remove dot_cmp_total F d q ∙ cond-false _ _ _ (apart_at q d (λ same. true≢false (sym (same_dot-itself d) ∙ ap (is_same_dot d) (sym same) ∙ apart))))
+sign_out-kept F d q apart = ap (option_and_then sign_out_in)
+    (map.get-remove dot_cmp_total F d q
+    ∙ cond-false _ _ _
+    (apart_at q d
+    (λ same. true≢false (sym (same_dot-itself d) ∙ ap (is_same_dot d) (sym same) ∙ apart))))

@@ -70,8 +70,11 @@ may_pass (Some Skipped) b may h = absurd (none_is_not_some b h)
 
 pub skipped_passes : (P Q : StoreFields) (d : Dot) (a : Added) (b : Body) (y : Change)
     → Skips P d (Ok a) Q → map.get (held_facts P) d ≡ Some b → y ≡ change_in b → passes y ≡ true
-skipped_passes P Q d added.New b y s at is = absurd (none_is_not_some b (sym (ap held_slot s.0) ∙ sym (get_held P.slots d) ∙ at))
-skipped_passes P Q d added.Held b y s at is = ap passes is ∙ passing_change b (may_pass (map.get P.slots d) b s.0 (sym (get_held P.slots d) ∙ at))
+skipped_passes P Q d added.New b y s at is =
+    absurd (none_is_not_some b (sym (ap held_slot s.0) ∙ sym (get_held P.slots d) ∙ at))
+skipped_passes P Q d added.Held b y s at is =
+    ap passes is
+    ∙ passing_change b (may_pass (map.get P.slots d) b s.0 (sym (get_held P.slots d) ∙ at))
 
 pub was_indexed : (P Q : StoreFields) (d : Dot) (a : Added) (b : Body) (y : Change) (x : Index)
     → Skips P d (Ok a) Q → map.get (held_facts P) d ≡ Some b → y ≡ change_in b
@@ -98,7 +101,9 @@ remove_most : {X : Type 0} (F : map.FinMap dot_cmp X) (d : Dot)
     → map.len (map.remove F d) ≤ map.len F
 remove_most F d =
     let less = map.len-remove dot_cmp_total F d in
-    elim (is_some (map.get F d)) as (λ t. map.len (map.remove F d) ≡ cond t (map.len F - 1) (map.len F) → map.len (map.remove F d) ≤ map.len F) [
+    elim (is_some (map.get F d)) as
+    (λ t. map.len (map.remove F d) ≡ cond t (map.len F - 1) (map.len F)
+    → map.len (map.remove F d) ≤ map.len F) [
       | true ↦ λ is. omega (arith, is)
       | false ↦ λ is. omega (arith, is)
     ] less
@@ -106,11 +111,17 @@ remove_most F d =
 one_skipped : (P Q : StoreFields) (d : Dot) (a : Added) → Skips P d (Ok a) Q
     → SkipsAll P (λ q. dot_eq q d) Q
 one_skipped P Q d a s = record {
-  here = λ q same. ap (λ (R : StoreFields). map.get R.slots q) (skipped_is P Q d a s) ∙ ap (map.get (map.insert P.slots d Skipped)) (dot_eq-true q d same) ∙ get_here P.slots d Skipped;
+  here = λ q same. ap (λ (R : StoreFields). map.get R.slots q) (skipped_is P Q d a s)
+      ∙ ap (map.get (map.insert P.slots d Skipped)) (dot_eq-true q d same)
+      ∙ get_here P.slots d Skipped;
   there = λ q apart. ap (λ (R : StoreFields). map.get R.slots q) (skipped_is P Q d a s)
-      ∙ by_dot (λ o. o ≡ map.get P.slots q) P.slots d Skipped q (λ same. absurd (true≢false (sym (ap (λ (e : Dot). dot_eq q e) (sym same) ∙ dot_eq-same q) ∙ apart))) refl;
+      ∙ by_dot (λ o. o ≡ map.get P.slots q) P.slots d Skipped q
+      (λ same. absurd
+      (true≢false (sym (ap (λ (e : Dot). dot_eq q e) (sym same) ∙ dot_eq-same q) ∙ apart))) refl;
   horizon = ap (λ (R : StoreFields). R.horizon) (skipped_is P Q d a s);
-  fewer = subst (λ n. n ≤ map.len (held_facts P)) (ap (λ (F : map.FinMap dot_cmp Body). map.len F) (sym (skipped_held P Q d a s))) (remove_most (held_facts P) d);
+  fewer = subst (λ n. n ≤ map.len (held_facts P))
+      (ap (λ (F : map.FinMap dot_cmp Body). map.len F) (sym (skipped_held P Q d a s)))
+      (remove_most (held_facts P) d);
 }
 
 neither : (a b : Bool) → (a || b) ≡ false → (a ≡ false) × (b ≡ false)
@@ -126,7 +137,8 @@ skips_then : (P Q R : StoreFields) (f g : Dot → Bool) → SkipsAll P f Q → S
     → SkipsAll P (λ q. f q || g q) R
 skips_then P Q R f g one two = record {
   here = λ q at. by_test q at (cases_Bool (g q));
-  there = λ q apart. (let both = neither (f q) (g q) apart in two.there q both.1 ∙ one.there q both.0);
+  there =
+      λ q apart. (let both = neither (f q) (g q) apart in two.there q both.1 ∙ one.there q both.0);
   horizon = two.horizon ∙ one.horizon;
   fewer = (let x = one.fewer in let y = two.fewer in omega (arith, x, y));
 }
@@ -134,14 +146,29 @@ skips_then P Q R f g one two = record {
     by_test : (q : Dot) → (f q || g q) ≡ true → (g q ≡ true) ⊎ (g q ≡ false)
         → map.get R.slots q ≡ Some Skipped
     by_test q at (inl now) = two.here q now
-    by_test q at (inr apart) = two.there q apart ∙ one.here q (elim (either (f q) (g q) at) [ inl is ↦ is | inr is ↦ absurd (true≢false (sym is ∙ apart)) ])
+    by_test q at (inr apart) = two.there q apart
+        ∙ one.here q
+        (elim (either (f q) (g q) at) [
+          | inl is ↦ is
+          | inr is ↦ absurd (true≢false (sym is ∙ apart))
+        ])
 
 skips_as : (P Q : StoreFields) (f g : Dot → Bool) → ((q : Dot) → g q ≡ f q) → SkipsAll P f Q
     → SkipsAll P g Q
-skips_as P Q f g same s = record { here = λ q at. s.here q (sym (same q) ∙ at); there = λ q apart. s.there q (sym (same q) ∙ apart); horizon = s.horizon; fewer = s.fewer }
+skips_as P Q f g same s = record {
+  here = λ q at. s.here q (sym (same q) ∙ at);
+  there = λ q apart. s.there q (sym (same q) ∙ apart);
+  horizon = s.horizon;
+  fewer = s.fewer;
+}
 
 pub skips_none : (P : StoreFields) → SkipsAll P (λ _. false) P
-skips_none P = record { here = λ q at. absurd (true≢false (sym at)); there = λ q _. refl; horizon = refl; fewer = omega arith }
+skips_none P = record {
+  here = λ q at. absurd (true≢false (sym at));
+  there = λ q _. refl;
+  horizon = refl;
+  fewer = omega arith;
+}
 
 -- one more dot of a list was skipped
 pub skips_more : (P Q R : StoreFields) (ds : List Dot) (i : ℕ) (e d : Dot) (a : Added)
@@ -149,7 +176,8 @@ pub skips_more : (P Q R : StoreFields) (ds : List Dot) (i : ℕ) (e d : Dot) (a 
     → SkipsAll P (has (take (i + 1) ds)) R
 skips_more P Q R ds i e d a lt is done s =
     skips_as P R (λ q. has (take i ds) q || dot_eq q d) (has (take (i + 1) ds))
-    (λ q. list_any_more (dot_eq q) ds i e lt ∙ ap (λ (p : Dot). has (take i ds) q || dot_eq q p) (sym is))
+    (λ q. list_any_more (dot_eq q) ds i e lt
+    ∙ ap (λ (p : Dot). has (take i ds) q || dot_eq q p) (sym is))
     (skips_then P Q R (has (take i ds)) (λ q. dot_eq q d) done (one_skipped Q R d a s))
 
 -- all dots of a list were skipped
@@ -201,4 +229,5 @@ pub all_may_go : (P : StoreFields) (horizon : ℕ) (at : Dot → Bool)
     → ((d : Dot) → at d ≡ true → MaySkip (map.get (held_facts P)) horizon d) → AllMayGo P at
 all_may_go P horizon at over d h =
     let s = over d h in
-    may_go (map.get P.slots d) s.fact (sym (get_held P.slots d) ∙ s.here) (passing_kept d s.fact s.token s.kept)
+    may_go (map.get P.slots d) s.fact (sym (get_held P.slots d) ∙ s.here)
+    (passing_kept d s.fact s.token s.kept)

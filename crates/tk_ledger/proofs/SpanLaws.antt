@@ -43,7 +43,9 @@ use Rattle.tk_ledger.proofs.SameLaws.{same_dot-true, same_dot-itself}
 -- ---- the order of keys
 
 consents_total : IsTotalOrder consent_cmp
-consents_total = then_total (on_total (λ k. k.client) dot_cmp_total) (then_total (on_total (λ k. k.subject) nat_list_cmp_total) (on_total (λ k. k.consent) dot_cmp_total))
+consents_total = then_total (on_total (λ k. k.client) dot_cmp_total)
+    (then_total (on_total (λ k. k.subject) nat_list_cmp_total)
+    (on_total (λ k. k.consent) dot_cmp_total))
 
 key_by : (a b : ConsentKey) → a.client ≡ b.client → a.subject ≡ b.subject → a.consent ≡ b.consent
     → a ≡ b
@@ -52,15 +54,18 @@ key_by a b h i j = λ x. record { client = h x; subject = i x; consent = j x }
 -- keys that tie are equal
 key_same : (a b : ConsentKey) → eq_by_cmp consent_cmp a b ≡ true → a ≡ b
 key_same a b h =
-    let p = and_parts _ _ (sym (consent_tied a.client b.client a.subject b.subject a.consent b.consent) ∙ h) in
+    let p = and_parts _ _
+    (sym (consent_tied a.client b.client a.subject b.subject a.consent b.consent) ∙ h) in
     let q = and_parts _ _ p.1 in
-    key_by a b (same_dot-true a.client b.client p.0) ((bytes_eq-Decides a.subject b.subject).0 q.0) (same_dot-true a.consent b.consent q.1)
+    key_by a b (same_dot-true a.client b.client p.0) ((bytes_eq-Decides a.subject b.subject).0 q.0)
+    (same_dot-true a.consent b.consent q.1)
 
 -- the keys of one subject and one client are in the order of their dots
 key_order : (client : Dot) (subject : List ℕ) (a b : Dot)
     → consent_cmp (consent_key client subject a) (consent_key client subject b) ≡ dot_cmp a b
 key_order client subject a b =
-    ap (λ o. ordering_then o (ordering_then (slice_cmp nat_cmp subject subject) (dot_cmp a b))) (tied_itself dot_cmp_total client)
+    ap (λ o. ordering_then o (ordering_then (slice_cmp nat_cmp subject subject) (dot_cmp a b)))
+    (tied_itself dot_cmp_total client)
     ∙ ap (λ o. ordering_then o (dot_cmp a b)) (tied_itself nat_list_cmp_total subject)
 
 -- the first key of the span is below the last
@@ -74,10 +79,14 @@ span_forward client subject a b first last =
 
 -- each dot in range has its key in the span
 in_span : (client : Dot) (subject : List ℕ) (q : Dot) → IsDot q
-    → range_contains consent_cmp (Included (consent_key client subject least_dot)) (Included (consent_key client subject greatest_dot)) (consent_key client subject q) ≡ true
+    → range_contains consent_cmp (Included (consent_key client subject least_dot))
+    (Included (consent_key client subject greatest_dot)) (consent_key client subject q)
+    ≡ true
 in_span client subject q h = and_from _ _
     (ap is_le (key_order client subject least_dot q) ∙ from_first q h)
-    (ap (λ o. not (is_lt o)) (key_order client subject greatest_dot q ∙ dot_cmp_total.antisymm greatest_dot q) ∙ not_past (dot_cmp q greatest_dot) (to_last q h))
+    (ap (λ o. not (is_lt o))
+    (key_order client subject greatest_dot q ∙ dot_cmp_total.antisymm greatest_dot q)
+    ∙ not_past (dot_cmp q greatest_dot) (to_last q h))
 
 -- ---- one consent
 
@@ -87,48 +96,64 @@ live_sound : (F : FactSet) (client : Dot) (subject scope : List ℕ) (d : Dot)
 live_sound F client subject scope d h = by_body (map.get F d) refl h
   where
     by_body : (o : Option Body) → map.get F d ≡ o
-        → (grants client subject scope (option_and_then given_in o) && not (is_withdrawn F d)) ≡ true
+        → (grants client subject scope (option_and_then given_in o) && not (is_withdrawn F d))
+        ≡ true
         → IsConsentFor (map.get F) client subject scope d
     by_body None at h = absurd (true≢false (sym h))
     by_body (Some b) at h = consents_sound F client subject scope d b at h
 
 -- a listed consent is live
-covers_sound : (F : FactSet) (t : BTreeSet ConsentKey) (client : Dot) (subject scope : List ℕ) (e : ConsentKey)
+covers_sound : (F : FactSet) (t : BTreeSet ConsentKey) (client : Dot) (subject scope : List ℕ)
+    (e : ConsentKey)
     → IsConsents F t → among consent_cmp e t.keys ≡ true
     → covers F client subject scope e.consent ≡ true
     → IsConsentFor (map.get F) client subject scope e.consent
 covers_sound F t client subject scope e i at h = live_sound F client subject scope e.consent
-    (and_from _ _ h (and_parts (is_from e.client e.subject (consent_at F e.consent)) (not (is_withdrawn F e.consent)) (sym (i.listed e.client e.subject e.consent) ∙ at)).1)
+    (and_from _ _ h
+    (and_parts (is_from e.client e.subject (consent_at F e.consent))
+    (not (is_withdrawn F e.consent)) (sym (i.listed e.client e.subject e.consent) ∙ at)).1)
 
 covers_complete : (F : FactSet) (client : Dot) (subject scope : List ℕ) (d : Dot)
     → IsConsentFor (map.get F) client subject scope d → covers F client subject scope d ≡ true
 covers_complete F client subject scope d x =
     ap (λ (o : Option Body). grants client subject scope (option_and_then given_in o)) x.live.given
-    ∙ (and_parts (grants client subject scope (Some x.live.consent)) (not (is_withdrawn F d)) (consents_complete F client subject scope d x)).0
+    ∙ (and_parts (grants client subject scope (Some x.live.consent)) (not (is_withdrawn F d))
+    (consents_complete F client subject scope d x)).0
 
 -- a live consent is listed under its client and the digest of its subject
-listed_of : (F : FactSet) (t : BTreeSet ConsentKey) (client : Dot) (subject scope : List ℕ) (d : Dot)
+listed_of : (F : FactSet) (t : BTreeSet ConsentKey) (client : Dot) (subject scope : List ℕ)
+    (d : Dot)
     → IsConsents F t → IsConsentFor (map.get F) client subject scope d
     → is_listed t client (sha256 subject) d ≡ true
 listed_of F t client subject scope d i x =
     i.listed client (sha256 subject) d
     ∙ and_from _ _
-    (ap (λ (o : Option Body). is_from client (sha256 subject) (option_and_then given_in o)) x.live.given
-    ∙ and_from _ _ (ap (λ (e : Dot). is_same_dot e client) x.live.client_is ∙ same_dot-itself client) ((bytes_eq-Decides (sha256 x.live.consent.subject) (sha256 subject)).1 (ap sha256 x.live.subject_is)))
+    (ap (λ (o : Option Body). is_from client (sha256 subject) (option_and_then given_in o))
+    x.live.given
+    ∙ and_from _ _
+    (ap (λ (e : Dot). is_same_dot e client) x.live.client_is ∙ same_dot-itself client)
+    ((bytes_eq-Decides (sha256 x.live.consent.subject) (sha256 subject)).1
+    (ap sha256 x.live.subject_is)))
     (not_withdrawn F d x.live.unwithdrawn)
 
 -- a key whose consent covers the scope is that of the client and the digest of the subject
-key_of_found : (F : FactSet) (t : BTreeSet ConsentKey) (client : Dot) (subject scope : List ℕ) (e : ConsentKey)
+key_of_found : (F : FactSet) (t : BTreeSet ConsentKey) (client : Dot) (subject scope : List ℕ)
+    (e : ConsentKey)
     → IsConsents F t → among consent_cmp e t.keys ≡ true
     → IsConsentFor (map.get F) client subject scope e.consent
     → e ≡ consent_key client (sha256 subject) e.consent
 key_of_found F t client subject scope e i at x =
-    let from : is_from e.client e.subject (Some x.live.consent) ≡ true = sym (ap (λ (o : Option Body). is_from e.client e.subject (option_and_then given_in o)) x.live.given)
-    ∙ (and_parts (is_from e.client e.subject (consent_at F e.consent)) (not (is_withdrawn F e.consent)) (sym (i.listed e.client e.subject e.consent) ∙ at)).0 in
-    let p = and_parts (is_same_dot x.live.consent.client e.client) (bytes_eq (sha256 x.live.consent.subject) e.subject) from in
+    let from : is_from e.client e.subject (Some x.live.consent) ≡ true =
+    sym (ap (λ (o : Option Body). is_from e.client e.subject (option_and_then given_in o))
+    x.live.given)
+    ∙ (and_parts (is_from e.client e.subject (consent_at F e.consent))
+    (not (is_withdrawn F e.consent)) (sym (i.listed e.client e.subject e.consent) ∙ at)).0 in
+    let p = and_parts (is_same_dot x.live.consent.client e.client)
+    (bytes_eq (sha256 x.live.consent.subject) e.subject) from in
     key_by e (consent_key client (sha256 subject) e.consent)
     (sym (same_dot-true x.live.consent.client e.client p.0) ∙ x.live.client_is)
-    (sym ((bytes_eq-Decides (sha256 x.live.consent.subject) e.subject).0 p.1) ∙ ap sha256 x.live.subject_is)
+    (sym ((bytes_eq-Decides (sha256 x.live.consent.subject) e.subject).0 p.1)
+    ∙ ap sha256 x.live.subject_is)
     refl
 
 -- ---- the consent for a scope
@@ -136,19 +161,30 @@ key_of_found F t client subject scope e i at x =
 abbrev covering : FactSet → Dot → List ℕ → List ℕ → ConsentKey → Bool
 covering F client subject scope k = covers F client subject scope k.consent
 
-pub first_found : (F : FactSet) (t : BTreeSet ConsentKey) (client : Dot) (subject scope : List ℕ) (o : Option ConsentKey)
+pub first_found : (F : FactSet) (t : BTreeSet ConsentKey) (client : Dot) (subject scope : List ℕ)
+    (o : Option ConsentKey)
     → IsConsents F t → IsStrictlySortedBy consent_cmp t.keys
-    → find (covering F client subject scope) (span_of t client (sha256 subject)) ≡ o → IsLeastConsent (map.get F) client subject scope (option_map (λ k. k.consent) o)
+    → find (covering F client subject scope) (span_of t client (sha256 subject)) ≡ o
+    → IsLeastConsent (map.get F) client subject scope (option_map (λ k. k.consent) o)
 first_found F t client subject scope None i sorted h = λ d x.
     let at = listed_of F t client subject scope d i x in
-    none_passes consent_cmp consents_total key_same (covering F client subject scope) _ t.keys h (consent_key client (sha256 subject) d) at (in_span client (sha256 subject) d (i.ranged client (sha256 subject) d at)) (covers_complete F client subject scope d x)
+    none_passes consent_cmp consents_total key_same (covering F client subject scope) _ t.keys h
+    (consent_key client (sha256 subject) d) at
+    (in_span client (sha256 subject) d (i.ranged client (sha256 subject) d at))
+    (covers_complete F client subject scope d x)
 first_found F t client subject scope (Some e) i sorted h =
-    let found = found_passes consent_cmp consents_total key_same (covering F client subject scope) _ t.keys e h in
+    let found = found_passes consent_cmp consents_total key_same (covering F client subject scope) _
+    t.keys e h in
     let here = covers_sound F t client subject scope e i found.2 found.0 in (
       here,
       λ q x below. (let at = listed_of F t client subject scope q i x in
-          first_least consent_cmp consents_total key_same (covering F client subject scope) _ t.keys sorted e h (consent_key client (sha256 subject) q) at (in_span client (sha256 subject) q (i.ranged client (sha256 subject) q at)) (covers_complete F client subject scope q x)
-          (ap (consent_cmp (consent_key client (sha256 subject) q)) (key_of_found F t client subject scope e i found.2 here) ∙ key_order client (sha256 subject) q e.consent ∙ below)),
+          first_least consent_cmp consents_total key_same (covering F client subject scope) _ t.keys
+          sorted e h (consent_key client (sha256 subject) q) at
+          (in_span client (sha256 subject) q (i.ranged client (sha256 subject) q at))
+          (covers_complete F client subject scope q x)
+          (ap (consent_cmp (consent_key client (sha256 subject) q))
+          (key_of_found F t client subject scope e i found.2 here)
+          ∙ key_order client (sha256 subject) q e.consent ∙ below)),
     )
 
 -- there is at most one lowest consent
@@ -158,7 +194,8 @@ least_one : (F : FactSet) (client : Dot) (subject scope : List ℕ) (x y : Optio
 least_one F client subject scope None None h i = refl
 least_one F client subject scope None (Some e) h i = absurd (h e i.0)
 least_one F client subject scope (Some d) None h i = absurd (i d h.0)
-least_one F client subject scope (Some d) (Some e) h i = ap (λ (q : Dot). Some q) (by_order (dot_cmp d e) refl)
+least_one F client subject scope (Some d) (Some e) h i =
+    ap (λ (q : Dot). Some q) (by_order (dot_cmp d e) refl)
   where
     by_order : (o : Ordering) → dot_cmp d e ≡ o → d ≡ e
     by_order Less at = absurd (i.1 d h.0 at)
@@ -167,4 +204,5 @@ least_one F client subject scope (Some d) (Some e) h i = ap (λ (q : Dot). Some 
 
 pub first_is : (F : FactSet) (client : Dot) (subject scope : List ℕ) (x : Option Dot)
     → IsLeastConsent (map.get F) client subject scope x → x ≡ consent_for F client subject scope
-first_is F client subject scope x h = least_one F client subject scope x (consent_for F client subject scope) h (least_consent F client subject scope)
+first_is F client subject scope x h = least_one F client subject scope x
+    (consent_for F client subject scope) h (least_consent F client subject scope)

@@ -30,9 +30,11 @@ limits_kept false b h = cc
 issues : (b : Body) (code : issued.CodeIssued) → issued_in b ≡ Some code → refusal_of b ≡ None
     → is_subject code.subject ≡ true
 issues (bodies.CodeIssued f) code h passes =
-    let kept = limits_kept (is_subject f.subject && is_uri f.uri && is_challenge f.challenge) (nat_le f.start f.expiry && nat_le f.start f.family_end) passes in
+    let kept = limits_kept (is_subject f.subject && is_uri f.uri && is_challenge f.challenge)
+    (nat_le f.start f.expiry && nat_le f.start f.family_end) passes in
     let same : f ≡ code = cc in
-    subst (λ (c : issued.CodeIssued). is_subject c.subject ≡ true) same (and_parts _ _ (and_parts _ _ kept).0).0
+    subst (λ (c : issued.CodeIssued). is_subject c.subject ≡ true) same
+    (and_parts _ _ (and_parts _ _ kept).0).0
 issues (bodies.ClientAdded f) code h passes = cc
 issues (bodies.ClientRetired f) code h passes = cc
 issues (bodies.ConsentGiven f) code h passes = cc
@@ -47,7 +49,8 @@ issues (bodies.AccessRefreshed f) code h passes = cc
 issued_subject : (F : FactSet) → IsFactSet F → (c : Dot) (code : issued.CodeIssued)
     → issued_at (map.get F) c ≡ Some code → is_subject code.subject ≡ true
 issued_subject F sound c code e =
-    let x : (b : Body) × (map.get F c ≡ Some b) × (issued_in b ≡ Some code) = from_some issued_in (map.get F c) code e in
+    let x : (b : Body) × (map.get F c ≡ Some b) × (issued_in b ≡ Some code) =
+    from_some issued_in (map.get F c) code e in
     issues x.0 code x.2 (sound c x.0 x.1)
 
 sound_by : (F : FactSet) (now : ℕ) (h : Handle) → IsFactSet F
@@ -63,4 +66,5 @@ sound_by F now h sound (Some b) (Some m) (Some o) n = (
 
 pub sound_status : (F : FactSet) (now : ℕ) (h : Handle) → IsFactSet F
     → IsSound now (status_in F now h)
-sound_status F now h sound = sound_by F now h sound (map.get F h.id.dot) (minted_as (map.get F) h) (root_in (map.get F) h.id.dot) refl
+sound_status F now h sound = sound_by F now h sound (map.get F h.id.dot) (minted_as (map.get F) h)
+    (root_in (map.get F) h.id.dot) refl

@@ -37,14 +37,20 @@ with_digest-sound : (digest : List ℕ) (o : Option MintedFields) (m : MintedFie
 with_digest-sound digest None m h = absurd (none_is_not_some m h)
 with_digest-sound digest (Some x) m h = elim (cases_Bool (bytes_eq x.digest digest)) [
   | inl same ↦
-      let e : x ≡ m = some_injective x m (sym (cond-true (bytes_eq x.digest digest) (Some x) None same) ∙ h) in
-      (ap (λ (y : MintedFields). Some y) e, subst (λ (y : MintedFields). y.digest ≡ digest) e ((bytes_eq-Decides x.digest digest).0 same))
-  | inr apart ↦ absurd (none_is_not_some m (sym (cond-false (bytes_eq x.digest digest) (Some x) None apart) ∙ h))
+      let e : x ≡ m =
+      some_injective x m (sym (cond-true (bytes_eq x.digest digest) (Some x) None same) ∙ h) in (
+        ap (λ (y : MintedFields). Some y) e,
+        subst (λ (y : MintedFields). y.digest ≡ digest) e
+            ((bytes_eq-Decides x.digest digest).0 same),
+      )
+  | inr apart ↦ absurd
+      (none_is_not_some m (sym (cond-false (bytes_eq x.digest digest) (Some x) None apart) ∙ h))
 ]
 
 with_digest-complete : (digest : List ℕ) (o : Option MintedFields) (m : MintedFields) → o ≡ Some m
     → m.digest ≡ digest → with_digest digest o ≡ Some m
-with_digest-complete digest o m h d = ap (with_digest digest) h ∙ cond-true (bytes_eq m.digest digest) (Some m) None ((bytes_eq-Decides m.digest digest).1 d)
+with_digest-complete digest o m h d = ap (with_digest digest) h
+    ∙ cond-true (bytes_eq m.digest digest) (Some m) None ((bytes_eq-Decides m.digest digest).1 d)
 
 -- ---- the parts of a standing
 
@@ -71,7 +77,8 @@ other x s h same = true≢false (sym (ap is_known same) ∙ h)
 same_standing : (a s : StandingFields) → Known a ≡ Known s → a ≡ s
 same_standing a s h = cc
 
-known_by : (F : FactSet) (now : ℕ) (h : Handle) (s : StandingFields) (b : Option Body) (m : Option MintedFields) (o : Option Root)
+known_by : (F : FactSet) (now : ℕ) (h : Handle) (s : StandingFields) (b : Option Body)
+    (m : Option MintedFields) (o : Option Root)
     → map.get F h.id.dot ≡ b → minted_as (map.get F) h ≡ m → root_in (map.get F) h.id.dot ≡ o
     → status_by F now h.id b m o ≡ Known s → Knows F now h s
 known_by F now h s None m o i j n e = absurd (other Unseen s refl e)
@@ -94,7 +101,8 @@ known_by F now h s (Some b) (Some m) (Some o) i j n e =
 
 pub known_parts : (F : FactSet) (now : ℕ) (h : Handle) (s : StandingFields)
     → status_in F now h ≡ Known s → Knows F now h s
-known_parts F now h s e = known_by F now h s (map.get F h.id.dot) (minted_as (map.get F) h) (root_in (map.get F) h.id.dot) refl refl refl e
+known_parts F now h s e = known_by F now h s (map.get F h.id.dot) (minted_as (map.get F) h)
+    (root_in (map.get F) h.id.dot) refl refl refl e
 
 -- the standing of these parts
 pub known_status : (F : FactSet) (now : ℕ) (h : Handle) (m : MintedFields) (o : Root)
@@ -102,11 +110,16 @@ pub known_status : (F : FactSet) (now : ℕ) (h : Handle) (m : MintedFields) (o 
     → IsMintedUnder (map.get F) h.id.dot o.code → issued_at (map.get F) o.code ≡ Some o.issued
     → (s : StandingFields) × (status_in F now h ≡ Known s) × (s.state ≡ state_in F now h.id m o)
 known_status F now h m o mints d under issues =
-    let x : (b : Body) × (map.get F h.id.dot ≡ Some b) × (minted_of b h.id.kind ≡ Some m) = from_some (λ b. minted_of b h.id.kind) (map.get F h.id.dot) m mints in (
+    let x : (b : Body) × (map.get F h.id.dot ≡ Some b) × (minted_of b h.id.kind ≡ Some m) =
+    from_some (λ b. minted_of b h.id.kind) (map.get F h.id.dot) m mints in (
       standing_in F now h.id x.0 m o,
-      ap (λ (b : Option Body). status_by F now h.id b (minted_as (map.get F) h) (root_in (map.get F) h.id.dot)) x.1
-          ∙ ap (λ (y : Option MintedFields). status_by F now h.id (Some x.0) y (root_in (map.get F) h.id.dot)) (with_digest-complete (digest_of h) (minted_in (map.get F) h.id) m mints d)
-          ∙ ap (status_by F now h.id (Some x.0) (Some m)) (root-complete F h.id.dot o.code o.issued under issues),
+      ap (λ (b : Option Body).
+          status_by F now h.id b (minted_as (map.get F) h) (root_in (map.get F) h.id.dot)) x.1
+          ∙ ap (λ (y : Option MintedFields).
+          status_by F now h.id (Some x.0) y (root_in (map.get F) h.id.dot))
+          (with_digest-complete (digest_of h) (minted_in (map.get F) h.id) m mints d)
+          ∙ ap (status_by F now h.id (Some x.0) (Some m))
+          (root-complete F h.id.dot o.code o.issued under issues),
       refl,
     )
 
@@ -115,7 +128,8 @@ known_status F now h m o mints d under issues =
 -- if no fact is at the dot, no token is minted there
 unseen_unminted : (body_at : Bodies) (h : Handle) → body_at h.id.dot ≡ None
     → ¬ IsMintedToken body_at h
-unseen_unminted body_at h none t = none_is_not_some t.minted (sym (ap (option_and_then (λ b. minted_of b h.id.kind)) none) ∙ t.mints)
+unseen_unminted body_at h none t = none_is_not_some t.minted
+    (sym (ap (option_and_then (λ b. minted_of b h.id.kind)) none) ∙ t.mints)
 
 abbrev minted_token : (F : FactSet) (h : Handle) (m : MintedFields)
     → minted_as (map.get F) h ≡ Some m → IsMintedToken (map.get F) h
@@ -125,7 +139,9 @@ minted_token F h m j =
 
 unminted : (F : FactSet) (h : Handle) → minted_as (map.get F) h ≡ None
     → ¬ IsMintedToken (map.get F) h
-unminted F h j t = none_is_not_some t.minted (sym j ∙ with_digest-complete (digest_of h) (minted_in (map.get F) h.id) t.minted t.mints t.digest)
+unminted F h j t = none_is_not_some t.minted
+    (sym j ∙ with_digest-complete (digest_of h) (minted_in (map.get F) h.id) t.minted t.mints
+    t.digest)
 
 -- a body with the link of a code issues a code
 code_issued : (b : Body) → link_of b ≡ Some Code
@@ -142,20 +158,25 @@ in_family F d o n = record { code = o.code; under = (root-sound F d o n).0 }
 no_family : (F : FactSet) (d : Dot) → root_in (map.get F) d ≡ None
     → ¬ IsInFamily (links_in (map.get F)) (anchor_in (map.get F) d)
 no_family F d n f =
-    let x : (b : Body) × (map.get F f.code ≡ Some b) × (link_of b ≡ Some Code) = from_some link_of (map.get F f.code) Code f.under.leads.1 in
+    let x : (b : Body) × (map.get F f.code ≡ Some b) × (link_of b ≡ Some Code) =
+    from_some link_of (map.get F f.code) Code f.under.leads.1 in
     let i : (code : issued.CodeIssued) × (issued_in x.0 ≡ Some code) = code_issued x.0 x.2 in
-    none_is_not_some (record { code = f.code; issued = i.0 }) (sym n ∙ root-complete F d f.code i.0 f.under (ap (option_and_then issued_in) x.1 ∙ i.1))
+    none_is_not_some (record { code = f.code; issued = i.0 })
+    (sym n ∙ root-complete F d f.code i.0 f.under (ap (option_and_then issued_in) x.1 ∙ i.1))
 
-says_by : (F : FactSet) (now : ℕ) (h : Handle) (b : Option Body) (m : Option MintedFields) (o : Option Root)
+says_by : (F : FactSet) (now : ℕ) (h : Handle) (b : Option Body) (m : Option MintedFields)
+    (o : Option Root)
     → map.get F h.id.dot ≡ b → minted_as (map.get F) h ≡ m → root_in (map.get F) h.id.dot ≡ o
     → Says (map.get F) h (status_by F now h.id b m o)
 says_by F now h None m o i j n = i
 says_by F now h (Some b) None o i j n = (λ none. none_is_not_some b (sym none ∙ i), unminted F h j)
-says_by F now h (Some b) (Some m) None i j n = ((minted_token F h m j, refl), no_family F h.id.dot n)
+says_by F now h (Some b) (Some m) None i j n =
+    ((minted_token F h m j, refl), no_family F h.id.dot n)
 says_by F now h (Some b) (Some m) (Some o) i j n = (minted_token F h m j, in_family F h.id.dot o n)
 
 pub says : (F : FactSet) (now : ℕ) (h : Handle) → Says (map.get F) h (status_in F now h)
-says F now h = says_by F now h (map.get F h.id.dot) (minted_as (map.get F) h) (root_in (map.get F) h.id.dot) refl refl refl
+says F now h = says_by F now h (map.get F h.id.dot) (minted_as (map.get F) h)
+    (root_in (map.get F) h.id.dot) refl refl refl
 
 -- ---- a status is that of each handle that it describes
 
@@ -167,8 +188,12 @@ unseen_from body_at h (Broken t) x none = absurd (unseen_unminted body_at h none
 unseen_from body_at h (Known s) x none = absurd (unseen_unminted body_at h none x.0)
 
 pub unseen_exactly : (F : FactSet) (now : ℕ) (h : Handle)
-    → (status_in F now h ≡ Unseen → Says (map.get F) h Unseen) × (Says (map.get F) h Unseen → status_in F now h ≡ Unseen)
-unseen_exactly F now h = (λ e. subst (Says (map.get F) h) e (says F now h), unseen_from (map.get F) h (status_in F now h) (says F now h))
+    → (status_in F now h ≡ Unseen → Says (map.get F) h Unseen)
+    × (Says (map.get F) h Unseen → status_in F now h ≡ Unseen)
+unseen_exactly F now h = (
+  λ e. subst (Says (map.get F) h) e (says F now h),
+  unseen_from (map.get F) h (status_in F now h) (says F now h),
+)
 
 wrong_from : (body_at : Bodies) (h : Handle) (x : Status) → Says body_at h x → Says body_at h Wrong
     → x ≡ Wrong
@@ -178,8 +203,12 @@ wrong_from body_at h (Broken t) x w = absurd (w.1 x.0.0)
 wrong_from body_at h (Known s) x w = absurd (w.1 x.0)
 
 pub wrong_exactly : (F : FactSet) (now : ℕ) (h : Handle)
-    → (status_in F now h ≡ Wrong → Says (map.get F) h Wrong) × (Says (map.get F) h Wrong → status_in F now h ≡ Wrong)
-wrong_exactly F now h = (λ e. subst (Says (map.get F) h) e (says F now h), wrong_from (map.get F) h (status_in F now h) (says F now h))
+    → (status_in F now h ≡ Wrong → Says (map.get F) h Wrong)
+    × (Says (map.get F) h Wrong → status_in F now h ≡ Wrong)
+wrong_exactly F now h = (
+  λ e. subst (Says (map.get F) h) e (says F now h),
+  wrong_from (map.get F) h (status_in F now h) (says F now h),
+)
 
 one_minted : (body_at : Bodies) (h : Handle) (t u : IsMintedToken body_at h) → t.minted ≡ u.minted
 one_minted body_at h t u = some_injective t.minted u.minted (sym t.mints ∙ u.mints)
@@ -188,12 +217,18 @@ broken_from : (body_at : Bodies) (h : Handle) (expiry : ℕ) (x : Status) → Sa
     → Says body_at h (Broken expiry) → x ≡ Broken expiry
 broken_from body_at h expiry Unseen x b = absurd (unseen_unminted body_at h x b.0.0)
 broken_from body_at h expiry Wrong x b = absurd (x.1 b.0.0)
-broken_from body_at h expiry (Broken t) x b = ap Broken (x.0.1 ∙ ap (λ (m : MintedFields). m.expiry) (one_minted body_at h x.0.0 b.0.0) ∙ sym b.0.1)
+broken_from body_at h expiry (Broken t) x b =
+    ap Broken
+    (x.0.1 ∙ ap (λ (m : MintedFields). m.expiry) (one_minted body_at h x.0.0 b.0.0) ∙ sym b.0.1)
 broken_from body_at h expiry (Known s) x b = absurd (b.1 x.1)
 
 pub broken_exactly : (F : FactSet) (now : ℕ) (h : Handle) (expiry : ℕ)
-    → (status_in F now h ≡ Broken expiry → Says (map.get F) h (Broken expiry)) × (Says (map.get F) h (Broken expiry) → status_in F now h ≡ Broken expiry)
-broken_exactly F now h expiry = (λ e. subst (Says (map.get F) h) e (says F now h), broken_from (map.get F) h expiry (status_in F now h) (says F now h))
+    → (status_in F now h ≡ Broken expiry → Says (map.get F) h (Broken expiry))
+    × (Says (map.get F) h (Broken expiry) → status_in F now h ≡ Broken expiry)
+broken_exactly F now h expiry = (
+  λ e. subst (Says (map.get F) h) e (says F now h),
+  broken_from (map.get F) h expiry (status_in F now h) (says F now h),
+)
 
 known_to : (body_at : Bodies) (h : Handle) (x : Status) → Says body_at h x → IsKnown x
     → IsKnownToken body_at h
@@ -210,5 +245,9 @@ known_from body_at h (Broken t) x k = absurd (x.1 k.1)
 known_from body_at h (Known s) x k = tt
 
 pub known_exactly : (F : FactSet) (now : ℕ) (h : Handle)
-    → (IsKnown (status_in F now h) → IsKnownToken (map.get F) h) × (IsKnownToken (map.get F) h → IsKnown (status_in F now h))
-known_exactly F now h = (known_to (map.get F) h (status_in F now h) (says F now h), known_from (map.get F) h (status_in F now h) (says F now h))
+    → (IsKnown (status_in F now h) → IsKnownToken (map.get F) h)
+    × (IsKnownToken (map.get F) h → IsKnown (status_in F now h))
+known_exactly F now h = (
+  known_to (map.get F) h (status_in F now h) (says F now h),
+  known_from (map.get F) h (status_in F now h) (says F now h),
+)

@@ -27,7 +27,8 @@ use Rattle.tk_ledger.proofs.TokenLaws.{is_ended-complete, is_used-sound, is_used
 -- ---- the first state that holds
 
 abbrev pub chain : Bool → Bool → Bool → Bool → Bool → Bool → State
-chain a b c d e f = if a then state.Dead else if b then state.Withdrawn else if c then state.Over else if d then state.Used else if e then state.Past else if f then state.Ended else state.Live
+chain a b c d e f = if a then state.Dead else if b then state.Withdrawn else if c then state.Over
+    else if d then state.Used else if e then state.Past else if f then state.Ended else state.Live
 
 pub record AllFalse (a b c d e f : Bool) : Type 0 where
   pub dead : a ≡ false
@@ -47,7 +48,8 @@ chain_live false false true d e f h = absurd (not_live state.Over refl h)
 chain_live false false false true e f h = absurd (not_live state.Used refl h)
 chain_live false false false false true f h = absurd (not_live state.Past refl h)
 chain_live false false false false false true h = absurd (not_live state.Ended refl h)
-chain_live false false false false false false h = record { dead = refl; withdrawn = refl; over = refl; used = refl; past = refl; ended = refl }
+chain_live false false false false false false h =
+    record { dead = refl; withdrawn = refl; over = refl; used = refl; past = refl; ended = refl }
 
 live_chain : (a b c d e f : Bool) → AllFalse a b c d e f → chain a b c d e f ≡ state.Live
 live_chain a b c d e f h = rw (h.dead, h.withdrawn, h.over, h.used, h.past, h.ended) refl
@@ -83,7 +85,8 @@ pub live_is_active : (F : FactSet) (now : ℕ) (h : Handle) (s : StandingFields)
 live_is_active F now h s nc e live =
     let x : Knows F now h s = known_parts F now h s e in
     let a = chain_live _ _ _ _ _ _ (ap (λ (y : StandingFields). y.state) x.standing ∙ live) in
-    let l = both_live (is_live_client F x.root.issued.client) (is_live_consent F x.root.issued) a.withdrawn in
+    let l = both_live (is_live_client F x.root.issued.client) (is_live_consent F x.root.issued)
+    a.withdrawn in
     record {
       minted = x.minted;
       code = x.root.code;
@@ -98,8 +101,13 @@ live_is_active F now h s nc e live =
       consent = consent_sound F x.root.issued l.1;
       family = above x.root.issued.family_end now a.over;
       alive = λ d. true≢false (sym (is_dead-complete F x.root.code d) ∙ a.dead);
-      access = λ is en. true≢false (sym (is_ended-complete F h.id en) ∙ right_false (is_access h.id.kind) (is_ended F h.id) a.ended (ap is_access is));
-      refresh = λ is u. true≢false (sym (is_used-complete F h.id u) ∙ right_false (not (is_access h.id.kind)) (is_used F h.id) a.used (ap (λ (k : Kind). not (is_access k)) is));
+      access = λ is en. true≢false
+          (sym (is_ended-complete F h.id en)
+          ∙ right_false (is_access h.id.kind) (is_ended F h.id) a.ended (ap is_access is));
+      refresh = λ is u. true≢false
+          (sym (is_used-complete F h.id u)
+          ∙ right_false (not (is_access h.id.kind)) (is_used F h.id) a.used
+          (ap (λ (k : Kind). not (is_access k)) is));
     }
 
 when : (a b : Bool) → (a ≡ true → b ≡ false) → (a && b) ≡ false
@@ -120,17 +128,23 @@ pub active_is_live : (F : FactSet) (now : ℕ) (h : Handle) → IsActive (map.ge
     → (s : StandingFields) × (status_in F now h ≡ Known s) × (s.state ≡ state.Live)
 active_is_live F now h a =
     let o : Root = record { code = a.code; issued = a.issued } in
-    let k : (s : StandingFields) × (status_in F now h ≡ Known s) × (s.state ≡ state_in F now h.id a.minted o) =
+    let k : (s : StandingFields) × (status_in F now h ≡ Known s)
+    × (s.state ≡ state_in F now h.id a.minted o) =
     known_status F now h a.minted o a.mints a.digest a.under a.issues in (
       k.0,
       k.1,
       k.2 ∙ live_chain _ _ _ _ _ _ (record {
         dead = false_from_ne_true (is_dead F a.code) (λ d. a.alive (is_dead-sound F a.code d));
-        withdrawn = live_both (is_live_client F a.issued.client) (is_live_consent F a.issued) (live_complete F a.issued.client a.client) (consent_complete F a.issued a.consent);
+        withdrawn = live_both (is_live_client F a.issued.client) (is_live_consent F a.issued)
+            (live_complete F a.issued.client a.client) (consent_complete F a.issued a.consent);
         over = not_below a.issued.family_end now a.family;
-        used = when (not (is_access h.id.kind)) (is_used F h.id) (λ is. false_from_ne_true (is_used F h.id) (λ u. a.refresh (refresh_is h.id.kind a.no_code is) (is_used-sound F h.id u)));
+        used = when (not (is_access h.id.kind)) (is_used F h.id)
+            (λ is. false_from_ne_true (is_used F h.id)
+            (λ u. a.refresh (refresh_is h.id.kind a.no_code is) (is_used-sound F h.id u)));
         past = not_below a.minted.expiry now a.early;
-        ended = when (is_access h.id.kind) (is_ended F h.id) (λ is. false_from_ne_true (is_ended F h.id) (λ en. a.access (access_is h.id.kind is) (is_ended-sound F h.id en)));
+        ended = when (is_access h.id.kind) (is_ended F h.id)
+            (λ is. false_from_ne_true (is_ended F h.id)
+            (λ en. a.access (access_is h.id.kind is) (is_ended-sound F h.id en)));
       }),
     )
 
@@ -143,8 +157,10 @@ live_of F now h (Known s) e nc l = live_is_active F now h s nc e l
 
 -- a token is live exactly if it is active: the clause of `status`
 pub live_exactly : (F : FactSet) (now : ℕ) (h : Handle) → h.id.kind ≢ kind.Code
-    → (IsLive (status_in F now h) → IsActive (map.get F) now h) × (IsActive (map.get F) now h → IsLive (status_in F now h))
+    → (IsLive (status_in F now h) → IsActive (map.get F) now h)
+    × (IsActive (map.get F) now h → IsLive (status_in F now h))
 live_exactly F now h nc = (
   live_of F now h (status_in F now h) refl nc,
-  λ a. let k : (s : StandingFields) × (status_in F now h ≡ Known s) × (s.state ≡ state.Live) = active_is_live F now h a in subst IsLive (sym k.1) k.2,
+  λ a. let k : (s : StandingFields) × (status_in F now h ≡ Known s) × (s.state ≡ state.Live) =
+      active_is_live F now h a in subst IsLive (sym k.1) k.2,
 )

@@ -23,7 +23,8 @@ use Rattle.tk_store.proofs.PutLaws.{taken_back}
 use Rattle.tk_store.proofs.SlotLaws.{get_held, held_put}
 pub use Rattle.tk_store.proofs.SlotOrderLaws.{added_horizon}
 
-module _ (P Q R : StoreFields) (f : Dot × Body) (d : Dot) (b : Body) (same : (d, b) ≡ f) (free : map.get P.slots f.0 ≡ None) where
+module _ (P Q R : StoreFields) (f : Dot × Body) (d : Dot) (b : Body) (same : (d, b) ≡ f)
+    (free : map.get P.slots f.0 ≡ None) where
   free_at : map.get P.slots d ≡ None
   free_at = ap (λ (p : Dot × Body). map.get P.slots p.0) same ∙ free
 
@@ -34,16 +35,19 @@ module _ (P Q R : StoreFields) (f : Dot × Body) (d : Dot) (b : Body) (same : (d
   pub back_again : (a : Added) → AddsTo P f (Ok a) Q
       → R.slots ≡ without_fact Q.slots d (map.get Q.slots d) → R.horizon ≡ Q.horizon → R ≡ P
   back_again a adds rest level =
-      let set : Q ≡ with_fact P d b = set_by a (subst (λ (p : Dot × Body). AddsTo P p (Ok a) Q) (sym same) adds) in
+      let set : Q ≡ with_fact P d b =
+      set_by a (subst (λ (p : Dot × Body). AddsTo P p (Ok a) Q) (sym same) adds) in
       let is : Q.slots ≡ map.insert P.slots d (Held b) = ap (λ (X : StoreFields). X.slots) set in
-      let slots : R.slots ≡ P.slots = put_taken P.slots Q.slots R.slots d b is rest ∙ ap (λ (X : Slots). map.remove X d) is ∙ taken_back P.slots d (Held b) free_at in
+      let slots : R.slots ≡ P.slots = put_taken P.slots Q.slots R.slots d b is rest
+      ∙ ap (λ (X : Slots). map.remove X d) is ∙ taken_back P.slots d (Held b) free_at in
       let horizon : R.horizon ≡ P.horizon = level ∙ ap (λ (X : StoreFields). X.horizon) set in
       λ i. record { slots = slots i; horizon = horizon i }
 
 -- adding a fact at an unknown dot adds it to the facts that are held
 pub free_adds : (P Q : StoreFields) (f : Dot × Body) (a : Added) → map.get P.slots f.0 ≡ None
     → AddsTo P f (Ok a) Q → Adds (held_facts P) f (Ok a) (held_facts Q)
-free_adds P Q f added.New free adds = (get_held P.slots f.0 ∙ ap held_slot free, ap held_facts adds.1 ∙ held_put P.slots f.0 f.1)
+free_adds P Q f added.New free adds =
+    (get_held P.slots f.0 ∙ ap held_slot free, ap held_facts adds.1 ∙ held_put P.slots f.0 f.1)
 free_adds P Q f added.Held free adds = absurd (subst (HasFact f.1) free adds.0)
 
 -- a look-up that finds a slot finds it where one is known

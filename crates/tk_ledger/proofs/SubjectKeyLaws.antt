@@ -46,10 +46,12 @@ use Rattle.tk_ledger.proofs.SameLaws.{same_dot-true}
 -- ---- codes
 
 pub codes_total : IsTotalOrder code_cmp
-codes_total = then_total (on_total (λ k. k.subject) nat_list_cmp_total) (then_total (on_total (λ k. k.start) nat_cmp_total) (on_total (λ k. k.code) dot_cmp_total))
+codes_total = then_total (on_total (λ k. k.subject) nat_list_cmp_total)
+    (then_total (on_total (λ k. k.start) nat_cmp_total) (on_total (λ k. k.code) dot_cmp_total))
 
 pub code_tied : (g h : List ℕ) (m n : ℕ) (d q : Dot)
-    → eq_by_cmp code_cmp (code_key g m d) (code_key h n q) ≡ (bytes_eq g h && ((m == n) && is_same_dot d q))
+    → eq_by_cmp code_cmp (code_key g m d) (code_key h n q)
+    ≡ (bytes_eq g h && ((m == n) && is_same_dot d q))
 code_tied g h m n d q =
     both_tied (slice_cmp nat_cmp g h) _
     ∙ ap (λ x. is_eq (slice_cmp nat_cmp g h) && x) (both_tied (nat_cmp m n) (dot_cmp d q))
@@ -61,7 +63,8 @@ code_tied g h m n d q =
 pub code_tied-dot : (g h : List ℕ) (m n : ℕ) (d q : Dot)
     → eq_by_cmp code_cmp (code_key g m d) (code_key h n q) ≡ true → d ≡ q
 code_tied-dot g h m n d q tie =
-    let p = and_parts (bytes_eq g h) ((m == n) && is_same_dot d q) (sym (code_tied g h m n d q) ∙ tie) in
+    let p =
+    and_parts (bytes_eq g h) ((m == n) && is_same_dot d q) (sym (code_tied g h m n d q) ∙ tie) in
     same_dot-true d q (and_parts (m == n) (is_same_dot d q) p.1).1
 
 code_by : (a b : CodeKey) → a.subject ≡ b.subject → a.start ≡ b.start → a.code ≡ b.code → a ≡ b
@@ -71,11 +74,14 @@ pub code_same : (a b : CodeKey) → eq_by_cmp code_cmp a b ≡ true → a ≡ b
 code_same a b h =
     let p = and_parts _ _ (sym (code_tied a.subject b.subject a.start b.start a.code b.code) ∙ h) in
     let q = and_parts _ _ p.1 in
-    code_by a b ((bytes_eq-Decides a.subject b.subject).0 p.0) (eqb-true a.start b.start q.0) (same_dot-true a.code b.code q.1)
+    code_by a b ((bytes_eq-Decides a.subject b.subject).0 p.0) (eqb-true a.start b.start q.0)
+    (same_dot-true a.code b.code q.1)
 
 code_order : (subject : List ℕ) (m n : ℕ) (a b : Dot)
-    → code_cmp (code_key subject m a) (code_key subject n b) ≡ ordering_then (nat_cmp m n) (dot_cmp a b)
-code_order subject m n a b = ap (λ o. ordering_then o (ordering_then (nat_cmp m n) (dot_cmp a b))) (tied_itself nat_list_cmp_total subject)
+    → code_cmp (code_key subject m a) (code_key subject n b)
+    ≡ ordering_then (nat_cmp m n) (dot_cmp a b)
+code_order subject m n a b = ap (λ o. ordering_then o (ordering_then (nat_cmp m n) (dot_cmp a b)))
+    (tied_itself nat_list_cmp_total subject)
 
 pub codes_forward : (subject : List ℕ) (m n : ℕ) (a b : CodeKey) → m ≤ n
     → a ≡ code_key subject m least_dot → b ≡ code_key subject n greatest_dot → IsLeBy code_cmp a b
@@ -89,17 +95,24 @@ codes_forward subject m n a b le first last =
     ]
 
 in_span : (subject : List ℕ) (m n start : ℕ) (q : Dot) → m ≤ start → start ≤ n → IsDot q
-    → range_contains code_cmp (Included (code_key subject m least_dot)) (Included (code_key subject n greatest_dot)) (code_key subject start q) ≡ true
+    → range_contains code_cmp (Included (code_key subject m least_dot))
+    (Included (code_key subject n greatest_dot)) (code_key subject start q)
+    ≡ true
 in_span subject m n start q above below h = and_from _ _
     (ap is_le (code_order subject m start least_dot q) ∙ elim (number_le m start above) [
       | inl less ↦ ap (λ o. is_le (ordering_then o (dot_cmp least_dot q))) less
       | inr same ↦ ap (λ o. is_le (ordering_then o (dot_cmp least_dot q))) same ∙ from_first q h
     ])
-    (ap (λ o. not (is_lt o)) (code_order subject n start greatest_dot q) ∙ ap (λ o. not (is_lt (ordering_then o (dot_cmp greatest_dot q)))) (nat_cmp_total.antisymm n start) ∙ elim (number_le start n below) [
-      | inl less ↦ ap (λ o. not (is_lt (ordering_then (ordering_reverse o) (dot_cmp greatest_dot q)))) less
+    (ap (λ o. not (is_lt o)) (code_order subject n start greatest_dot q)
+    ∙ ap (λ o. not (is_lt (ordering_then o (dot_cmp greatest_dot q))))
+    (nat_cmp_total.antisymm n start)
+    ∙ elim (number_le start n below) [
+      | inl less ↦
+          ap (λ o. not (is_lt (ordering_then (ordering_reverse o) (dot_cmp greatest_dot q)))) less
       | inr same ↦
           ap (λ o. not (is_lt (ordering_then (ordering_reverse o) (dot_cmp greatest_dot q)))) same
-          ∙ ap (λ o. not (is_lt o)) (dot_cmp_total.antisymm greatest_dot q) ∙ not_past (dot_cmp q greatest_dot) (to_last q h)
+          ∙ ap (λ o. not (is_lt o)) (dot_cmp_total.antisymm greatest_dot q)
+          ∙ not_past (dot_cmp q greatest_dot) (to_last q h)
     ])
 
 kept_dot : (c : CodeKey → Bool) (k : CodeKey) (ks : List CodeKey) → among code_cmp k ks ≡ true
@@ -108,14 +121,19 @@ kept_dot c k [] at kept = absurd (true≢false (sym at))
 kept_dot c k (x ∷ xs) at kept = elim (or_cases (is_at (code_cmp k) x) (among code_cmp k xs) at) [
   | inl tie ↦
       let same : k ≡ x = code_same k x tie in
-      ap (λ (ys : List CodeKey). has (dots_of ys) k.code) (cond-true (c x) (x ∷ filter c xs) (filter c xs) (sym (ap c same) ∙ kept))
-      ∙ or_left (dot_eq k.code x.code) (has (dots_of (filter c xs)) k.code) (ap (λ (y : CodeKey). dot_eq k.code y.code) (sym same) ∙ at_itself k.code)
+      ap (λ (ys : List CodeKey). has (dots_of ys) k.code)
+      (cond-true (c x) (x ∷ filter c xs) (filter c xs) (sym (ap c same) ∙ kept))
+      ∙ or_left (dot_eq k.code x.code) (has (dots_of (filter c xs)) k.code)
+      (ap (λ (y : CodeKey). dot_eq k.code y.code) (sym same) ∙ at_itself k.code)
   | inr more ↦ elim (cases_Bool (c x)) [
     | inl here ↦
-        ap (λ (ys : List CodeKey). has (dots_of ys) k.code) (cond-true (c x) (x ∷ filter c xs) (filter c xs) here)
-        ∙ or_later (dot_eq k.code x.code) (has (dots_of (filter c xs)) k.code) (kept_dot c k xs more kept)
+        ap (λ (ys : List CodeKey). has (dots_of ys) k.code)
+        (cond-true (c x) (x ∷ filter c xs) (filter c xs) here)
+        ∙ or_later (dot_eq k.code x.code) (has (dots_of (filter c xs)) k.code)
+        (kept_dot c k xs more kept)
     | inr left ↦
-        ap (λ (ys : List CodeKey). has (dots_of ys) k.code) (cond-false (c x) (x ∷ filter c xs) (filter c xs) left)
+        ap (λ (ys : List CodeKey). has (dots_of ys) k.code)
+        (cond-false (c x) (x ∷ filter c xs) (filter c xs) left)
         ∙ kept_dot c k xs more kept
   ]
 ]
@@ -128,15 +146,21 @@ kept_dot c k (x ∷ xs) at kept = elim (or_cases (is_at (code_cmp k) x) (among c
 pub in_codes : (t : BTreeSet CodeKey) (subject : List ℕ) (m n start : ℕ) (d : Dot) → m ≤ start
     → start ≤ n → contains code_cmp t (code_key subject start d) ≡ true → IsDot d
     → has (dots_of (codes_started t subject m n)) d ≡ true
-in_codes t subject m n start d above below at ranged = kept_dot (range_contains code_cmp (Included (code_key subject m least_dot)) (Included (code_key subject n greatest_dot))) (code_key subject start d) t.keys at (in_span subject m n start d above below ranged)
+in_codes t subject m n start d above below at ranged =
+    kept_dot
+    (range_contains code_cmp (Included (code_key subject m least_dot))
+    (Included (code_key subject n greatest_dot))) (code_key subject start d) t.keys at
+    (in_span subject m n start d above below ranged)
 
 -- ---- sign-outs
 
 pub outs_total : IsTotalOrder out_cmp
-outs_total = then_total (on_total (λ k. k.subject) nat_list_cmp_total) (then_total (on_total (λ k. k.left) nat_cmp_total) (on_total (λ k. k.place) dot_cmp_total))
+outs_total = then_total (on_total (λ k. k.subject) nat_list_cmp_total)
+    (then_total (on_total (λ k. k.left) nat_cmp_total) (on_total (λ k. k.place) dot_cmp_total))
 
 pub out_tied : (g h : List ℕ) (l m : ℕ) (d q : Dot)
-    → eq_by_cmp out_cmp (out_key g l d) (out_key h m q) ≡ (bytes_eq g h && ((l == m) && is_same_dot d q))
+    → eq_by_cmp out_cmp (out_key g l d) (out_key h m q)
+    ≡ (bytes_eq g h && ((l == m) && is_same_dot d q))
 out_tied g h l m d q =
     both_tied (slice_cmp nat_cmp g h) _
     ∙ ap (λ x. is_eq (slice_cmp nat_cmp g h) && x) (both_tied (nat_cmp l m) (dot_cmp d q))
@@ -151,11 +175,14 @@ pub out_same : (a b : OutKey) → eq_by_cmp out_cmp a b ≡ true → a ≡ b
 out_same a b h =
     let p = and_parts _ _ (sym (out_tied a.subject b.subject a.left b.left a.place b.place) ∙ h) in
     let q = and_parts _ _ p.1 in
-    out_by a b ((bytes_eq-Decides a.subject b.subject).0 p.0) (eqb-true a.left b.left q.0) (same_dot-true a.place b.place q.1)
+    out_by a b ((bytes_eq-Decides a.subject b.subject).0 p.0) (eqb-true a.left b.left q.0)
+    (same_dot-true a.place b.place q.1)
 
 pub out_order : (subject : List ℕ) (l m : ℕ) (a b : Dot)
-    → out_cmp (out_key subject l a) (out_key subject m b) ≡ ordering_then (nat_cmp l m) (dot_cmp a b)
-out_order subject l m a b = ap (λ o. ordering_then o (ordering_then (nat_cmp l m) (dot_cmp a b))) (tied_itself nat_list_cmp_total subject)
+    → out_cmp (out_key subject l a) (out_key subject m b)
+    ≡ ordering_then (nat_cmp l m) (dot_cmp a b)
+out_order subject l m a b = ap (λ o. ordering_then o (ordering_then (nat_cmp l m) (dot_cmp a b)))
+    (tied_itself nat_list_cmp_total subject)
 
 pub outs_forward : (subject : List ℕ) (a b : OutKey) → a ≡ out_key subject 0 least_dot
     → b ≡ out_key subject greatest_moment greatest_dot → IsLeBy out_cmp a b
@@ -166,41 +193,56 @@ outs_forward subject a b first last =
 
 -- the key of a sign-out of the subject is in the span
 pub in_outs : (subject : List ℕ) (l : ℕ) (q : Dot) → l ≤ greatest_moment → IsDot q
-    → range_contains out_cmp (Included (out_key subject 0 least_dot)) (Included (out_key subject greatest_moment greatest_dot)) (out_key subject l q) ≡ true
+    → range_contains out_cmp (Included (out_key subject 0 least_dot))
+    (Included (out_key subject greatest_moment greatest_dot)) (out_key subject l q)
+    ≡ true
 in_outs subject l q le h = and_from _ _
     (ap is_le (out_order subject 0 l least_dot q) ∙ elim (number_le 0 l (omega arith)) [
       | inl less ↦ ap (λ o. is_le (ordering_then o (dot_cmp least_dot q))) less
       | inr same ↦ ap (λ o. is_le (ordering_then o (dot_cmp least_dot q))) same ∙ from_first q h
     ])
-    (ap (λ o. not (is_lt o)) (out_order subject greatest_moment l greatest_dot q) ∙ ap (λ o. not (is_lt (ordering_then o (dot_cmp greatest_dot q)))) (nat_cmp_total.antisymm greatest_moment l) ∙ elim (number_le l greatest_moment le) [
-      | inl less ↦ ap (λ o. not (is_lt (ordering_then (ordering_reverse o) (dot_cmp greatest_dot q)))) less
+    (ap (λ o. not (is_lt o)) (out_order subject greatest_moment l greatest_dot q)
+    ∙ ap (λ o. not (is_lt (ordering_then o (dot_cmp greatest_dot q))))
+    (nat_cmp_total.antisymm greatest_moment l)
+    ∙ elim (number_le l greatest_moment le) [
+      | inl less ↦
+          ap (λ o. not (is_lt (ordering_then (ordering_reverse o) (dot_cmp greatest_dot q)))) less
       | inr same ↦
           ap (λ o. not (is_lt (ordering_then (ordering_reverse o) (dot_cmp greatest_dot q)))) same
-          ∙ ap (λ o. not (is_lt o)) (dot_cmp_total.antisymm greatest_dot q) ∙ not_past (dot_cmp q greatest_dot) (to_last q h)
+          ∙ ap (λ o. not (is_lt o)) (dot_cmp_total.antisymm greatest_dot q)
+          ∙ not_past (dot_cmp q greatest_dot) (to_last q h)
     ])
 
 -- a key in the span is one of the subject
 pub of_subject : (subject : List ℕ) (e : OutKey)
-    → range_contains out_cmp (Included (out_key subject 0 least_dot)) (Included (out_key subject greatest_moment greatest_dot)) e ≡ true
+    → range_contains out_cmp (Included (out_key subject 0 least_dot))
+    (Included (out_key subject greatest_moment greatest_dot)) e
+    ≡ true
     → e.subject ≡ subject
-of_subject subject e h = let p = and_parts _ _ h in sym (exact_bytes subject e.subject (between (slice_cmp nat_cmp subject e.subject) _ _ p.0 p.1))
+of_subject subject e h = let p = and_parts _ _ h in
+    sym (exact_bytes subject e.subject (between (slice_cmp nat_cmp subject e.subject) _ _ p.0 p.1))
 
 -- ---- codes and sign-outs that are held are listed
 
 pub code_listed : (F : FactSet) (t : BTreeSet CodeKey) (d : Dot) (code : issued.CodeIssued)
     → IsCodes F t
-    → issued_at (map.get F) d ≡ Some code → (contains code_cmp t (code_key (sha256 code.subject) code.start d) ≡ true) × IsDot d
+    → issued_at (map.get F) d ≡ Some code
+    → (contains code_cmp t (code_key (sha256 code.subject) code.start d) ≡ true) × IsDot d
 code_listed F t d code i h = (at, i.ranged (sha256 code.subject) code.start d at)
   where
     at : contains code_cmp t (code_key (sha256 code.subject) code.start d) ≡ true
     at = i.listed (sha256 code.subject) code.start d ∙ ap (is_to (sha256 code.subject) code.start) h
-        ∙ and_from _ _ ((bytes_eq-Decides (sha256 code.subject) (sha256 code.subject)).1 refl) (eq-eqb code.start code.start refl)
+        ∙ and_from _ _ ((bytes_eq-Decides (sha256 code.subject) (sha256 code.subject)).1 refl)
+        (eq-eqb code.start code.start refl)
 
 pub out_listed : (F : FactSet) (t : BTreeSet OutKey) (d : Dot) (f : out.SubjectOut) → IsOuts F t
     → sign_out_at (map.get F) d ≡ Some f
-    → (contains out_cmp t (out_key (sha256 f.subject) (left_after f.moment) d) ≡ true) × IsDot d × (f.moment ≤ greatest_moment)
+    → (contains out_cmp t (out_key (sha256 f.subject) (left_after f.moment) d) ≡ true) × IsDot d
+    × (f.moment ≤ greatest_moment)
 out_listed F t d f i h = (at, i.ranged (sha256 f.subject) (left_after f.moment) d at, i.early d f h)
   where
     at : contains out_cmp t (out_key (sha256 f.subject) (left_after f.moment) d) ≡ true
-    at = i.listed (sha256 f.subject) (left_after f.moment) d ∙ ap (is_left_by (sha256 f.subject) (left_after f.moment)) h
-        ∙ and_from _ _ ((bytes_eq-Decides (sha256 f.subject) (sha256 f.subject)).1 refl) (eq-eqb (left_after f.moment) (left_after f.moment) refl)
+    at = i.listed (sha256 f.subject) (left_after f.moment) d
+        ∙ ap (is_left_by (sha256 f.subject) (left_after f.moment)) h
+        ∙ and_from _ _ ((bytes_eq-Decides (sha256 f.subject) (sha256 f.subject)).1 refl)
+        (eq-eqb (left_after f.moment) (left_after f.moment) refl)

@@ -58,7 +58,8 @@ issues_none subject start other h = refl
 
 -- the change signs out a subject with the digest, with `left` seconds left after the moment
 abbrev pub signs_out_by : List ℕ → ℕ → Change → Bool
-signs_out_by subject left (change.SignOut digest moment) = bytes_eq digest subject && (left_after moment == left)
+signs_out_by subject left (change.SignOut digest moment) =
+    bytes_eq digest subject && (left_after moment == left)
 signs_out_by subject left other = false
 
 signs_out-change : (subject : List ℕ) (left : ℕ) (b : Body)
@@ -85,43 +86,60 @@ moment-change body f h = absurd (none_is_not_some f h)
 
 -- each code that is listed is at a dot in range
 abbrev pub RangedCodes : BTreeSet CodeKey → Type 0
-RangedCodes t = (subject : List ℕ) (start : ℕ) (d : Dot) → is_listed_code t subject start d ≡ true → IsDot d
+RangedCodes t =
+    (subject : List ℕ) (start : ℕ) (d : Dot) → is_listed_code t subject start d ≡ true → IsDot d
 
-pub issued_on : (F G : FactSet) (d : Dot) (b : Body) (subject : List ℕ) (start : ℕ) (q : Dot) (x : Bool)
+pub issued_on : (F G : FactSet) (d : Dot) (b : Body) (subject : List ℕ) (start : ℕ) (q : Dot)
+    (x : Bool)
     → OneMore F G d b
     → x ≡ is_to subject start (issued_at (map.get F) q)
-    → ((issues_to subject start (change_in b) && is_at d q) || x) ≡ is_to subject start (issued_at (map.get G) q)
+    → ((issues_to subject start (change_in b) && is_at d q) || x)
+    ≡ is_to subject start (issued_at (map.get G) q)
 issued_on F G d b subject start q x m i =
-    own_on d q (issues_to subject start (change_in b)) x (is_to subject start (issued_at (map.get F) q)) (is_to subject start (issued_at (map.get G) q))
-    (λ same. ap (λ e. is_to subject start (option_and_then issued_in e)) (ap (map.get F) same ∙ m.free))
-    (λ same. ap (λ e. is_to subject start (option_and_then issued_in e)) (ap (map.get G) same ∙ m.here) ∙ issues-change subject start b)
+    own_on d q (issues_to subject start (change_in b)) x
+    (is_to subject start (issued_at (map.get F) q)) (is_to subject start (issued_at (map.get G) q))
+    (λ same. ap (λ e. is_to subject start (option_and_then issued_in e))
+    (ap (map.get F) same ∙ m.free))
+    (λ same. ap (λ e. is_to subject start (option_and_then issued_in e))
+    (ap (map.get G) same ∙ m.here)
+    ∙ issues-change subject start b)
     (λ ne. ap (λ e. is_to subject start (option_and_then issued_in e)) (m.there q ne))
     i
 
 pub codes_on : (F G : FactSet) (d : Dot) (b : Body) (t u : BTreeSet CodeKey) → OneMore F G d b
     → IsCodes F t → RangedCodes u
-    → ((subject : List ℕ) (start : ℕ) (q : Dot) → is_listed_code u subject start q ≡ ((issues_to subject start (change_in b) && is_at d q) || is_listed_code t subject start q))
+    → ((subject : List ℕ) (start : ℕ) (q : Dot)
+    → is_listed_code u subject start q
+    ≡ ((issues_to subject start (change_in b) && is_at d q) || is_listed_code t subject start q))
     → IsCodes G u
 codes_on F G d b t u m i ranged l = record {
-  listed = λ subject start q. l subject start q ∙ issued_on F G d b subject start q (is_listed_code t subject start q) m (i.listed subject start q);
+  listed = λ subject start q. l subject start q
+      ∙ issued_on F G d b subject start q (is_listed_code t subject start q) m
+      (i.listed subject start q);
   ranged = ranged;
 }
 
 -- codes that are newly listed are in range if their dot is
 pub codes_ranged : (t u : BTreeSet CodeKey) (d : Dot) (n : List ℕ → ℕ → Bool) → IsDot d
     → RangedCodes t
-    → ((subject : List ℕ) (start : ℕ) (q : Dot) → is_listed_code u subject start q ≡ ((n subject start && is_same_dot d q) || is_listed_code t subject start q))
+    → ((subject : List ℕ) (start : ℕ) (q : Dot)
+    → is_listed_code u subject start q
+    ≡ ((n subject start && is_same_dot d q) || is_listed_code t subject start q))
     → RangedCodes u
-codes_ranged t u d n here before l subject start q h = elim (or_cases (n subject start && is_same_dot d q) (is_listed_code t subject start q) (sym (l subject start q) ∙ h)) [
-  | inl new ↦ subst (λ (x : Dot). IsDot x) (same_dot-true d q (and_parts (n subject start) (is_same_dot d q) new).1) here
-  | inr old ↦ before subject start q old
-]
+codes_ranged t u d n here before l subject start q h = elim (or_cases
+    (n subject start && is_same_dot d q) (is_listed_code t subject start q)
+    (sym (l subject start q) ∙ h)) [
+      | inl new ↦ subst (λ (x : Dot). IsDot x)
+          (same_dot-true d q (and_parts (n subject start) (is_same_dot d q) new).1) here
+      | inr old ↦ before subject start q old
+    ]
 
 pub codes_alike : (F : FactSet) (t u : BTreeSet CodeKey) → IsCodes F t
     → ((k : CodeKey) → contains code_cmp u k ≡ contains code_cmp t k) → IsCodes F u
 codes_alike F t u i same = record {
   listed = λ subject start q. same (code_key subject start q) ∙ i.listed subject start q;
-  ranged = λ subject start q h. i.ranged subject start q (sym (same (code_key subject start q)) ∙ h);
+  ranged =
+      λ subject start q h. i.ranged subject start q (sym (same (code_key subject start q)) ∙ h);
 }
 
 -- a key that was put in and removed again leaves the other keys
@@ -131,8 +149,12 @@ without false b h = refl
 
 pub codes_back : (F : FactSet) (d : Dot) (subject : List ℕ) (start : ℕ) (t u v : BTreeSet CodeKey)
     → map.get F d ≡ None → IsCodes F t
-    → ((k : CodeKey) → contains code_cmp u k ≡ (eq_by_cmp code_cmp (code_key subject start d) k || contains code_cmp t k))
-    → ((k : CodeKey) → contains code_cmp v k ≡ cond (eq_by_cmp code_cmp (code_key subject start d) k) false (contains code_cmp u k))
+    → ((k : CodeKey)
+    → contains code_cmp u k
+    ≡ (eq_by_cmp code_cmp (code_key subject start d) k || contains code_cmp t k))
+    → ((k : CodeKey)
+    → contains code_cmp v k
+    ≡ cond (eq_by_cmp code_cmp (code_key subject start d) k) false (contains code_cmp u k))
     → IsCodes F v
 codes_back F d subject start t u v free i r s = record {
   listed = λ g n q. back g n q ∙ i.listed g n q;
@@ -144,27 +166,37 @@ codes_back F d subject start t u v free i r s = record {
         → is_listed_code t g n q ≡ false
     unlisted g n q tie =
         let same : d ≡ q = code_tied-dot subject g start n d q tie in
-        i.listed g n q ∙ ap (λ e. is_to g n (option_and_then issued_in e)) (ap (map.get F) (sym same) ∙ free)
+        i.listed g n q
+        ∙ ap (λ e. is_to g n (option_and_then issued_in e)) (ap (map.get F) (sym same) ∙ free)
 
     back : (g : List ℕ) (n : ℕ) (q : Dot) → is_listed_code v g n q ≡ is_listed_code t g n q
     back g n q =
         let tie : Bool = eq_by_cmp code_cmp (code_key subject start d) (code_key g n q) in
-        s (code_key g n q) ∙ ap (λ x. cond tie false x) (r (code_key g n q)) ∙ without tie (is_listed_code t g n q) (unlisted g n q)
+        s (code_key g n q) ∙ ap (λ x. cond tie false x) (r (code_key g n q))
+        ∙ without tie (is_listed_code t g n q) (unlisted g n q)
 
 -- ---- sign-outs
 
 -- each sign-out that is listed is at a dot in range
 abbrev pub RangedOuts : BTreeSet OutKey → Type 0
-RangedOuts t = (subject : List ℕ) (left : ℕ) (d : Dot) → is_listed_out t subject left d ≡ true → IsDot d
+RangedOuts t =
+    (subject : List ℕ) (left : ℕ) (d : Dot) → is_listed_out t subject left d ≡ true → IsDot d
 
-pub signed_on : (F G : FactSet) (d : Dot) (b : Body) (subject : List ℕ) (left : ℕ) (q : Dot) (x : Bool)
+pub signed_on : (F G : FactSet) (d : Dot) (b : Body) (subject : List ℕ) (left : ℕ) (q : Dot)
+    (x : Bool)
     → OneMore F G d b
     → x ≡ is_left_by subject left (sign_out_at (map.get F) q)
-    → ((signs_out_by subject left (change_in b) && is_at d q) || x) ≡ is_left_by subject left (sign_out_at (map.get G) q)
+    → ((signs_out_by subject left (change_in b) && is_at d q) || x)
+    ≡ is_left_by subject left (sign_out_at (map.get G) q)
 signed_on F G d b subject left q x m i =
-    own_on d q (signs_out_by subject left (change_in b)) x (is_left_by subject left (sign_out_at (map.get F) q)) (is_left_by subject left (sign_out_at (map.get G) q))
-    (λ same. ap (λ e. is_left_by subject left (option_and_then sign_out_in e)) (ap (map.get F) same ∙ m.free))
-    (λ same. ap (λ e. is_left_by subject left (option_and_then sign_out_in e)) (ap (map.get G) same ∙ m.here) ∙ signs_out-change subject left b)
+    own_on d q (signs_out_by subject left (change_in b)) x
+    (is_left_by subject left (sign_out_at (map.get F) q))
+    (is_left_by subject left (sign_out_at (map.get G) q))
+    (λ same. ap (λ e. is_left_by subject left (option_and_then sign_out_in e))
+    (ap (map.get F) same ∙ m.free))
+    (λ same. ap (λ e. is_left_by subject left (option_and_then sign_out_in e))
+    (ap (map.get G) same ∙ m.here)
+    ∙ signs_out-change subject left b)
     (λ ne. ap (λ e. is_left_by subject left (option_and_then sign_out_in e)) (m.there q ne))
     i
 
@@ -179,31 +211,42 @@ unsigned_early other h = tt
 
 early_moment : (y : Change) (moment : ℕ) → moment_of y ≡ Some moment → IsEarly y
     → moment ≤ greatest_moment
-early_moment (change.SignOut digest n) moment h early = subst (λ (m : ℕ). m ≤ greatest_moment) (some_injective n moment h) early
+early_moment (change.SignOut digest n) moment h early =
+    subst (λ (m : ℕ). m ≤ greatest_moment) (some_injective n moment h) early
 early_moment other moment h early = absurd (none_is_not_some moment h)
 
 pub outs_on : (F G : FactSet) (d : Dot) (b : Body) (t u : BTreeSet OutKey) → OneMore F G d b
     → IsOuts F t → RangedOuts u → IsEarly (change_in b)
-    → ((subject : List ℕ) (left : ℕ) (q : Dot) → is_listed_out u subject left q ≡ ((signs_out_by subject left (change_in b) && is_at d q) || is_listed_out t subject left q))
+    → ((subject : List ℕ) (left : ℕ) (q : Dot)
+    → is_listed_out u subject left q
+    ≡ ((signs_out_by subject left (change_in b) && is_at d q) || is_listed_out t subject left q))
     → IsOuts G u
 outs_on F G d b t u m i ranged early l = record {
-  listed = λ subject left q. l subject left q ∙ signed_on F G d b subject left q (is_listed_out t subject left q) m (i.listed subject left q);
+  listed = λ subject left q. l subject left q
+      ∙ signed_on F G d b subject left q (is_listed_out t subject left q) m
+      (i.listed subject left q);
   ranged = ranged;
   early = λ q f h. elim (cases_dots q d) [
     | inl same ↦ early_moment (change_in b) f.moment
-        (moment-change b f (sym (ap (option_and_then sign_out_in) (ap (map.get G) same ∙ m.here)) ∙ h)) early
+        (moment-change b f
+        (sym (ap (option_and_then sign_out_in) (ap (map.get G) same ∙ m.here)) ∙ h)) early
     | inr ne ↦ i.early q f (sym (ap (option_and_then sign_out_in) (m.there q ne)) ∙ h)
   ];
 }
 
 -- sign-outs that are newly listed are in range if their dot is
 pub outs_ranged : (t u : BTreeSet OutKey) (d : Dot) (n : List ℕ → ℕ → Bool) → IsDot d → RangedOuts t
-    → ((subject : List ℕ) (left : ℕ) (q : Dot) → is_listed_out u subject left q ≡ ((n subject left && is_same_dot d q) || is_listed_out t subject left q))
+    → ((subject : List ℕ) (left : ℕ) (q : Dot)
+    → is_listed_out u subject left q
+    ≡ ((n subject left && is_same_dot d q) || is_listed_out t subject left q))
     → RangedOuts u
-outs_ranged t u d n here before l subject left q h = elim (or_cases (n subject left && is_same_dot d q) (is_listed_out t subject left q) (sym (l subject left q) ∙ h)) [
-  | inl new ↦ subst (λ (x : Dot). IsDot x) (same_dot-true d q (and_parts (n subject left) (is_same_dot d q) new).1) here
-  | inr old ↦ before subject left q old
-]
+outs_ranged t u d n here before l subject left q h = elim (or_cases
+    (n subject left && is_same_dot d q) (is_listed_out t subject left q)
+    (sym (l subject left q) ∙ h)) [
+      | inl new ↦ subst (λ (x : Dot). IsDot x)
+          (same_dot-true d q (and_parts (n subject left) (is_same_dot d q) new).1) here
+      | inr old ↦ before subject left q old
+    ]
 
 pub outs_alike : (F : FactSet) (t u : BTreeSet OutKey) → IsOuts F t
     → ((k : OutKey) → contains out_cmp u k ≡ contains out_cmp t k) → IsOuts F u

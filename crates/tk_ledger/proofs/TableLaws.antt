@@ -84,7 +84,8 @@ there_or false x = refl
 -- a test of the body at a dot, which fails without a body: at the dot of the new fact the test
 -- passes if the new fact does, at other dots as before
 pub own_on : (d q : Dot) (a x at_f at_g : Bool)
-    → (q ≡ d → at_f ≡ false) → (q ≡ d → at_g ≡ a) → (¬ (q ≡ d) → at_g ≡ at_f) → x ≡ at_f → ((a && is_at d q) || x) ≡ at_g
+    → (q ≡ d → at_f ≡ false) → (q ≡ d → at_g ≡ a) → (¬ (q ≡ d) → at_g ≡ at_f) → x ≡ at_f
+    → ((a && is_at d q) || x) ≡ at_g
 own_on d q a x at_f at_g free here there i = elim (cases_dots q d) [
   | inl same ↦
       ap (λ t. (a && t) || x) (ap (is_at d) same ∙ at_itself d)
@@ -101,47 +102,63 @@ own_on d q a x at_f at_g free here there i = elim (cases_dots q d) [
 pub added_on : (F G : FactSet) (d : Dot) (b : Body) (q : Dot) (x : Bool) → OneMore F G d b
     → x ≡ is_some (client_at F q)
     → ((adds (change_in b) && is_at d q) || x) ≡ is_some (client_at G q)
-added_on F G d b q x m i = own_on d q (adds (change_in b)) x (is_some (client_at F q)) (is_some (client_at G q))
+added_on F G d b q x m i =
+    own_on d q (adds (change_in b)) x (is_some (client_at F q)) (is_some (client_at G q))
     (λ same. ap (λ e. is_some (option_and_then added_in e)) (ap (map.get F) same ∙ m.free))
-    (λ same. ap (λ e. is_some (option_and_then added_in e)) (ap (map.get G) same ∙ m.here) ∙ adds-change b)
+    (λ same. ap (λ e. is_some (option_and_then added_in e)) (ap (map.get G) same ∙ m.here)
+    ∙ adds-change b)
     (λ ne. ap (λ e. is_some (option_and_then added_in e)) (m.there q ne))
     i
 
 pub clients_on : (F G : FactSet) (d : Dot) (b : Body) (t u : BTreeMap Dot ClientRow)
     → OneMore F G d b → IsClients F t
-    → ((q : Dot) → row_added (row_at u q) ≡ ((adds (change_in b) && is_at d q) || row_added (row_at t q)))
-    → ((q : Dot) → row_retired (row_at u q) ≡ (retires_of q (change_in b) || row_retired (row_at t q)))
+    → ((q : Dot)
+    → row_added (row_at u q) ≡ ((adds (change_in b) && is_at d q) || row_added (row_at t q)))
+    → ((q : Dot)
+    → row_retired (row_at u q) ≡ (retires_of q (change_in b) || row_retired (row_at t q)))
     → IsClients G u
 clients_on F G d b t u m i a r = record {
   added = λ q. a q ∙ added_on F G d b q (row_added (row_at t q)) m (i.added q);
-  retired = λ q. r q ∙ ap (λ x. retires_of q (change_in b) || x) (i.retired q) ∙ ap (λ x. x || is_retired F q) (sym (retires-change q b)) ∙ sym (any_fact-more (retires q) F G d b m);
+  retired = λ q. r q ∙ ap (λ x. retires_of q (change_in b) || x) (i.retired q)
+      ∙ ap (λ x. x || is_retired F q) (sym (retires-change q b))
+      ∙ sym (any_fact-more (retires q) F G d b m);
 }
 
 -- ---- consents
 
-pub given_on : (F G : FactSet) (d : Dot) (b : Body) (client : Dot) (subject : List ℕ) (q : Dot) (x : Bool)
+pub given_on : (F G : FactSet) (d : Dot) (b : Body) (client : Dot) (subject : List ℕ) (q : Dot)
+    (x : Bool)
     → OneMore F G d b → x ≡ is_from client subject (consent_at F q)
-    → ((gives_to client subject (change_in b) && is_at d q) || x) ≡ is_from client subject (consent_at G q)
-given_on F G d b client subject q x m i = own_on d q (gives_to client subject (change_in b)) x (is_from client subject (consent_at F q)) (is_from client subject (consent_at G q))
-    (λ same. ap (λ e. is_from client subject (option_and_then given_in e)) (ap (map.get F) same ∙ m.free))
-    (λ same. ap (λ e. is_from client subject (option_and_then given_in e)) (ap (map.get G) same ∙ m.here) ∙ gives-change client subject b)
+    → ((gives_to client subject (change_in b) && is_at d q) || x)
+    ≡ is_from client subject (consent_at G q)
+given_on F G d b client subject q x m i =
+    own_on d q (gives_to client subject (change_in b)) x (is_from client subject (consent_at F q))
+    (is_from client subject (consent_at G q))
+    (λ same. ap (λ e. is_from client subject (option_and_then given_in e))
+    (ap (map.get F) same ∙ m.free))
+    (λ same. ap (λ e. is_from client subject (option_and_then given_in e))
+    (ap (map.get G) same ∙ m.here)
+    ∙ gives-change client subject b)
     (λ ne. ap (λ e. is_from client subject (option_and_then given_in e)) (m.there q ne))
     i
 
 -- a consent is withdrawn if the new fact withdraws it, or a fact before did
 pub withdrawn_on : (F G : FactSet) (d : Dot) (b : Body) (q : Dot) → OneMore F G d b
     → (withdraws_of q (change_in b) || is_withdrawn F q) ≡ is_withdrawn G q
-withdrawn_on F G d b q m = ap (λ x. x || is_withdrawn F q) (sym (withdraws-change q b)) ∙ sym (any_fact-more (withdraws q) F G d b m)
+withdrawn_on F G d b q m = ap (λ x. x || is_withdrawn F q) (sym (withdraws-change q b))
+    ∙ sym (any_fact-more (withdraws q) F G d b m)
 
 -- each dot that is listed is in range
 abbrev pub Ranged : BTreeSet ConsentKey → Type 0
-Ranged t = (client : Dot) (subject : List ℕ) (d : Dot) → is_listed t client subject d ≡ true → IsDot d
+Ranged t =
+    (client : Dot) (subject : List ℕ) (d : Dot) → is_listed t client subject d ≡ true → IsDot d
 
 -- a consent is live if it was given, now or before, and is not withdrawn, now or before
 live_on : (a f w v x given gone : Bool) → x ≡ (f && not w) → (a || f) ≡ given → (v || w) ≡ gone
     → (((a && not w) || x) && not v) ≡ (given && not gone)
 live_on a f w v x given gone i g n =
-    ap (λ z. ((a && not w) || z) && not v) i ∙ spread a f w v ∙ ap (λ z. z && not (v || w)) g ∙ ap (λ z. given && not z) n
+    ap (λ z. ((a && not w) || z) && not v) i ∙ spread a f w v ∙ ap (λ z. z && not (v || w)) g
+    ∙ ap (λ z. given && not z) n
   where
     spread : (a f w v : Bool)
         → (((a && not w) || (f && not w)) && not v) ≡ ((a || f) && not (v || w))
@@ -150,26 +167,40 @@ live_on a f w v x given gone i g n =
 
 pub consents_on : (F G : FactSet) (d : Dot) (b : Body) (t u : BTreeSet ConsentKey) → OneMore F G d b
     → IsConsents F t → Ranged u
-    → ((client : Dot) (subject : List ℕ) (q : Dot) → is_listed u client subject q ≡ ((((gives_to client subject (change_in b) && is_at d q) && not (is_withdrawn F q)) || is_listed t client subject q) && not (withdraws_of q (change_in b))))
+    → ((client : Dot) (subject : List ℕ) (q : Dot)
+    → is_listed u client subject q
+    ≡ ((((gives_to client subject (change_in b) && is_at d q) && not (is_withdrawn F q))
+    || is_listed t client subject q)
+    && not (withdraws_of q (change_in b))))
     → IsConsents G u
 consents_on F G d b t u m i ranged l = record {
   listed = λ client subject q. l client subject q
-      ∙ live_on (gives_to client subject (change_in b) && is_at d q) (is_from client subject (consent_at F q)) (is_withdrawn F q) (withdraws_of q (change_in b)) (is_listed t client subject q) (is_from client subject (consent_at G q)) (is_withdrawn G q)
-      (i.listed client subject q) (given_on F G d b client subject q (is_from client subject (consent_at F q)) m refl) (withdrawn_on F G d b q m);
+      ∙ live_on (gives_to client subject (change_in b) && is_at d q)
+      (is_from client subject (consent_at F q)) (is_withdrawn F q) (withdraws_of q (change_in b))
+      (is_listed t client subject q) (is_from client subject (consent_at G q)) (is_withdrawn G q)
+      (i.listed client subject q)
+      (given_on F G d b client subject q (is_from client subject (consent_at F q)) m refl)
+      (withdrawn_on F G d b q m);
   ranged = ranged;
 }
 
 -- dots that are newly listed are in range if their dot is
 pub ranged_on : (t u : BTreeSet ConsentKey) (d : Dot) (n : Dot → List ℕ → Bool) → IsDot d → Ranged t
-    → ((client : Dot) (subject : List ℕ) (q : Dot) → is_listed u client subject q ≡ ((n client subject && is_same_dot d q) || is_listed t client subject q))
+    → ((client : Dot) (subject : List ℕ) (q : Dot)
+    → is_listed u client subject q
+    ≡ ((n client subject && is_same_dot d q) || is_listed t client subject q))
     → Ranged u
-ranged_on t u d n here before l client subject q h = elim (or_cases (n client subject && is_same_dot d q) (is_listed t client subject q) (sym (l client subject q) ∙ h)) [
-  | inl new ↦ subst (λ (x : Dot). IsDot x) (same_dot-true d q (and_parts (n client subject) (is_same_dot d q) new).1) here
-  | inr old ↦ before client subject q old
-]
+ranged_on t u d n here before l client subject q h = elim (or_cases
+    (n client subject && is_same_dot d q) (is_listed t client subject q)
+    (sym (l client subject q) ∙ h)) [
+      | inl new ↦ subst (λ (x : Dot). IsDot x)
+          (same_dot-true d q (and_parts (n client subject) (is_same_dot d q) new).1) here
+      | inr old ↦ before client subject q old
+    ]
 
 pub withdrawals_on : (F G : FactSet) (d : Dot) (b : Body) (t u : BTreeSet Dot) → OneMore F G d b
     → IsWithdrawals F t
     → ((q : Dot) → contains dot_cmp u q ≡ (withdraws_of q (change_in b) || contains dot_cmp t q))
     → IsWithdrawals G u
-withdrawals_on F G d b t u m i w q = w q ∙ ap (λ x. withdraws_of q (change_in b) || x) (i q) ∙ withdrawn_on F G d b q m
+withdrawals_on F G d b t u m i w q =
+    w q ∙ ap (λ x. withdraws_of q (change_in b) || x) (i q) ∙ withdrawn_on F G d b q m

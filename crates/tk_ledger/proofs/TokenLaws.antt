@@ -1,11 +1,11 @@
--- The tests of a fact set decide the relations over the body at each dot, and the relations stay
--- when facts are added. Key results:
+-- The tests of a fact set decide the relations over the body at each dot. Key results:
 --   uses_agree                                 a fact uses what its link uses
 --   is_used-sound .. is_dead-complete          the tests decide the relations
---   IsEnded-below, IsBad-below, IsDead-below   the relations stay in a greater set
-use Rattle.std.proofs.Common.{◌≡◌, inl, inr, ℕ, ◌≤◌, true, ◌&&◌, List, Option, Some, None, refl, sym, ap, ◌∙◌}
+use Rattle.std.proofs.Common.{◌≡◌, inl, inr, ℕ, ◌≤◌, true, ◌&&◌, List, Option, Some, None, refl}
+use Rattle.std.proofs.Common.{sym, ap, ◌∙◌}
 use borrow.Author.Tests.{le-leb}
-use Rattle.std.proofs.lemmas.Bool.{leb-true, true≢false, or_cases, or_left, or_right, and_parts, and_from, not-true, not_from_false}
+use Rattle.std.proofs.lemmas.Bool.{leb-true, true≢false, or_cases, or_left, or_right, and_parts}
+use Rattle.std.proofs.lemmas.Bool.{and_from, not-true, not_from_false}
 use Rattle.std.proofs.lemmas.Slice.Eq.{bytes_eq-Decides}
 use Rattle.std.specs.Option.{option_and_then}
 use Rattle.std.specs.FinMap as map
@@ -15,8 +15,7 @@ use Rattle.tk_handle.specs.declared.kind.Kind.TheVariants as kind
 use Rattle.tk_handle.specs.declared.token_id.TokenId.{TokenId}
 use Rattle.tk_handle.specs.Kind.{is_code, is_refresh}
 use Rattle.tk_family.specs.declared.link.Link.{Link}
-use Rattle.tk_family.specs.Families.{IsUsed, IsTwice, IsBad, IsDead, MarksWithin, use_of, grant_at}
-use Rattle.tk_family.proofs.FamilyLaws.{IsBad-within, IsDead-within}
+use Rattle.tk_family.specs.Families.{IsUsed, IsTwice, IsBad, IsDead, use_of, grant_at}
 use Rattle.tk_family.proofs.WalkLaws.{code_of-sound, code_of-complete}
 use Rattle.tk_fact.specs.declared.body.Body.{Body}
 use Rattle.tk_fact.specs.declared.body.Body.TheVariants as bodies
@@ -26,13 +25,21 @@ use Rattle.tk_fact.specs.declared.token_revoked.TokenRevoked as revoked
 use Rattle.tk_fact.specs.declared.reuse_seen.ReuseSeen as seen
 use Rattle.tk_fact.specs.declared.subject_out.SubjectOut as out
 use Rattle.tk_fact.specs.Tokens.{MintedFields, uses_of}
-use Rattle.tk_store.specs.FactSet.{FactSet, IsSubset}
+use Rattle.tk_store.specs.FactSet.{FactSet}
 use Rattle.tk_store.proofs.EntryLaws.{Passing, any_fact-held, any_fact-of}
 use Rattle.tk_ledger.specs.Bodies.{is_same_dot, is_same_token}
-use Rattle.tk_ledger.specs.Tokens.{link_of, links_in, code_in, issued_at, issued_in, Root, root_in, minted_in, uses, is_used, uses_elsewhere, uses_first, is_twice, IsRevoked, revoked_by, revokes, is_revoked, IsEnded, is_ended_by, is_ended, reuse_of, sees_reuse, is_reused, IsOut, is_out_by, is_out, IsStopped, is_stopped, IsMarked, is_marked, is_bad_grant, kills, is_dead}
+use Rattle.tk_ledger.specs.Tokens.{link_of, links_in, code_in, issued_at, Root, root_in, minted_in}
+use Rattle.tk_ledger.specs.Tokens.{uses, is_used, uses_elsewhere, uses_first, is_twice, IsRevoked}
+use Rattle.tk_ledger.specs.Tokens.{revoked_by, revokes, is_revoked, IsEnded, is_ended_by, is_ended}
+use Rattle.tk_ledger.specs.Tokens.{reuse_of, sees_reuse, is_reused, IsOut, is_out_by, is_out}
+use Rattle.tk_ledger.specs.Tokens.{IsStopped, is_stopped, IsMarked, is_marked, is_bad_grant, kills}
+use Rattle.tk_ledger.specs.Tokens.{is_dead}
 use Rattle.tk_ledger.specs.SignOuts.{IsSignedOut, signs_out_in, signs_out, is_signed_out}
-use Rattle.tk_ledger.proofs.RootLaws.{from_some, below-and_then, links-below, minted-below, minted-under-below, root-sound, root-complete}
-use Rattle.tk_ledger.proofs.SameLaws.{same_dot-true, same_dot-false, same_dot-apart, same_dot-itself, same_token-true, same_token-itself, names_token-true, names_token-of, names_dot-true, names_dot-of}
+use Rattle.tk_ledger.proofs.RootLaws.{from_some, root-sound, root-complete}
+use Rattle.tk_ledger.proofs.SameLaws.{same_dot-true, same_dot-false, same_dot-apart}
+use Rattle.tk_ledger.proofs.SameLaws.{same_dot-itself, same_token-true, same_token-itself}
+use Rattle.tk_ledger.proofs.SameLaws.{names_token-true, names_token-of, names_dot-true}
+use Rattle.tk_ledger.proofs.SameLaws.{names_dot-of}
 
 -- ---- uses
 
@@ -70,12 +77,16 @@ pub is_used-sound : (F : FactSet) (k : TokenId) → is_used F k ≡ true
     → IsUsed (links_in (map.get F)) k
 is_used-sound F k h =
     let x : Passing (uses k) F = any_fact-held (uses k) F h in
-    record { user = x.dot; by = use_at F x.dot x.body k x.held (names_token-true (use_of (link_of x.body)) k x.passes) }
+    record {
+      user = x.dot;
+      by = use_at F x.dot x.body k x.held (names_token-true (use_of (link_of x.body)) k x.passes);
+    }
 
 pub is_used-complete : (F : FactSet) (k : TokenId) → IsUsed (links_in (map.get F)) k
     → is_used F k ≡ true
 is_used-complete F k u =
-    let x : (b : Body) × (map.get F u.user ≡ Some b) × (use_of (link_of b) ≡ Some k) = use_from (map.get F u.user) k u.by in
+    let x : (b : Body) × (map.get F u.user ≡ Some b) × (use_of (link_of b) ≡ Some k) =
+    use_from (map.get F u.user) k u.by in
     any_fact-of (uses k) F u.user x.0 x.1 (names_token-of (use_of (link_of x.0)) k x.2)
 
 pub is_twice-sound : (F : FactSet) (k : TokenId) → is_twice F k ≡ true
@@ -96,10 +107,15 @@ is_twice-sound F k h =
 pub is_twice-complete : (F : FactSet) (k : TokenId) → IsTwice (links_in (map.get F)) k
     → is_twice F k ≡ true
 is_twice-complete F k t =
-    let x : (b : Body) × (map.get F t.one ≡ Some b) × (use_of (link_of b) ≡ Some k) = use_from (map.get F t.one) k t.by_one in
-    let y : (b : Body) × (map.get F t.two ≡ Some b) × (use_of (link_of b) ≡ Some k) = use_from (map.get F t.two) k t.by_two in
-    any_fact-of (uses_first F k) F t.one x.0 x.1 (and_from _ _ (names_token-of (use_of (link_of x.0)) k x.2)
-    (any_fact-of (uses_elsewhere k t.one) F t.two y.0 y.1 (and_from _ _ (not_from_false (is_same_dot t.one t.two) (same_dot-apart t.one t.two t.apart)) (names_token-of (use_of (link_of y.0)) k y.2))))
+    let x : (b : Body) × (map.get F t.one ≡ Some b) × (use_of (link_of b) ≡ Some k) =
+    use_from (map.get F t.one) k t.by_one in
+    let y : (b : Body) × (map.get F t.two ≡ Some b) × (use_of (link_of b) ≡ Some k) =
+    use_from (map.get F t.two) k t.by_two in
+    any_fact-of (uses_first F k) F t.one x.0 x.1
+    (and_from _ _ (names_token-of (use_of (link_of x.0)) k x.2)
+    (any_fact-of (uses_elsewhere k t.one) F t.two y.0 y.1
+    (and_from _ _ (not_from_false (is_same_dot t.one t.two) (same_dot-apart t.one t.two t.apart))
+    (names_token-of (use_of (link_of y.0)) k y.2))))
 
 -- ---- revocations
 
@@ -116,7 +132,13 @@ revoking : (k : TokenId) (digest : List ℕ) (client : Dot) (b : Body)
 revoking k digest client (TokenRevoked x) h =
     let p = and_parts _ _ h in
     let q = and_parts _ _ p.1 in
-    record { revocation = x; body = refl; token = same_token-true x.token k p.0; digested = (bytes_eq-Decides x.digest digest).0 q.0; by = same_dot-true x.client client q.1 }
+    record {
+      revocation = x;
+      body = refl;
+      token = same_token-true x.token k p.0;
+      digested = (bytes_eq-Decides x.digest digest).0 q.0;
+      by = same_dot-true x.client client q.1;
+    }
 revoking k digest client body h = absurd (true≢false (sym h))
 
 pub is_revoked-sound : (F : FactSet) (k : TokenId) (digest : List ℕ) (client : Dot)
@@ -124,14 +146,22 @@ pub is_revoked-sound : (F : FactSet) (k : TokenId) (digest : List ℕ) (client :
 is_revoked-sound F k digest client h =
     let x : Passing (revokes k digest client) F = any_fact-held (revokes k digest client) F h in
     let r : Revoking k digest client x.body = revoking k digest client x.body x.passes in
-    record { place = x.dot; revocation = r.revocation; held = x.held ∙ ap (λ (b : Body). Some b) r.body; token = r.token; digest_is = r.digested; client_is = r.by }
+    record {
+      place = x.dot;
+      revocation = r.revocation;
+      held = x.held ∙ ap (λ (b : Body). Some b) r.body;
+      token = r.token;
+      digest_is = r.digested;
+      client_is = r.by;
+    }
 
 pub is_revoked-complete : (F : FactSet) (k : TokenId) (digest : List ℕ) (client : Dot)
     → IsRevoked (map.get F) k digest client → is_revoked F k digest client ≡ true
 is_revoked-complete F k digest client r =
     any_fact-of (revokes k digest client) F r.place (TokenRevoked r.revocation) r.held
     (and_from _ _ (ap (λ (t : TokenId). is_same_token t k) r.token ∙ same_token-itself k)
-    (and_from _ _ ((bytes_eq-Decides r.revocation.digest digest).1 r.digest_is) (ap (λ (d : Dot). is_same_dot d client) r.client_is ∙ same_dot-itself client)))
+    (and_from _ _ ((bytes_eq-Decides r.revocation.digest digest).1 r.digest_is)
+    (ap (λ (d : Dot). is_same_dot d client) r.client_is ∙ same_dot-itself client)))
 
 ended_by-sound : (F : FactSet) (k : TokenId) (m : Option MintedFields) (o : Option Root)
     → minted_in (map.get F) k ≡ m → root_in (map.get F) k.dot ≡ o → is_ended_by F k m o ≡ true
@@ -151,7 +181,8 @@ ended_by-sound F k (Some m) (Some o) i j h =
     }
 
 pub is_ended-sound : (F : FactSet) (k : TokenId) → is_ended F k ≡ true → IsEnded (map.get F) k
-is_ended-sound F k h = ended_by-sound F k (minted_in (map.get F) k) (root_in (map.get F) k.dot) refl refl h
+is_ended-sound F k h =
+    ended_by-sound F k (minted_in (map.get F) k) (root_in (map.get F) k.dot) refl refl h
 
 pub is_ended-complete : (F : FactSet) (k : TokenId) → IsEnded (map.get F) k → is_ended F k ≡ true
 is_ended-complete F k e =
@@ -172,7 +203,12 @@ signing_out : (subject : List ℕ) (moment : ℕ) (b : Body) → signs_out_in su
     → SigningOut subject moment b
 signing_out subject moment (bodies.SubjectOut x) h =
     let p = and_parts _ _ h in
-    record { sign_out = x; body = refl; subject_is = (bytes_eq-Decides x.subject subject).0 p.0; not_before = leb-true moment x.moment p.1 }
+    record {
+      sign_out = x;
+      body = refl;
+      subject_is = (bytes_eq-Decides x.subject subject).0 p.0;
+      not_before = leb-true moment x.moment p.1;
+    }
 signing_out subject moment body h = absurd (true≢false (sym h))
 
 pub is_signed_out-sound : (F : FactSet) (subject : List ℕ) (moment : ℕ)
@@ -180,24 +216,36 @@ pub is_signed_out-sound : (F : FactSet) (subject : List ℕ) (moment : ℕ)
 is_signed_out-sound F subject moment h =
     let x : Passing (signs_out subject moment) F = any_fact-held (signs_out subject moment) F h in
     let s : SigningOut subject moment x.body = signing_out subject moment x.body x.passes in
-    record { place = x.dot; sign_out = s.sign_out; held = x.held ∙ ap (λ (b : Body). Some b) s.body; subject_is = s.subject_is; not_before = s.not_before }
+    record {
+      place = x.dot;
+      sign_out = s.sign_out;
+      held = x.held ∙ ap (λ (b : Body). Some b) s.body;
+      subject_is = s.subject_is;
+      not_before = s.not_before;
+    }
 
 pub is_signed_out-complete : (F : FactSet) (subject : List ℕ) (moment : ℕ)
     → IsSignedOut (map.get F) subject moment → is_signed_out F subject moment ≡ true
 is_signed_out-complete F subject moment s =
     any_fact-of (signs_out subject moment) F s.place (bodies.SubjectOut s.sign_out) s.held
-    (and_from _ _ ((bytes_eq-Decides s.sign_out.subject subject).1 s.subject_is) (le-leb moment s.sign_out.moment s.not_before))
+    (and_from _ _ ((bytes_eq-Decides s.sign_out.subject subject).1 s.subject_is)
+    (le-leb moment s.sign_out.moment s.not_before))
 
 out_by-sound : (F : FactSet) (d : Dot) (o : Option issued.CodeIssued) → issued_at (map.get F) d ≡ o
     → is_out_by F o ≡ true → IsOut (map.get F) d
 out_by-sound F d None at h = absurd (true≢false (sym h))
-out_by-sound F d (Some code) at h = record { issued = code; issues = at; signed_out = is_signed_out-sound F code.subject code.start h }
+out_by-sound F d (Some code) at h = record {
+  issued = code;
+  issues = at;
+  signed_out = is_signed_out-sound F code.subject code.start h;
+}
 
 pub is_out-sound : (F : FactSet) (d : Dot) → is_out F d ≡ true → IsOut (map.get F) d
 is_out-sound F d h = out_by-sound F d (issued_at (map.get F) d) refl h
 
 pub is_out-complete : (F : FactSet) (d : Dot) → IsOut (map.get F) d → is_out F d ≡ true
-is_out-complete F d o = ap (is_out_by F) o.issues ∙ is_signed_out-complete F o.issued.subject o.issued.start o.signed_out
+is_out-complete F d o = ap (is_out_by F) o.issues
+    ∙ is_signed_out-complete F o.issued.subject o.issued.start o.signed_out
 
 -- ---- marks
 
@@ -217,28 +265,42 @@ code_is kind.Access h = absurd (true≢false (sym h))
 code_is kind.Refresh h = absurd (true≢false (sym h))
 
 pub is_stopped-sound : (F : FactSet) (k : TokenId) → is_stopped F k ≡ true → IsStopped (map.get F) k
-is_stopped-sound F k h = elim (or_cases (is_refresh k.kind && is_ended F k) (is_code k.kind && is_out F k.dot) h) [
-  | inl ended ↦ let p = and_parts _ _ ended in inl (refresh_is k.kind p.0, is_ended-sound F k p.1)
-  | inr gone ↦ let p = and_parts _ _ gone in inr (code_is k.kind p.0, is_out-sound F k.dot p.1)
-]
+is_stopped-sound F k h =
+    elim (or_cases (is_refresh k.kind && is_ended F k) (is_code k.kind && is_out F k.dot) h) [
+      | inl ended ↦ let p = and_parts _ _ ended in
+          inl (refresh_is k.kind p.0, is_ended-sound F k p.1)
+      | inr gone ↦ let p = and_parts _ _ gone in inr (code_is k.kind p.0, is_out-sound F k.dot p.1)
+    ]
 
 pub is_stopped-complete : (F : FactSet) (k : TokenId) → IsStopped (map.get F) k
     → is_stopped F k ≡ true
-is_stopped-complete F k (inl e) = or_left (is_refresh k.kind && is_ended F k) (is_code k.kind && is_out F k.dot) (and_from _ _ (ap is_refresh e.0) (is_ended-complete F k e.1))
-is_stopped-complete F k (inr o) = or_right (is_refresh k.kind && is_ended F k) (is_code k.kind && is_out F k.dot) (and_from _ _ (ap is_code o.0) (is_out-complete F k.dot o.1))
+is_stopped-complete F k (inl e) = or_left (is_refresh k.kind && is_ended F k)
+    (is_code k.kind && is_out F k.dot)
+    (and_from _ _ (ap is_refresh e.0) (is_ended-complete F k e.1))
+is_stopped-complete F k (inr o) = or_right (is_refresh k.kind && is_ended F k)
+    (is_code k.kind && is_out F k.dot) (and_from _ _ (ap is_code o.0) (is_out-complete F k.dot o.1))
 
 pub is_marked-sound : (F : FactSet) (k : TokenId) → is_marked F k ≡ true → IsMarked (map.get F) k
 is_marked-sound F k h = elim (or_cases (is_reused F k) (is_stopped F k) h) [
   | inl reused ↦
       let x : Passing (sees_reuse k) F = any_fact-held (sees_reuse k) F reused in
-      let r : (r : seen.ReuseSeen) × (x.body ≡ ReuseSeen r) × (r.token ≡ k) = reusing k x.body x.passes in
-      inl (record { place = x.dot; reuse = r.0; held = x.held ∙ ap (λ (b : Body). Some b) r.1; token = r.2 })
+      let r : (r : seen.ReuseSeen) × (x.body ≡ ReuseSeen r) × (r.token ≡ k) =
+      reusing k x.body x.passes in
+      inl (record {
+        place = x.dot;
+        reuse = r.0;
+        held = x.held ∙ ap (λ (b : Body). Some b) r.1;
+        token = r.2;
+      })
   | inr stopped ↦ inr (is_stopped-sound F k stopped)
 ]
 
 pub is_marked-complete : (F : FactSet) (k : TokenId) → IsMarked (map.get F) k → is_marked F k ≡ true
-is_marked-complete F k (inl r) = or_left (is_reused F k) (is_stopped F k) (any_fact-of (sees_reuse k) F r.place (ReuseSeen r.reuse) r.held (ap (λ (t : TokenId). is_same_token t k) r.token ∙ same_token-itself k))
-is_marked-complete F k (inr s) = or_right (is_reused F k) (is_stopped F k) (is_stopped-complete F k s)
+is_marked-complete F k (inl r) = or_left (is_reused F k) (is_stopped F k)
+    (any_fact-of (sees_reuse k) F r.place (ReuseSeen r.reuse) r.held
+    (ap (λ (t : TokenId). is_same_token t k) r.token ∙ same_token-itself k))
+is_marked-complete F k (inr s) =
+    or_right (is_reused F k) (is_stopped F k) (is_stopped-complete F k s)
 
 -- ---- bad grants and dead families
 
@@ -257,8 +319,10 @@ bad-sound F d (Some l) at h = record {
 bad-complete : (F : FactSet) (d : Dot) → IsBad (links_in (map.get F)) (IsMarked (map.get F)) d
     → is_bad_grant F d (links_in (map.get F) d) ≡ true
 bad-complete F d b = ap (is_bad_grant F d) b.here ∙ (elim b.why [
-  | inl marked ↦ or_left (is_marked F (grant_at d b.link)) (is_twice F (grant_at d b.link)) (is_marked-complete F (grant_at d b.link) marked)
-  | inr twice ↦ or_right (is_marked F (grant_at d b.link)) (is_twice F (grant_at d b.link)) (is_twice-complete F (grant_at d b.link) twice)
+  | inl marked ↦ or_left (is_marked F (grant_at d b.link)) (is_twice F (grant_at d b.link))
+      (is_marked-complete F (grant_at d b.link) marked)
+  | inr twice ↦ or_right (is_marked F (grant_at d b.link)) (is_twice F (grant_at d b.link))
+      (is_twice-complete F (grant_at d b.link) twice)
 ])
 
 pub is_dead-sound : (F : FactSet) (c : Dot) → is_dead F c ≡ true
@@ -268,70 +332,18 @@ is_dead-sound F c h =
     let p = and_parts _ _ x.passes in
     record {
       member = x.dot;
-      under = code_of-sound (links_in (map.get F)) x.dot c (names_dot-true (code_in (map.get F) x.dot) c p.0);
+      under = code_of-sound (links_in (map.get F)) x.dot c
+          (names_dot-true (code_in (map.get F) x.dot) c p.0);
       bad = bad-sound F x.dot (link_of x.body) (links_at F x.dot x.body x.held) p.1;
     }
 
 pub is_dead-complete : (F : FactSet) (c : Dot)
     → IsDead (links_in (map.get F)) (IsMarked (map.get F)) c → is_dead F c ≡ true
 is_dead-complete F c x =
-    let y : (b : Body) × (map.get F x.member ≡ Some b) × (link_of b ≡ Some x.bad.link) = from_some link_of (map.get F x.member) x.bad.link x.bad.here in
+    let y : (b : Body) × (map.get F x.member ≡ Some b) × (link_of b ≡ Some x.bad.link) =
+    from_some link_of (map.get F x.member) x.bad.link x.bad.here in
     any_fact-of (kills F c) F x.member y.0 y.1 (and_from _ _
-    (names_dot-of (code_in (map.get F) x.member) c (code_of-complete (links_in (map.get F)) x.member c x.under))
-    (ap (is_bad_grant F x.member) (sym (links_at F x.member y.0 y.1)) ∙ bad-complete F x.member x.bad))
-
--- ---- more facts
-
--- a token that its client revoked stays revoked
-pub IsEnded-below : (F G : FactSet) → IsSubset F G → (k : TokenId) → IsEnded (map.get F) k
-    → IsEnded (map.get G) k
-IsEnded-below F G w k e = record {
-  minted = e.minted;
-  code = e.code;
-  issued = e.issued;
-  mints = minted-below F G w k e.minted e.mints;
-  under = minted-under-below F G w k.dot e.code e.under;
-  issues = below-and_then issued_in F G w e.code e.issued e.issues;
-  by_client = record {
-    place = e.by_client.place;
-    revocation = e.by_client.revocation;
-    held = w e.by_client.place (TokenRevoked e.by_client.revocation) e.by_client.held;
-    token = e.by_client.token;
-    digest_is = e.by_client.digest_is;
-    client_is = e.by_client.client_is;
-  };
-}
-
--- a subject that signed out stays signed out
-pub IsSignedOut-below : (F G : FactSet) → IsSubset F G → (subject : List ℕ) (moment : ℕ)
-    → IsSignedOut (map.get F) subject moment → IsSignedOut (map.get G) subject moment
-IsSignedOut-below F G w subject moment s = record { place = s.place; sign_out = s.sign_out; held = w s.place (bodies.SubjectOut s.sign_out) s.held; subject_is = s.subject_is; not_before = s.not_before }
-
-pub IsOut-below : (F G : FactSet) → IsSubset F G → (d : Dot) → IsOut (map.get F) d
-    → IsOut (map.get G) d
-IsOut-below F G w d o = record { issued = o.issued; issues = below-and_then issued_in F G w d o.issued o.issues; signed_out = IsSignedOut-below F G w o.issued.subject o.issued.start o.signed_out }
-
-IsStopped-below : (F G : FactSet) → IsSubset F G → (k : TokenId) → IsStopped (map.get F) k
-    → IsStopped (map.get G) k
-IsStopped-below F G w k (inl e) = inl (e.0, IsEnded-below F G w k e.1)
-IsStopped-below F G w k (inr o) = inr (o.0, IsOut-below F G w k.dot o.1)
-
-pub IsMarked-below : (F G : FactSet) → IsSubset F G → (k : TokenId) → IsMarked (map.get F) k
-    → IsMarked (map.get G) k
-IsMarked-below F G w k (inl r) = inl (record { place = r.place; reuse = r.reuse; held = w r.place (ReuseSeen r.reuse) r.held; token = r.token })
-IsMarked-below F G w k (inr s) = inr (IsStopped-below F G w k s)
-
-pub marks-below : (F G : FactSet) → IsSubset F G
-    → MarksWithin (IsMarked (map.get F)) (IsMarked (map.get G))
-marks-below F G w k h = IsMarked-below F G w k h
-
--- a bad grant stays bad, and a dead family dead
-pub IsBad-below : (F G : FactSet) → IsSubset F G → (d : Dot)
-    → IsBad (links_in (map.get F)) (IsMarked (map.get F)) d
-    → IsBad (links_in (map.get G)) (IsMarked (map.get G)) d
-IsBad-below F G w d b = IsBad-within (links_in (map.get F)) (links_in (map.get G)) (IsMarked (map.get F)) (IsMarked (map.get G)) (links-below F G w) (marks-below F G w) d b
-
-pub IsDead-below : (F G : FactSet) → IsSubset F G → (c : Dot)
-    → IsDead (links_in (map.get F)) (IsMarked (map.get F)) c
-    → IsDead (links_in (map.get G)) (IsMarked (map.get G)) c
-IsDead-below F G w c x = IsDead-within (links_in (map.get F)) (links_in (map.get G)) (IsMarked (map.get F)) (IsMarked (map.get G)) (links-below F G w) (marks-below F G w) c x
+    (names_dot-of (code_in (map.get F) x.member) c
+    (code_of-complete (links_in (map.get F)) x.member c x.under))
+    (ap (is_bad_grant F x.member) (sym (links_at F x.member y.0 y.1))
+    ∙ bad-complete F x.member x.bad))

@@ -41,7 +41,8 @@ use Rattle.tk_ledger.proofs.WakeLaws.{links_path}
 
 -- marks of grants in a family are all that a death looks at
 abbrev GrantsWithin : Links → Marks → Marks → Type 0
-GrantsWithin f m n = (q c : Dot) (l : Link) → f q ≡ Some l → IsUnder f q c → m (grant_at q l) → n (grant_at q l)
+GrantsWithin f m n =
+    (q c : Dot) (l : Link) → f q ≡ Some l → IsUnder f q c → m (grant_at q l) → n (grant_at q l)
 
 dead_grants : (f : Links) (m n : Marks) → GrantsWithin f m n → (c : Dot) → IsDead f m c
     → IsDead f n c
@@ -51,7 +52,10 @@ dead_grants f m n w c x = record {
   bad = record {
     link = x.bad.link;
     here = x.bad.here;
-    why = elim x.bad.why [ inl marked ↦ inl (w x.member c x.bad.link x.bad.here x.under marked) | inr twice ↦ inr twice ];
+    why = elim x.bad.why [
+      | inl marked ↦ inl (w x.member c x.bad.link x.bad.here x.under marked)
+      | inr twice ↦ inr twice
+    ];
   };
 }
 
@@ -75,8 +79,12 @@ says : (F : FactSet) (d : Dot) (r : Top) → IsTop (links_in (map.get F)) (IsMar
     → TopSays F d r
 says F d top.Absent h = sym (top_code (links_in (map.get F)) (IsMarked (map.get F)) d top.Absent h)
 says F d top.Broken h = sym (top_code (links_in (map.get F)) (IsMarked (map.get F)) d top.Broken h)
-says F d (top.Code c) h = (code_of-complete (links_in (map.get F)) d c h.0, false_from_ne_true (is_dead F c) (λ e. h.1 (is_dead-sound F c e)))
-says F d (top.Dead c) h = (code_of-complete (links_in (map.get F)) d c h.0, is_dead-complete F c h.1)
+says F d (top.Code c) h = (
+  code_of-complete (links_in (map.get F)) d c h.0,
+  false_from_ne_true (is_dead F c) (λ e. h.1 (is_dead-sound F c e)),
+)
+says F d (top.Dead c) h =
+    (code_of-complete (links_in (map.get F)) d c h.0, is_dead-complete F c h.1)
 
 pub top_says : (F : FactSet) (x : ForestFacts) (d : Dot) (r : Top) → IsTied F x
     → IsTop (links_at x) (marks_at x) d r → TopSays F d r
@@ -85,8 +93,10 @@ top_says F x d r t h = says F d r (top_of_set F x d r t h)
 pub used_says : (F : FactSet) (x : ForestFacts) (k : TokenId) (r : Bool) → IsTied F x
     → ((r ≡ true → IsUsed (links_at x) k) × (IsUsed (links_at x) k → r ≡ true)) → r ≡ is_used F k
 used_says F x k r t both = same_tests r (is_used F k)
-    (λ h. is_used-complete F k (subst (λ (l : Links). IsUsed l k) (links_path F x t.links) (both.0 h)))
-    (λ h. both.1 (subst (λ (l : Links). IsUsed l k) (sym (links_path F x t.links)) (is_used-sound F k h)))
+    (λ h. is_used-complete F k
+    (subst (λ (l : Links). IsUsed l k) (links_path F x t.links) (both.0 h)))
+    (λ h. both.1
+    (subst (λ (l : Links). IsUsed l k) (sym (links_path F x t.links)) (is_used-sound F k h)))
 
 -- ---- the status
 
@@ -102,12 +112,15 @@ state_is : (F : FactSet) (now : ℕ) (k : TokenId) (m : MintedFields) (o : Root)
     → state_by dead F now k m o.issued ≡ state_in F now k m o
 state_is F now k m o dead h i = rw (h, i) refl
 
-root_is : (F : FactSet) (now : ℕ) (k : TokenId) (b : Body) (m : MintedFields) (c : Dot) (dead : Bool) (o : Option Root)
-    → minted_in (map.get F) k ≡ Some m → code_in (map.get F) (anchor_in (map.get F) k.dot) ≡ Some c → is_dead F c ≡ dead → root_of (map.get F) c ≡ o
+root_is : (F : FactSet) (now : ℕ) (k : TokenId) (b : Body) (m : MintedFields) (c : Dot)
+    (dead : Bool) (o : Option Root)
+    → minted_in (map.get F) k ≡ Some m → code_in (map.get F) (anchor_in (map.get F) k.dot) ≡ Some c
+    → is_dead F c ≡ dead → root_of (map.get F) c ≡ o
     → by_root dead F now k b m o ≡ status_by F now k (Some b) (Some m) o
 root_is F now k b m c dead None h i j e = refl
 root_is F now k b m c dead (Some o) h i j e =
-    let in_family : root_in (map.get F) k.dot ≡ Some o = ap (option_and_then (root_of (map.get F))) i ∙ e in
+    let in_family : root_in (map.get F) k.dot ≡ Some o =
+    ap (option_and_then (root_of (map.get F))) i ∙ e in
     ap (λ (s : State). Known (record {
       client = o.issued.client;
       subject = o.issued.subject;
@@ -119,19 +132,24 @@ root_is F now k b m c dead (Some o) h i j e =
       family_end = o.issued.family_end;
       generation = (standing_in F now k b m o).generation;
       state = s;
-    })) (state_is F now k m o dead (ap (is_dead F) (sym (root_at F c o e).0) ∙ j) (ended_is F k m o h in_family))
+    })) (state_is F now k m o dead (ap (is_dead F) (sym (root_at F c o e).0) ∙ j)
+    (ended_is F k m o h in_family))
 
 by_top_is : (F : FactSet) (now : ℕ) (k : TokenId) (b : Body) (m : MintedFields) (r : Top)
     → minted_in (map.get F) k ≡ Some m → TopSays F (anchor_in (map.get F) k.dot) r
     → by_top F now k b m r ≡ status_by F now k (Some b) (Some m) (root_in (map.get F) k.dot)
-by_top_is F now k b m top.Absent h t = sym (ap (λ (o : Option Dot). status_by F now k (Some b) (Some m) (option_and_then (root_of (map.get F)) o)) t)
-by_top_is F now k b m top.Broken h t = sym (ap (λ (o : Option Dot). status_by F now k (Some b) (Some m) (option_and_then (root_of (map.get F)) o)) t)
+by_top_is F now k b m top.Absent h t = sym (ap (λ (o : Option Dot).
+    status_by F now k (Some b) (Some m) (option_and_then (root_of (map.get F)) o)) t)
+by_top_is F now k b m top.Broken h t = sym (ap (λ (o : Option Dot).
+    status_by F now k (Some b) (Some m) (option_and_then (root_of (map.get F)) o)) t)
 by_top_is F now k b m (top.Code c) h t =
     root_is F now k b m c false (root_of (map.get F) c) h t.0 t.1 refl
-    ∙ sym (ap (λ (o : Option Dot). status_by F now k (Some b) (Some m) (option_and_then (root_of (map.get F)) o)) t.0)
+    ∙ sym (ap (λ (o : Option Dot).
+    status_by F now k (Some b) (Some m) (option_and_then (root_of (map.get F)) o)) t.0)
 by_top_is F now k b m (top.Dead c) h t =
     root_is F now k b m c true (root_of (map.get F) c) h t.0 t.1 refl
-    ∙ sym (ap (λ (o : Option Dot). status_by F now k (Some b) (Some m) (option_and_then (root_of (map.get F)) o)) t.0)
+    ∙ sym (ap (λ (o : Option Dot).
+    status_by F now k (Some b) (Some m) (option_and_then (root_of (map.get F)) o)) t.0)
 
 digest_kept : (digest : List ℕ) (o : Option MintedFields) (m : MintedFields)
     → with_digest digest o ≡ Some m → o ≡ Some m
@@ -164,8 +182,16 @@ pub status_by_top : (F : FactSet) (now : ℕ) (h : Handle) (b : Body) (m : Minte
     → map.get F h.id.dot ≡ Some b → with_digest (digest_of h) (minted_of b h.id.kind) ≡ Some m
     → TopSays F (anchor_of h.id.dot b) r → by_top F now h.id b m r ≡ status_in F now h
 status_by_top F now h b m r held mints at =
-    let t : TopSays F (anchor_in (map.get F) h.id.dot) r = subst (λ (q : Dot). TopSays F q r) (sym (ap (anchor_by h.id.dot) held)) at in
-    let minted : minted_in (map.get F) h.id ≡ Some m = ap (option_and_then (λ x. minted_of x h.id.kind)) held ∙ digest_kept (digest_of h) (minted_of b h.id.kind) m mints in
+    let t : TopSays F (anchor_in (map.get F) h.id.dot) r =
+    subst (λ (q : Dot). TopSays F q r) (sym (ap (anchor_by h.id.dot) held)) at in
+    let minted : minted_in (map.get F) h.id ≡ Some m =
+    ap (option_and_then (λ x. minted_of x h.id.kind)) held
+    ∙ digest_kept (digest_of h) (minted_of b h.id.kind) m mints in
     by_top_is F now h.id b m r minted t
-    ∙ ap (λ (o : Option MintedFields). status_by F now h.id (Some b) o (root_in (map.get F) h.id.dot)) (sym (ap (λ (o : Option Body). with_digest (digest_of h) (option_and_then (λ x. minted_of x h.id.kind) o)) held ∙ mints))
-    ∙ ap (λ (o : Option Body). status_by F now h.id o (minted_as (map.get F) h) (root_in (map.get F) h.id.dot)) (sym held)
+    ∙ ap (λ (o : Option MintedFields).
+    status_by F now h.id (Some b) o (root_in (map.get F) h.id.dot))
+    (sym (ap (λ (o : Option Body).
+    with_digest (digest_of h) (option_and_then (λ x. minted_of x h.id.kind) o)) held
+    ∙ mints))
+    ∙ ap (λ (o : Option Body).
+    status_by F now h.id o (minted_as (map.get F) h) (root_in (map.get F) h.id.dot)) (sym held)

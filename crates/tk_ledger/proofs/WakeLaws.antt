@@ -58,15 +58,18 @@ pub mark_set : (x y : ForestFacts) (j : TokenId) (m : Bool) → m ≡ true
     → set.contains y.marks k ≡ cond (is_same_token j k) m (set.contains x.marks k)
 mark_set x y j m is new k =
     mark_put x.marks y.marks j new k ∙ ap (λ b. b || set.contains x.marks k) (token_tied j k)
-    ∙ or_cond (is_same_token j k) (set.contains x.marks k) ∙ ap (λ b. cond (is_same_token j k) b (set.contains x.marks k)) (sym is)
+    ∙ or_cond (is_same_token j k) (set.contains x.marks k)
+    ∙ ap (λ b. cond (is_same_token j k) b (set.contains x.marks k)) (sym is)
 
 pub mark_cleared : (x y : ForestFacts) (j : TokenId) (m : Bool) → m ≡ false
     → y.marks ≡ set.remove x.marks j → (k : TokenId)
     → set.contains y.marks k ≡ cond (is_same_token j k) m (set.contains x.marks k)
 mark_cleared x y j m is new k =
-    ap (λ (s : set.FinSet token_cmp). set.contains s k) new ∙ set.contains-remove tokens_total x.marks j k
+    ap (λ (s : set.FinSet token_cmp). set.contains s k) new
+    ∙ set.contains-remove tokens_total x.marks j k
     ∙ ap (λ b. not b && set.contains x.marks k) (token_tied j k)
-    ∙ less_cond (is_same_token j k) (set.contains x.marks k) ∙ ap (λ b. cond (is_same_token j k) b (set.contains x.marks k)) (sym is)
+    ∙ less_cond (is_same_token j k) (set.contains x.marks k)
+    ∙ ap (λ b. cond (is_same_token j k) b (set.contains x.marks k)) (sym is)
 
 abbrev code_at : Dot → TokenId
 code_at d = record { dot = d; kind = kind.Code }
@@ -79,25 +82,38 @@ never true = refl
 never false = refl
 
 elsewhere : (j k : TokenId) → dot_eq k.dot j.dot ≡ false → is_same_token j k ≡ false
-elsewhere j k apart = false_from_ne_true (is_same_token j k) (λ h. true≢false (sym (at_itself k.dot) ∙ ap (λ (t : TokenId). dot_eq k.dot t.dot) (sym (same_token-true j k h)) ∙ apart))
+elsewhere j k apart = false_from_ne_true (is_same_token j k)
+    (λ h. true≢false
+    (sym (at_itself k.dot) ∙ ap (λ (t : TokenId). dot_eq k.dot t.dot) (sym (same_token-true j k h))
+    ∙ apart))
 
 -- the marks of the code and the refresh token of a dot were written
 pub wakes_both : (F : FactSet) (x y z : ForestFacts) (d : Dot) → y.links ≡ x.links
     → z.links ≡ y.links
-    → ((k : TokenId) → set.contains y.marks k ≡ cond (is_same_token (record { dot = d; kind = kind.Code }) k) (is_marked F (record { dot = d; kind = kind.Code })) (set.contains x.marks k))
-    → ((k : TokenId) → set.contains z.marks k ≡ cond (is_same_token (record { dot = d; kind = kind.Refresh }) k) (is_marked F (record { dot = d; kind = kind.Refresh })) (set.contains y.marks k))
+    → ((k : TokenId)
+    → set.contains y.marks k
+    ≡ cond (is_same_token (record { dot = d; kind = kind.Code }) k)
+    (is_marked F (record { dot = d; kind = kind.Code })) (set.contains x.marks k))
+    → ((k : TokenId)
+    → set.contains z.marks k
+    ≡ cond (is_same_token (record { dot = d; kind = kind.Refresh }) k)
+    (is_marked F (record { dot = d; kind = kind.Refresh })) (set.contains y.marks k))
     → Wakes F x (λ q. dot_eq q d) z
 wakes_both F x y z d first second code refresh = record {
   links = second ∙ first;
-  here = λ q c l at _ _. subst (λ (p : Dot). set.contains z.marks (grant_at p l) ≡ is_marked F (grant_at p l)) (sym (tied q d at)) (written l);
-  there = λ k apart. refresh k ∙ cond-false _ _ _ (elsewhere (refresh_at d) k apart) ∙ code k ∙ cond-false _ _ _ (elsewhere (code_at d) k apart);
+  here = λ q c l at _ _. subst (λ (p : Dot).
+      set.contains z.marks (grant_at p l) ≡ is_marked F (grant_at p l)) (sym (tied q d at))
+      (written l);
+  there = λ k apart. refresh k ∙ cond-false _ _ _ (elsewhere (refresh_at d) k apart) ∙ code k
+      ∙ cond-false _ _ _ (elsewhere (code_at d) k apart);
 }
   where
     written_refresh : set.contains z.marks (refresh_at d) ≡ is_marked F (refresh_at d)
     written_refresh = refresh (refresh_at d) ∙ cond-true _ _ _ (same_token-itself (refresh_at d))
 
     written : (l : Link) → set.contains z.marks (grant_at d l) ≡ is_marked F (grant_at d l)
-    written Code = refresh (code_at d) ∙ cond-false _ _ _ (never (is_same_dot d d)) ∙ code (code_at d) ∙ cond-true _ _ _ (same_token-itself (code_at d))
+    written Code = refresh (code_at d) ∙ cond-false _ _ _ (never (is_same_dot d d))
+        ∙ code (code_at d) ∙ cond-true _ _ _ (same_token-itself (code_at d))
     written (Redeems c) = written_refresh
     written (Rotates p g) = written_refresh
 
@@ -112,7 +128,8 @@ pub wakes_apart : (F : FactSet) (x : ForestFacts) (d : Dot)
     → is_some (code_of (links_at x) d) ≡ false → Wakes F x (λ q. dot_eq q d) x
 wakes_apart F x d same none = record {
   links = refl;
-  here = λ q c l at _ under. absurd (true≢false (sym (ap is_some (code_of-complete (links_in (map.get F)) q c under))
+  here = λ q c l at _ under.
+      absurd (true≢false (sym (ap is_some (code_of-complete (links_in (map.get F)) q c under))
       ∙ ap (λ (p : Dot). is_some (code_of (links_in (map.get F)) p)) (tied q d at)
       ∙ ap (λ (f : Links). is_some (code_of f d)) (sym (links_path F x same)) ∙ none));
   there = λ _ _. refl;
@@ -122,12 +139,20 @@ wakes_apart F x d same none = record {
 
 -- no mark was written
 pub wakes_none : (F : FactSet) (x : ForestFacts) → Wakes F x (λ _. false) x
-wakes_none F x = record { links = refl; here = λ q c l at _ _. absurd (true≢false (sym at)); there = λ _ _. refl }
+wakes_none F x = record {
+  links = refl;
+  here = λ q c l at _ _. absurd (true≢false (sym at));
+  there = λ _ _. refl;
+}
 
 -- the marks at the same dots were written
 pub wakes_as : (F : FactSet) (x y : ForestFacts) (a b : Dot → Bool) → ((q : Dot) → b q ≡ a q)
     → Wakes F x a y → Wakes F x b y
-wakes_as F x y a b same w = record { links = w.links; here = λ q c l at. w.here q c l (sym (same q) ∙ at); there = λ k apart. w.there k (sym (same k.dot) ∙ apart) }
+wakes_as F x y a b same w = record {
+  links = w.links;
+  here = λ q c l at. w.here q c l (sym (same q) ∙ at);
+  there = λ k apart. w.there k (sym (same k.dot) ∙ apart);
+}
 
 neither : (a b : Bool) → (a || b) ≡ false → (a ≡ false) × (b ≡ false)
 neither true b h = absurd (true≢false h)
@@ -139,12 +164,14 @@ pub wakes_then : (F : FactSet) (x y z : ForestFacts) (a b : Dot → Bool) → Wa
 wakes_then F x y z a b first second = record {
   links = second.links ∙ first.links;
   here = λ q c l at link under. by_test q c l at link under (cases_Bool (b q));
-  there = λ k apart. (let both = neither (b k.dot) (a k.dot) apart in second.there k both.0 ∙ first.there k both.1);
+  there = λ k apart. (let both = neither (b k.dot) (a k.dot) apart in
+      second.there k both.0 ∙ first.there k both.1);
 }
   where
     by_test : (q c : Dot) (l : Link) → (b q || a q) ≡ true → links_in (map.get F) q ≡ Some l
         → IsUnder (links_in (map.get F)) q c
-        → (b q ≡ true) ⊎ (b q ≡ false) → set.contains z.marks (grant_at q l) ≡ is_marked F (grant_at q l)
+        → (b q ≡ true) ⊎ (b q ≡ false)
+        → set.contains z.marks (grant_at q l) ≡ is_marked F (grant_at q l)
     by_test q c l at link under (inl now) = second.here q c l now link under
     by_test q c l at link under (inr apart) =
         second.there (grant_at q l) (ap b (grant_place q l) ∙ apart)
@@ -156,7 +183,8 @@ pub wakes_more : (F : FactSet) (x y z : ForestFacts) (ds : List Dot) (i : ℕ) (
     → Wakes F y (λ q. dot_eq q d) z → Wakes F x (has (take (i + 1) ds)) z
 wakes_more F x y z ds i e d lt is first second =
     wakes_as F x z (λ q. dot_eq q d || has (take i ds) q) (has (take (i + 1) ds))
-    (λ q. ap (λ xs. has xs q) (take_more ds i e lt) ∙ has_push q (take i ds) (get_or ds i e) ∙ ap (λ (p : Dot). dot_eq q p || has (take i ds) q) (sym is))
+    (λ q. ap (λ xs. has xs q) (take_more ds i e lt) ∙ has_push q (take i ds) (get_or ds i e)
+    ∙ ap (λ (p : Dot). dot_eq q p || has (take i ds) q) (sym is))
     (wakes_then F x y z (has (take i ds)) (λ q. dot_eq q d) first second)
   where
     swap : (a b c : Bool) → (a || (b || c)) ≡ (b || (a || c))
@@ -166,7 +194,8 @@ wakes_more F x y z ds i e d lt is first second =
 
     has_push : (q : Dot) (xs : List Dot) (p : Dot) → has (xs ++ p ∷ []) q ≡ (dot_eq q p || has xs q)
     has_push q [] p = refl
-    has_push q (o ∷ xs) p = ap (λ t. dot_eq q o || t) (has_push q xs p) ∙ swap (dot_eq q o) (dot_eq q p) (has xs q)
+    has_push q (o ∷ xs) p =
+        ap (λ t. dot_eq q o || t) (has_push q xs p) ∙ swap (dot_eq q o) (dot_eq q p) (has xs q)
 
 -- the marks at all dots of a list were written
 pub wakes_whole : (F : FactSet) (x y : ForestFacts) (ds : List Dot) (i : ℕ) → length ds ≤ i
@@ -178,7 +207,8 @@ pub wakes_rest : (F : FactSet) (x y z : ForestFacts) (e : CodeKey) (rest : List 
     → Wakes F x (λ q. dot_eq q e.code) y → Wakes F y (has (dots_of rest)) z
     → Wakes F x (has (dots_of (e ∷ rest))) z
 wakes_rest F x y z e rest first second =
-    wakes_as F x z (λ q. has (dots_of rest) q || dot_eq q e.code) (has (dots_of (e ∷ rest))) (λ q. turn (dot_eq q e.code) (has (dots_of rest) q))
+    wakes_as F x z (λ q. has (dots_of rest) q || dot_eq q e.code) (has (dots_of (e ∷ rest)))
+    (λ q. turn (dot_eq q e.code) (has (dots_of rest) q))
     (wakes_then F x y z (λ q. dot_eq q e.code) (has (dots_of rest)) first second)
   where
     turn : (a b : Bool) → (a || b) ≡ (b || a)

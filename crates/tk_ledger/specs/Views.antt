@@ -14,6 +14,7 @@ client_view F d = option_map (λ c. record {
   client_kind = c.client_kind;
   scope = c.scope;
   redirects = c.redirects;
+  lives = c.lives;
   live = is_live_client F d;
 }) (client_at F d)
 

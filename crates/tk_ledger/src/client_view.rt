@@ -1,7 +1,7 @@
 //! The view of a client.
 
 use std::marker::Model;
-use tk_fact::ClientKind;
+use tk_fact::{ClientKind, ClientLives};
 use tk_match::Redirects;
 use tk_scope::Scope;
 
@@ -14,6 +14,8 @@ pub struct ClientView<'a> {
     pub scope: &'a Scope,
     /// The URIs that the client's users may be sent back to (RFC 6749, 3.1.2).
     pub redirects: &'a Redirects,
+    /// How long what the client gets lives at most, if it was registered with such lives.
+    pub lives: Option<ClientLives>,
     /// Whether no fact retires the client.
     pub live: bool,
 }
@@ -27,6 +29,7 @@ impl<'a> Model for ClientView<'a> {
       client_kind = v.client_kind.now;
       scope = v.scope.now;
       redirects = v.redirects.now;
+      lives = v.lives;
       live = v.live;
     } };
 }

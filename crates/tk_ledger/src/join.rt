@@ -110,7 +110,7 @@ impl Join for Ledger {
 
     fn join_from(&mut self, other: &Self) -> Result<(), JoinError> {
         if !self.agrees(other) {
-            return Err(JoinError::Apart);
+            return Err(JoinError::Conflict);
         }
         let alloc = self.alloc;
         match self.take_all(alloc, other.store()) {

@@ -114,6 +114,7 @@ impl Ledger {
                 client_kind: &client.client_kind,
                 scope: &client.scope,
                 redirects: &client.redirects,
+                lives: client.lives,
                 live: self.has_live_client(dot),
             }),
             None => None,

@@ -1,5 +1,6 @@
 -- Writes of members, one behind the other.
---   two_of, three_of, four_of, five_of, six_of   what that many writes leave behind each other
+--   two_of, three_of, four_of, five_of, six_of, eight_of   what that many writes leave behind each
+--                                                          other
 use Rattle.std.proofs.Common.{◌≡◌, List, ◌++◌, append_assoc}
 use Rattle.json.specs.Token.{Token}
 
@@ -21,4 +22,11 @@ five_of t0 t1 t2 t3 t4 t5 a b c d e h1 h2 h3 h4 h5 = rw (h5, h4, h3, h2, h1) (si
 pub six_of : (t0 t1 t2 t3 t4 t5 t6 a b c d e f : List Token) → t1 ≡ t0 ++ a → t2 ≡ t1 ++ b
     → t3 ≡ t2 ++ c → t4 ≡ t3 ++ d → t5 ≡ t4 ++ e → t6 ≡ t5 ++ f
     → t6 ≡ t0 ++ (a ++ (b ++ (c ++ (d ++ (e ++ f)))))
-six_of t0 t1 t2 t3 t4 t5 t6 a b c d e f h1 h2 h3 h4 h5 h6 = rw (h6, h5, h4, h3, h2, h1) (simp append_assoc)
+six_of t0 t1 t2 t3 t4 t5 t6 a b c d e f h1 h2 h3 h4 h5 h6 =
+    rw (h6, h5, h4, h3, h2, h1) (simp append_assoc)
+
+pub eight_of : (t0 t1 t2 t3 t4 t5 t6 t7 t8 a b c d e f g h : List Token) → t1 ≡ t0 ++ a
+    → t2 ≡ t1 ++ b → t3 ≡ t2 ++ c → t4 ≡ t3 ++ d → t5 ≡ t4 ++ e → t6 ≡ t5 ++ f → t7 ≡ t6 ++ g
+    → t8 ≡ t7 ++ h → t8 ≡ t0 ++ (a ++ (b ++ (c ++ (d ++ (e ++ (f ++ (g ++ h)))))))
+eight_of t0 t1 t2 t3 t4 t5 t6 t7 t8 a b c d e f g h h1 h2 h3 h4 h5 h6 h7 h8 =
+    rw (h8, h7, h6, h5, h4, h3, h2, h1) (simp append_assoc)

@@ -25,17 +25,23 @@ cursor_none zero at = refl
 cursor_none (suc n) at = refl
 
 -- what is left to write behind a client is the rest of the page
-pub tokens_more : (t u all : List Token) (n m : ℕ) (c : Dot × ClientFields) (cs more : List (Dot × ClientFields))
+pub tokens_more : (t u all : List Token) (n m : ℕ) (c : Dot × ClientFields)
+    (cs more : List (Dot × ClientFields))
     → n ≡ suc m → more ≡ c ∷ cs
-    → u ≡ t ++ json_tokens (outline (listed_body c)) → t ++ items_tokens (items_outline (listed n more)) ≡ all → u ++ items_tokens (items_outline (listed m cs)) ≡ all
+    → u ≡ t ++ json_tokens (outline (listed_body c))
+    → t ++ items_tokens (items_outline (listed n more)) ≡ all
+    → u ++ items_tokens (items_outline (listed m cs)) ≡ all
 tokens_more t u all n m c cs more left is written whole =
     ap (λ x. x ++ items_tokens (items_outline (listed m cs))) written
-    ∙ append_assoc t (json_tokens (outline (listed_body c))) (items_tokens (items_outline (listed m cs)))
+    ∙ append_assoc t (json_tokens (outline (listed_body c)))
+    (items_tokens (items_outline (listed m cs)))
     ∙ ap (λ (k : ℕ). t ++ items_tokens (items_outline (listed k (c ∷ cs)))) (sym left)
-    ∙ ap (λ (x : List (Dot × ClientFields)). t ++ items_tokens (items_outline (listed n x))) (sym is)
+    ∙ ap (λ (x : List (Dot × ClientFields)). t ++ items_tokens (items_outline (listed n x)))
+    (sym is)
     ∙ whole
 
-pub cursor_more : (n m : ℕ) (at last : Option Dot) (c : Dot × ClientFields) (cs more : List (Dot × ClientFields))
+pub cursor_more : (n m : ℕ) (at last : Option Dot) (c : Dot × ClientFields)
+    (cs more : List (Dot × ClientFields))
     → n ≡ suc m → more ≡ c ∷ cs
     → cursor_of n at more ≡ last → cursor_of m (Some c.0) cs ≡ last
 cursor_more n m at last c cs more left is whole =
@@ -53,15 +59,23 @@ abbrev pub opened : List Token
 opened = token.begin_object ∷ token.key (codes "clients") ∷ token.begin_array ∷ []
 
 pub whole_none : (t : List Token) (page : Items) → t ≡ opened ++ items_tokens (items_outline page)
-    → t ++ token.end_object ∷ [] ≡ json_tokens (outline (json.object (json.member (codes "clients") (json.array page) json.no_members)))
+    → t ++ token.end_object ∷ []
+    ≡ json_tokens
+    (outline (json.object (json.member (codes "clients") (json.array page) json.no_members)))
 whole_none t page h = ap (λ x. x ++ token.end_object ∷ []) h
 
 pub whole_some : (t u : List Token) (page : Items) (d : Dot)
     → t ≡ opened ++ items_tokens (items_outline page)
     → u ≡ t ++ token.key (codes "next") ∷ token.string (client_text d) ∷ []
     → u ++ token.end_object ∷ []
-    ≡ json_tokens (outline (json.object (json.member (codes "clients") (json.array page) (json.member (codes "next") (json.string (client_text d)) json.no_members))))
+    ≡ json_tokens
+    (outline
+    (json.object
+    (json.member (codes "clients") (json.array page)
+    (json.member (codes "next") (json.string (client_text d)) json.no_members))))
 whole_some t u page d h k =
-    ap (λ x. x ++ token.end_object ∷ []) (k ∙ ap (λ x. x ++ token.key (codes "next") ∷ token.string (client_text d) ∷ []) h)
+    ap (λ x. x ++ token.end_object ∷ [])
+    (k ∙ ap (λ x. x ++ token.key (codes "next") ∷ token.string (client_text d) ∷ []) h)
     ∙ ap (λ x. token.begin_object ∷ token.key (codes "clients") ∷ token.begin_array ∷ x)
-    (append_assoc (items_tokens (items_outline page)) (token.key (codes "next") ∷ token.string (client_text d) ∷ []) (token.end_object ∷ []))
+    (append_assoc (items_tokens (items_outline page))
+    (token.key (codes "next") ∷ token.string (client_text d) ∷ []) (token.end_object ∷ []))

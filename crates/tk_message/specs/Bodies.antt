@@ -4,7 +4,8 @@
 --   consent_body    {"consent_id":ID} (own)
 --   subject_body    {"subject":SUBJECT} (own)
 --   shown_body      {"client_id":ID,"kind":KIND,"live":LIVE,"scope":SCOPE}, with a member
---                   "refresh":"kept" of a client that keeps its refresh token (own)
+--                   "refresh":"kept" of a client that keeps its refresh token, and members
+--                   "access_life", "family_life" and "refresh_life" of a client with lives (own)
 --   token_body      an access token and a refresh token (RFC 6749, 5.1)
 --   refreshed_body  an access token without a refresh token (RFC 6749, 5.1)
 --   access_body     an active access token (RFC 7662, 2.2)
@@ -12,8 +13,10 @@
 --   standing_body   the body of an active token, by its standing
 --   inactive_body   a token that is not active (RFC 7662, 2.2)
 --   taken_body      {"took":N} (own)
-use Rattle.std.specs.Prelude.{ℕ, Bool, true, false, List, [], ◌∷◌, codes}
-use Rattle.json.specs.Token.{Token, key, string as a_string}
+use Rattle.std.specs.Prelude.{ℕ, Bool, true, false, List, [], ◌∷◌, codes, decimal}
+use Rattle.std.specs.Prelude.{Option, Some, None}
+use Rattle.std.specs.Option.{option_map}
+use Rattle.json.specs.Token.{Token, key, string as a_string, number as a_number}
 use Rattle.serde_json.specs.Data.{
   Data,
   Members,
@@ -37,6 +40,7 @@ use Rattle.tk_fact.specs.declared.client_kind.ClientKind.TheVariants.{
   Resource,
   Keeping,
 }
+use Rattle.tk_fact.specs.declared.client_lives.ClientLives.{ClientLives}
 use Rattle.tk_ledger.specs.StandingFields.{StandingFields}
 
 -- the body of an error (RFC 6749, 5.2)
@@ -73,13 +77,39 @@ abbrev pub refresh_written : ClientKind → List Token
 refresh_written (Keeping digest) = key (codes "refresh") ∷ a_string (codes "kept") ∷ []
 refresh_written client_kind = []
 
+-- the members behind one that is a life of the client in seconds, if the client has lives (own)
+abbrev pub with_life : List ℕ → Option ℕ → Members → Members
+with_life name None rest = rest
+with_life name (Some life) rest = member name (number (unsigned life)) rest
+
+-- the member that is a life of the client, if the client has lives, as it is written (own)
+abbrev pub life_written : List ℕ → Option ℕ → List Token
+life_written name None = []
+life_written name (Some life) = key name ∷ a_number (decimal life) ∷ []
+
+-- the life of an access token of a client with lives (own)
+abbrev pub access_life : Option ClientLives → Option ℕ
+access_life lives = option_map (λ l. l.access) lives
+
+-- the life of a refresh token of a client with lives (own)
+abbrev pub refresh_life : Option ClientLives → Option ℕ
+refresh_life lives = option_map (λ l. l.refresh) lives
+
+-- the life of a family of a client with lives (own)
+abbrev pub family_life : Option ClientLives → Option ℕ
+family_life lives = option_map (λ l. l.family) lives
+
 -- the body that shows a client (own)
-abbrev pub shown_body : Dot → ClientKind → Bool → List ℕ → Data
-shown_body client client_kind live scope = object
+abbrev pub shown_body : Dot → ClientKind → Option ClientLives → Bool → List ℕ → Data
+shown_body client client_kind lives live scope = object
+    (with_life (codes "access_life") (access_life lives)
     (member (codes "client_id") (string (client_text client))
+    (with_life (codes "family_life") (family_life lives)
     (member (codes "kind") (string (kind_name client_kind))
     (member (codes "live") (boolean live)
-    (with_refresh client_kind (member (codes "scope") (string scope) no_members)))))
+    (with_refresh client_kind
+    (with_life (codes "refresh_life") (refresh_life lives)
+    (member (codes "scope") (string scope) no_members))))))))
 
 -- an access token, its life in seconds, a refresh token, and the scope of the access token (RFC
 -- 6749, 5.1 and 7.1)

@@ -29,9 +29,9 @@ use Rattle.tk_message.specs.Bodies.{shown_body}
 abbrev pub page_size : ℕ
 page_size = 128
 
--- a client of the page: its id, kind, whether it is live, and its scope (own)
+-- a client of the page: its id, kind, lives, whether it is live, and its scope (own)
 abbrev pub listed_body : Dot × ClientFields → Data
-listed_body c = shown_body c.0 c.1.client_kind c.1.live c.1.scope
+listed_body c = shown_body c.0 c.1.client_kind c.1.lives c.1.live c.1.scope
 
 -- the first n clients, as items (own)
 abbrev pub listed : ℕ → List (Dot × ClientFields) → Items

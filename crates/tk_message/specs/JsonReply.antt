@@ -52,7 +52,8 @@ status_of reply_of = Ok
 abbrev pub body_of : JsonReply → Data
 body_of (Error code) = error_body (error_name code)
 body_of (Client status client) = client_body client
-body_of (Shown client client_kind live scope) = shown_body client client_kind.now live scope.now
+body_of (Shown client client_kind lives live scope) =
+    shown_body client client_kind.now lives live scope.now
 body_of (Clients ledger after) = clients_body (held_facts ledger.now) after
 body_of (Consent status consent) = consent_body consent
 body_of (Subject subject) = subject_body subject.now

@@ -12,6 +12,7 @@
 --   Reply            json_reply, and the replies without JSON
 --   JsonReply             reply_of, the reply that says something in JSON
 --   Decision         answered, refused, postponed, decisions without a fact; Passes
+--   Lives            lives_within, the lives of what a client gets
 --   Place            next_in, the dot of the next fact
 pub mod Authentication
 pub mod Bodies
@@ -20,6 +21,7 @@ pub mod Choices
 pub mod ClientPage
 pub mod Decision
 pub mod ErrorCode
+pub mod Lives
 pub mod Place
 pub mod Reply
 pub mod ReplyFields

@@ -19,7 +19,7 @@ ghost use Rattle.tk_message.specs.Bodies as spec;
 use crate::object::{begin, end, put_flag, put_handle, put_number, put_text};
 use json::Writer;
 use std::alloc::{AllocError, Global};
-use tk_fact::ClientKind;
+use tk_fact::{ClientKind, ClientLives};
 use tk_handle::{Dot, Handle, client_text, consent_text};
 use tk_ledger::Standing;
 use tk_scope::Scope;
@@ -79,14 +79,15 @@ pub(crate) fn shown_body(
     alloc: Global,
     client: Dot,
     client_kind: &ClientKind,
+    lives: Option<ClientLives>,
     live: bool,
     scope: &Scope,
 ) -> Result<Vec<u8>, AllocError>
     ensures { IfOk result (λ body. body.items
-        ≡ compact_text (spec.shown_body client client_kind.now live scope.now)) }
+        ≡ compact_text (spec.shown_body client client_kind.now lives live scope.now)) }
 {
     let mut out = begin(alloc, scope.text().len().saturating_add(ROOM))?;
-    put_shown(alloc, &mut out, client, client_kind, live, scope)?;
+    put_shown(alloc, &mut out, client, client_kind, lives, live, scope)?;
     end(out)
 }
 
@@ -96,23 +97,42 @@ pub(crate) fn put_shown(
     out: &mut Writer,
     client: Dot,
     client_kind: &ClientKind,
+    lives: Option<ClientLives>,
     live: bool,
     scope: &Scope,
 ) -> Result<(), AllocError>
     ensures ok { OnOk result (out.new.tokens ≡ out.old.tokens
-        ++ key (codes "client_id") ∷ string (client_name client)
-        ∷ key (codes "kind") ∷ string (spec.kind_name client_kind.now)
-        ∷ key (codes "live") ∷ a_flag live
-        ∷ (spec.refresh_written client_kind.now
-        ++ key (codes "scope") ∷ string scope.now ∷ [])) }
+        ++ (spec.life_written (codes "access_life") (spec.access_life lives)
+        ++ (key (codes "client_id") ∷ string (client_name client) ∷ []
+        ++ (spec.life_written (codes "family_life") (spec.family_life lives)
+        ++ (key (codes "kind") ∷ string (spec.kind_name client_kind.now)
+        ∷ key (codes "live") ∷ a_flag live ∷ []
+        ++ (spec.refresh_written client_kind.now
+        ++ (spec.life_written (codes "refresh_life") (spec.refresh_life lives)
+        ++ key (codes "scope") ∷ string scope.now ∷ []))))))) }
     ensures before { OnOk result (out.new.before ≡ out.old.before) }
 {
     let id = client_text(alloc, client)?;
+    put_life(out, "access_life", lives.map(|lives| lives.access))?;
     put_text(out, "client_id", id.as_str())?;
+    put_life(out, "family_life", lives.map(|lives| lives.family))?;
     put_text(out, "kind", kind_name(client_kind))?;
     put_flag(out, "live", live)?;
     put_refresh(out, client_kind)?;
+    put_life(out, "refresh_life", lives.map(|lives| lives.refresh))?;
     put_text(out, "scope", scope.text())
+}
+
+// Writes a member that is a life of a client, if the client has lives.
+fn put_life(out: &mut Writer, name: &str, life: Option<u64>) -> Result<(), AllocError>
+    ensures ok { OnOk result
+        (out.new.tokens ≡ out.old.tokens ++ spec.life_written name.now life) }
+    ensures before { OnOk result (out.new.before ≡ out.old.before) }
+{
+    match life {
+        Some(life) => put_number(out, name, life),
+        None => Ok(()),
+    }
 }
 
 // Writes the member that says that a client keeps its refresh token, if it does.

@@ -44,7 +44,7 @@ pub fn find_caller(
     }
     match Credentials::read(alloc, request.authorization(), &request.params) {
         Ok(credentials) => Ok(caller_by_auth(authenticate(ledger, &credentials))),
-        Err(CredentialsError::Both) => Ok(Caller::MixedCredentials),
+        Err(CredentialsError::Mixed) => Ok(Caller::MixedCredentials),
         Err(CredentialsError::Basic) => Ok(Caller::InvalidClient),
         Err(CredentialsError::Memory) => Err(AllocError),
     }

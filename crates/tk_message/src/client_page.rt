@@ -92,6 +92,14 @@ fn put_client(
 {
     let (client, view) = (client.0, &client.1);
     out.begin_object()?;
-    put_shown(alloc, out, client, view.client_kind, view.live, view.scope)?;
+    put_shown(
+        alloc,
+        out,
+        client,
+        view.client_kind,
+        view.lives,
+        view.live,
+        view.scope,
+    )?;
     out.end_object()
 }

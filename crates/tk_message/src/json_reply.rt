@@ -2,7 +2,7 @@
 
 use crate::error_code::ErrorCode;
 use crate::status_code::StatusCode;
-use tk_fact::{ClientKind, Subject};
+use tk_fact::{ClientKind, ClientLives, Subject};
 use tk_handle::{Dot, Handle};
 use tk_ledger::{Ledger, Standing};
 use tk_scope::Scope;
@@ -14,9 +14,9 @@ pub enum JsonReply<'a> {
     Error(ErrorCode),
     /// The id of the client that was added at the dot (own).
     Client(StatusCode, Dot),
-    /// The client that was added at the dot: its id, kind, whether it is live, whether it keeps its
-    /// refresh token, and its scope (own).
-    Shown(Dot, &'a ClientKind, bool, &'a Scope),
+    /// The client that was added at the dot: its id, kind, lives if it has any, whether it is live,
+    /// whether it keeps its refresh token, and its scope (own).
+    Shown(Dot, &'a ClientKind, Option<ClientLives>, bool, &'a Scope),
     /// A page of the clients of the ledger that are above the dot, or of the first (own).
     Clients(&'a Ledger, Option<Dot>),
     /// The id of the consent that was given at the dot (own).
@@ -84,10 +84,11 @@ impl JsonReply<'_> {
         match self {
             JsonReply::Error(code) => one_text(alloc, "error", code.name()),
             JsonReply::Client(_, client) => client_body(alloc, client),
-            JsonReply::Shown(client, client_kind, live, scope) => shown_body(
+            JsonReply::Shown(client, client_kind, lives, live, scope) => shown_body(
                 alloc,
                 client,
                 client_kind,
+                lives,
                 live,
                 scope,
             ),

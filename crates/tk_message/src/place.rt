@@ -2,9 +2,11 @@
 //! region does if the profile leaves a choice.
 
 ghost use Rattle.std.specs.Prelude.{◌≡◌};
+ghost use Rattle.tk_message.specs.Lives.{lives_within};
 ghost use Rattle.tk_message.specs.Place.{next_in};
 
 use crate::choices::Choices;
+use tk_fact::ClientLives;
 use tk_handle::{Dot, RegionNumber, Serial};
 
 /// How long codes, tokens and families live, in seconds (own).
@@ -18,6 +20,26 @@ pub struct Lives {
     pub refresh: u64,
     /// The life of a family: a code and all tokens that descend from it.
     pub family: u64,
+}
+
+impl Lives {
+    /// Returns the lives of what a client gets that was registered with these lives, if any.
+    ///
+    /// Each life of a token or family is the lesser of the server's and the client's. The life of a
+    /// code is the server's.
+    pub fn bounded_by(&self, client: Option<ClientLives>) -> Lives
+        ensures { result ≡ lives_within self.now client }
+    {
+        match client {
+            None => *self,
+            Some(client) => Lives {
+                code: self.code,
+                access: self.access.min(client.access),
+                refresh: self.refresh.min(client.refresh),
+                family: self.family.min(client.family),
+            },
+        }
+    }
 }
 
 /// The place of a decision (own): a region, the dot of its next fact, the lives of tokens, and the

@@ -1,4 +1,4 @@
-use Rattle.tk_ledger.proofs.TokenLaws.{IsDead-below}
+use Rattle.tk_ledger.proofs.TokenGrowthLaws.{IsDead-below}
 use Rattle.tk_ledger.proofs.laws.death_stays.Goals as goal
 
 pub returns : goal.returns

@@ -1,4 +1,4 @@
-use Rattle.tk_ledger.proofs.TokenLaws.{IsEnded-below}
+use Rattle.tk_ledger.proofs.TokenGrowthLaws.{IsEnded-below}
 use Rattle.tk_ledger.proofs.laws.ended_stays.Goals as goal
 
 pub returns : goal.returns

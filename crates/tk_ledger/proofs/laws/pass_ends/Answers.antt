@@ -1,4 +1,4 @@
-use Rattle.tk_ledger.proofs.SliceLaws.{pass_ends}
+use Rattle.tk_ledger.proofs.SlicePassLaws.{pass_ends}
 use Rattle.tk_ledger.proofs.laws.pass_ends.Goals as goal
 
 pub returns : goal.returns

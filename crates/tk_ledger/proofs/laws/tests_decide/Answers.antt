@@ -14,7 +14,8 @@ pub returns-clause-twice : goal.returns-clause-twice
 returns-clause-twice c = λ F k. (is_twice-sound F k, is_twice-complete F k)
 
 pub returns-clause-revoked : goal.returns-clause-revoked
-returns-clause-revoked c = λ F k digest client. (is_revoked-sound F k digest client, is_revoked-complete F k digest client)
+returns-clause-revoked c =
+    λ F k digest client. (is_revoked-sound F k digest client, is_revoked-complete F k digest client)
 
 pub returns-clause-ended : goal.returns-clause-ended
 returns-clause-ended c = λ F k. (is_ended-sound F k, is_ended-complete F k)

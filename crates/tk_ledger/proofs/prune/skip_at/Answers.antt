@@ -21,14 +21,18 @@ none_there d (Some b) h = absurd (none_is_not_some (at_dot d b) (sym h))
 
 pub unfollow-requires-clause-passes : goal.unfollow-requires-clause-passes
 unfollow-requires-clause-passes c =
-    skipped_passes c.args.store.now c.skip.new.self c.args.dot c.in-Ok.added c.in-Some.fact.now.1 c.change_of-change.result c.in-Ok.ensures.skips
-    (found_body c.args.dot (map.get (held_facts c.args.store.now) c.args.dot) c.in-Some.fact.now (sym (ap option_copied c.in-Some.is) ∙ c.get.ensures))
+    skipped_passes c.args.store.now c.skip.new.self c.args.dot c.in-Ok.added c.in-Some.fact.now.1
+    c.change_of-change.result c.in-Ok.ensures.skips
+    (found_body c.args.dot (map.get (held_facts c.args.store.now) c.args.dot) c.in-Some.fact.now
+    (sym (ap option_copied c.in-Some.is) ∙ c.get.ensures))
     (c.change_of-change.ensures ∙ ap (λ (p : Dot × Body). change_in p.1) c.fact.view_is)
 
 pub unfollow-requires-clause-lost : goal.unfollow-requires-clause-lost
 unfollow-requires-clause-lost c =
-    was_indexed c.args.store.now c.skip.new.self c.args.dot c.in-Ok.added c.in-Some.fact.now.1 c.change_of-change.result c.args.index.now c.in-Ok.ensures.skips
-    (found_body c.args.dot (map.get (held_facts c.args.store.now) c.args.dot) c.in-Some.fact.now (sym (ap option_copied c.in-Some.is) ∙ c.get.ensures))
+    was_indexed c.args.store.now c.skip.new.self c.args.dot c.in-Ok.added c.in-Some.fact.now.1
+    c.change_of-change.result c.args.index.now c.in-Ok.ensures.skips
+    (found_body c.args.dot (map.get (held_facts c.args.store.now) c.args.dot) c.in-Some.fact.now
+    (sym (ap option_copied c.in-Some.is) ∙ c.get.ensures))
     (c.change_of-change.ensures ∙ ap (λ (p : Dot × Body). change_in p.1) c.fact.view_is)
     c.requires
 
@@ -36,6 +40,7 @@ pub returns-in-None-clause-indexed : goal.returns-in-None-clause-indexed
 returns-in-None-clause-indexed c =
     subst (λ (F : FactSet). IsIndexed F c.args.index.now)
     (sym (free_skipped c.args.store.now c.skip-in-None.new.self c.args.dot c.skip-in-None.result
-    (none_there c.args.dot (map.get (held_facts c.args.store.now) c.args.dot) (sym c.get.ensures ∙ ap option_copied c.in-None.is))
+    (none_there c.args.dot (map.get (held_facts c.args.store.now) c.args.dot)
+    (sym c.get.ensures ∙ ap option_copied c.in-None.is))
     c.skip-in-None.ensures.skips))
     c.requires

@@ -11,9 +11,11 @@ returns-in-Some c =
     ap (λ m. nat_le m c.seconds-in-Some.result) c.seconds.ensures.value
     ∙ ap (nat_le c.args.moment) c.seconds-in-Some.ensures.value
     ∙ sym (last_tells (held_facts c.args.facts.now) c.args.subject.now (Some c.in-Some.last)
-    (subst (λ o. IsLastSignOut (map.get (held_facts c.args.facts.now)) c.args.subject.now o) c.in-Some.is c.last_sign_out.ensures) c.args.moment)
+    (subst (λ o. IsLastSignOut (map.get (held_facts c.args.facts.now)) c.args.subject.now o)
+    c.in-Some.is c.last_sign_out.ensures) c.args.moment)
 
 pub returns-in-None : goal.returns-in-None
 returns-in-None c =
     sym (last_tells (held_facts c.args.facts.now) c.args.subject.now None
-    (subst (λ o. IsLastSignOut (map.get (held_facts c.args.facts.now)) c.args.subject.now o) c.in-None.is c.last_sign_out.ensures) c.args.moment)
+    (subst (λ o. IsLastSignOut (map.get (held_facts c.args.facts.now)) c.args.subject.now o)
+    c.in-None.is c.last_sign_out.ensures) c.args.moment)

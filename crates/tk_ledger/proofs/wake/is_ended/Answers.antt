@@ -11,7 +11,15 @@ use Rattle.tk_ledger.proofs.wake.is_ended.Goals as goal
 pub returns : goal.returns
 returns c =
     c.is_ended_by.ensures
-    ∙ ended_same (held_facts c.args.facts.now) c.args.revocations.now c.args.token.now c.requires.revocations _ c.root_above.result
-    ∙ ap (λ m. is_ended_by (held_facts c.args.facts.now) c.args.token.now m c.root_above.result) c.minted_at.ensures
-    ∙ ap (λ r. is_ended_by (held_facts c.args.facts.now) c.args.token.now (minted_in (map.get (held_facts c.args.facts.now)) c.args.token.now) r) c.root_above.ensures
-    ∙ ap (λ (f : Links). is_ended_by (held_facts c.args.facts.now) c.args.token.now (minted_in (map.get (held_facts c.args.facts.now)) c.args.token.now) (root_by (map.get (held_facts c.args.facts.now)) (code_of f (anchor_in (map.get (held_facts c.args.facts.now)) c.args.token.now.dot)))) (λ i q. c.requires.links q i)
+    ∙ ended_same (held_facts c.args.facts.now) c.args.revocations.now c.args.token.now
+    c.requires.revocations _ c.root_above.result
+    ∙ ap (λ m. is_ended_by (held_facts c.args.facts.now) c.args.token.now m c.root_above.result)
+    c.minted_at.ensures
+    ∙ ap (λ r. is_ended_by (held_facts c.args.facts.now) c.args.token.now
+    (minted_in (map.get (held_facts c.args.facts.now)) c.args.token.now) r) c.root_above.ensures
+    ∙ ap (λ (f : Links).
+    is_ended_by (held_facts c.args.facts.now) c.args.token.now
+    (minted_in (map.get (held_facts c.args.facts.now)) c.args.token.now)
+    (root_by (map.get (held_facts c.args.facts.now))
+    (code_of f (anchor_in (map.get (held_facts c.args.facts.now)) c.args.token.now.dot)))) (λ i q.
+    c.requires.links q i)

@@ -5,8 +5,10 @@ use Rattle.tk_ledger.proofs.wake.wake.Goals as goal
 
 pub returns-then-is_some : goal.returns-then-is_some
 returns-then-is_some c =
-    wakes_both (held_facts c.args.facts.now) c.args.forest.now c.write_mark.new.forest c.write_mark-then-is_some.new.forest c.args.at
-    c.write_mark.ensures.links c.write_mark-then-is_some.ensures.links c.write_mark.ensures.marks c.write_mark-then-is_some.ensures.marks
+    wakes_both (held_facts c.args.facts.now) c.args.forest.now c.write_mark.new.forest
+    c.write_mark-then-is_some.new.forest c.args.at
+    c.write_mark.ensures.links c.write_mark-then-is_some.ensures.links c.write_mark.ensures.marks
+    c.write_mark-then-is_some.ensures.marks
 
 pub returns-else-is_some : goal.returns-else-is_some
 returns-else-is_some c =

@@ -6,4 +6,5 @@ use Rattle.tk_ledger.proofs.wake.wake_all.Given as goal
 
 -- the marks at the dots so far are written
 abbrev pub invariant-loop-at : goal.invariant-loop-at
-invariant-loop-at l = Wakes (held_facts l.facts) l.initial.forest (has (take l.at-index l.dots)) l.forest
+invariant-loop-at l =
+    Wakes (held_facts l.facts) l.initial.forest (has (take l.at-index l.dots)) l.forest

@@ -9,4 +9,6 @@ use Rattle.tk_ledger.proofs.wake.wake_codes.Given as goal
 abbrev pub invariant-loop-key : goal.invariant-loop-key
 invariant-loop-key l =
     (l.forest.links ≡ l.fn.forest.links)
-    × ((z : ForestFacts) → Wakes (held_facts l.facts) l.forest (has (dots_of l.key-iterator)) z → Wakes (held_facts l.facts) l.fn.forest (has (dots_of (codes_started l.codes l.subject l.fn.first l.fn.last))) z)
+    × ((z : ForestFacts) → Wakes (held_facts l.facts) l.forest (has (dots_of l.key-iterator)) z
+    → Wakes (held_facts l.facts) l.fn.forest
+    (has (dots_of (codes_started l.codes l.subject l.fn.first l.fn.last))) z)

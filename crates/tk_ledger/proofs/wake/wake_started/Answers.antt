@@ -11,6 +11,9 @@ pub returns-then-first-last : goal.returns-then-first-last
 returns-then-first-last c =
     wakes_as (held_facts c.args.facts.now) c.args.forest.now c.wake_codes.new.forest
     (has (dots_of (codes_started c.args.codes.now c.args.subject.now c.args.first c.args.last)))
-    (λ q. nat_le c.args.first c.args.last && has (dots_of (codes_started c.args.codes.now c.args.subject.now c.args.first c.args.last)) q)
-    (λ q. ap (λ (b : Bool). b && has (dots_of (codes_started c.args.codes.now c.args.subject.now c.args.first c.args.last)) q) (le-leb c.args.first c.args.last c.if-first-last.true))
+    (λ q. nat_le c.args.first c.args.last
+    && has (dots_of (codes_started c.args.codes.now c.args.subject.now c.args.first c.args.last)) q)
+    (λ q. ap (λ (b : Bool).
+    b && has (dots_of (codes_started c.args.codes.now c.args.subject.now c.args.first c.args.last))
+    q) (le-leb c.args.first c.args.last c.if-first-last.true))
     c.wake_codes.ensures

@@ -16,8 +16,10 @@ returns c =
     ∷ key (codes "scope") ∷ string s.scope
     ∷ key (codes "sub") ∷ string s.subject ∷ [] in
     let last = key (codes "token_type") ∷ string (codes "Bearer") ∷ [] in
-    let all = two_of (begin_object ∷ []) c.put_standing.new.out.tokens c.put_text.new.out.tokens shared last
-    (c.in_ok-put_standing.ensures.ok ∙ ap (λ tokens. tokens ++ shared) c.in_ok-out.ensures.tokens) c.in_ok-put_text.ensures.ok in
+    let all =
+    two_of (begin_object ∷ []) c.put_standing.new.out.tokens c.put_text.new.out.tokens shared last
+    (c.in_ok-put_standing.ensures.ok ∙ ap (λ tokens. tokens ++ shared) c.in_ok-out.ensures.tokens)
+    c.in_ok-put_text.ensures.ok in
     c.end.ensures
     (json.member (codes "active") (json.boolean true)
     (json.member (codes "client_id") (json.string (client_text s.client))
@@ -26,5 +28,6 @@ returns c =
     (json.member (codes "scope") (json.string s.scope)
     (json.member (codes "sub") (json.string s.subject)
     (json.member (codes "token_type") (json.string (codes "Bearer")) json.no_members)))))))
-    (c.in_ok-put_text.ensures.before ∙ c.in_ok-put_standing.ensures.before ∙ c.in_ok-out.ensures.before)
+    (c.in_ok-put_text.ensures.before ∙ c.in_ok-put_standing.ensures.before
+    ∙ c.in_ok-out.ensures.before)
     (ap (λ tokens. tokens ++ end_object ∷ []) all)

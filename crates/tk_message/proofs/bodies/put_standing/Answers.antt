@@ -14,7 +14,9 @@ returns-clause-ok c =
     let scope : c.text.result.now ≡ s.scope = search rules in
     let subject : c.as_str-2.result.now ≡ s.subject = search rules in
     on_ok_weaker c.put_text-3.result
-    (λ h. six_of c.args.out.now.tokens c.put_flag.new.out.tokens c.put_text.new.out.tokens c.put_number.new.out.tokens c.put_number-2.new.out.tokens c.put_text-2.new.out.tokens c.put_text-3.new.out.tokens
+    (λ h. six_of c.args.out.now.tokens c.put_flag.new.out.tokens c.put_text.new.out.tokens
+    c.put_number.new.out.tokens c.put_number-2.new.out.tokens c.put_text-2.new.out.tokens
+    c.put_text-3.new.out.tokens
     (key (codes "active") ∷ boolean true ∷ [])
     (key (codes "client_id") ∷ string (client_text s.client) ∷ [])
     (key (codes "exp") ∷ number (decimal s.expiry) ∷ [])
@@ -22,9 +24,13 @@ returns-clause-ok c =
     (key (codes "scope") ∷ string s.scope ∷ [])
     (key (codes "sub") ∷ string s.subject ∷ [])
     c.in_ok-put_flag.ensures.ok
-    (c.in_ok-put_text.ensures.ok ∙ ap (λ x. c.put_flag.new.out.tokens ++ key (codes "client_id") ∷ string x ∷ []) id)
-    (c.in_ok-put_number.ensures.ok ∙ ap (λ x. c.put_text.new.out.tokens ++ key (codes "exp") ∷ number (decimal x) ∷ []) expiry)
-    (c.in_ok-put_number-2.ensures.ok ∙ ap (λ x. c.put_number.new.out.tokens ++ key (codes "iat") ∷ number (decimal x) ∷ []) start)
-    (c.in_ok-put_text-2.ensures.ok ∙ ap (λ x. c.put_number-2.new.out.tokens ++ key (codes "scope") ∷ string x ∷ []) scope)
+    (c.in_ok-put_text.ensures.ok
+    ∙ ap (λ x. c.put_flag.new.out.tokens ++ key (codes "client_id") ∷ string x ∷ []) id)
+    (c.in_ok-put_number.ensures.ok
+    ∙ ap (λ x. c.put_text.new.out.tokens ++ key (codes "exp") ∷ number (decimal x) ∷ []) expiry)
+    (c.in_ok-put_number-2.ensures.ok
+    ∙ ap (λ x. c.put_number.new.out.tokens ++ key (codes "iat") ∷ number (decimal x) ∷ []) start)
+    (c.in_ok-put_text-2.ensures.ok
+    ∙ ap (λ x. c.put_number-2.new.out.tokens ++ key (codes "scope") ∷ string x ∷ []) scope)
     (h ∙ ap (λ x. c.put_text-2.new.out.tokens ++ key (codes "sub") ∷ string x ∷ []) subject))
     c.put_text-3.ensures.ok

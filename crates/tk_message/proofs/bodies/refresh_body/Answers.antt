@@ -22,4 +22,5 @@ returns c =
     (json.member (codes "scope") (json.string s.scope)
     (json.member (codes "sub") (json.string s.subject) json.no_members))))))
     (c.in_ok-put_standing.ensures.before ∙ c.in_ok-out.ensures.before)
-    (ap (λ tokens. tokens ++ end_object ∷ []) (c.in_ok-put_standing.ensures.ok ∙ ap (λ tokens. tokens ++ shared) c.in_ok-out.ensures.tokens))
+    (ap (λ tokens. tokens ++ end_object ∷ [])
+    (c.in_ok-put_standing.ensures.ok ∙ ap (λ tokens. tokens ++ shared) c.in_ok-out.ensures.tokens))

@@ -9,19 +9,23 @@ pub returns : goal.returns
 returns c =
     let scope : c.text-scope.result.now ≡ c.args.scope.now = search rules in
     let first = key (codes "access_token") ∷ string (handle_text c.args.access.now) ∷ [] in
-    let all = four_of (begin_object ∷ []) c.put_handle.new.out.tokens c.put_number.new.out.tokens c.put_text.new.out.tokens c.put_text-2.new.out.tokens
+    let all = four_of (begin_object ∷ []) c.put_handle.new.out.tokens c.put_number.new.out.tokens
+    c.put_text.new.out.tokens c.put_text-2.new.out.tokens
     first
     (key (codes "expires_in") ∷ number (decimal c.args.lifetime) ∷ [])
     (key (codes "scope") ∷ string c.args.scope.now ∷ [])
     (key (codes "token_type") ∷ string (codes "Bearer") ∷ [])
     (c.in_ok-put_handle.ensures.ok ∙ ap (λ tokens. tokens ++ first) c.in_ok-out.ensures.tokens)
     c.in_ok-put_number.ensures.ok
-    (c.in_ok-put_text.ensures.ok ∙ ap (λ x. c.put_number.new.out.tokens ++ key (codes "scope") ∷ string x ∷ []) scope)
+    (c.in_ok-put_text.ensures.ok
+    ∙ ap (λ x. c.put_number.new.out.tokens ++ key (codes "scope") ∷ string x ∷ []) scope)
     c.in_ok-put_text-2.ensures.ok in
     c.end.ensures
     (json.member (codes "access_token") (json.string (handle_text c.args.access.now))
     (json.member (codes "expires_in") (json.number (json.unsigned c.args.lifetime))
     (json.member (codes "scope") (json.string c.args.scope.now)
     (json.member (codes "token_type") (json.string (codes "Bearer")) json.no_members))))
-    (c.in_ok-put_text-2.ensures.before ∙ c.in_ok-put_text.ensures.before ∙ c.in_ok-put_number.ensures.before ∙ c.in_ok-put_handle.ensures.before ∙ c.in_ok-out.ensures.before)
+    (c.in_ok-put_text-2.ensures.before ∙ c.in_ok-put_text.ensures.before
+    ∙ c.in_ok-put_number.ensures.before ∙ c.in_ok-put_handle.ensures.before
+    ∙ c.in_ok-out.ensures.before)
     (ap (λ tokens. tokens ++ end_object ∷ []) all)

@@ -9,7 +9,8 @@ pub returns : goal.returns
 returns c =
     let scope : c.text-scope.result.now ≡ c.args.scope.now = search rules in
     let first = key (codes "access_token") ∷ string (handle_text c.args.access.now) ∷ [] in
-    let all = five_of (begin_object ∷ []) c.put_handle.new.out.tokens c.put_number.new.out.tokens c.put_handle-2.new.out.tokens c.put_text.new.out.tokens c.put_text-2.new.out.tokens
+    let all = five_of (begin_object ∷ []) c.put_handle.new.out.tokens c.put_number.new.out.tokens
+    c.put_handle-2.new.out.tokens c.put_text.new.out.tokens c.put_text-2.new.out.tokens
     first
     (key (codes "expires_in") ∷ number (decimal c.args.lifetime) ∷ [])
     (key (codes "refresh_token") ∷ string (handle_text c.args.refresh.now) ∷ [])
@@ -18,7 +19,8 @@ returns c =
     (c.in_ok-put_handle.ensures.ok ∙ ap (λ tokens. tokens ++ first) c.in_ok-out.ensures.tokens)
     c.in_ok-put_number.ensures.ok
     c.in_ok-put_handle-2.ensures.ok
-    (c.in_ok-put_text.ensures.ok ∙ ap (λ x. c.put_handle-2.new.out.tokens ++ key (codes "scope") ∷ string x ∷ []) scope)
+    (c.in_ok-put_text.ensures.ok
+    ∙ ap (λ x. c.put_handle-2.new.out.tokens ++ key (codes "scope") ∷ string x ∷ []) scope)
     c.in_ok-put_text-2.ensures.ok in
     c.end.ensures
     (json.member (codes "access_token") (json.string (handle_text c.args.access.now))
@@ -26,5 +28,7 @@ returns c =
     (json.member (codes "refresh_token") (json.string (handle_text c.args.refresh.now))
     (json.member (codes "scope") (json.string c.args.scope.now)
     (json.member (codes "token_type") (json.string (codes "Bearer")) json.no_members)))))
-    (c.in_ok-put_text-2.ensures.before ∙ c.in_ok-put_text.ensures.before ∙ c.in_ok-put_handle-2.ensures.before ∙ c.in_ok-put_number.ensures.before ∙ c.in_ok-put_handle.ensures.before ∙ c.in_ok-out.ensures.before)
+    (c.in_ok-put_text-2.ensures.before ∙ c.in_ok-put_text.ensures.before
+    ∙ c.in_ok-put_handle-2.ensures.before ∙ c.in_ok-put_number.ensures.before
+    ∙ c.in_ok-put_handle.ensures.before ∙ c.in_ok-out.ensures.before)
     (ap (λ tokens. tokens ++ end_object ∷ []) all)

@@ -12,22 +12,29 @@ use Rattle.tk_message.proofs.client_page.put_clients.Goals as goal
 
 pub returns-in_default-clause-ok : goal.returns-in_default-clause-ok
 returns-in_default-clause-ok c =
-    let none : above (clients_in (held_facts c.args.ledger.now)) c.loop.at ≡ [] = c.in_default.ensures in
+    let none : above (clients_in (held_facts c.args.ledger.now)) c.loop.at ≡ [] =
+    c.in_default.ensures in
     c.in_ok-end_array.ensures.ok
-    ∙ ap (λ (ds : Items). c.loop.out.tokens ++ items_tokens (items_outline ds)) (sym (ap (listed (page_size - c.loop.counter)) none ∙ listed_none (page_size - c.loop.counter)))
+    ∙ ap (λ (ds : Items). c.loop.out.tokens ++ items_tokens (items_outline ds))
+    (sym (ap (listed (page_size - c.loop.counter)) none ∙ listed_none (page_size - c.loop.counter)))
     ∙ c.loop.invariant.2
 
 pub returns-in_default-clause-next : goal.returns-in_default-clause-next
 returns-in_default-clause-next c =
-    let none : above (clients_in (held_facts c.args.ledger.now)) c.loop.at ≡ [] = c.in_default.ensures in
-    sym (ap (cursor_of (page_size - c.loop.counter) c.loop.at) none ∙ cursor_none (page_size - c.loop.counter) c.loop.at) ∙ c.loop.invariant.3
+    let none : above (clients_in (held_facts c.args.ledger.now)) c.loop.at ≡ [] =
+    c.in_default.ensures in
+    sym (ap (cursor_of (page_size - c.loop.counter) c.loop.at) none
+    ∙ cursor_none (page_size - c.loop.counter) c.loop.at)
+    ∙ c.loop.invariant.3
 
 pub loop-preserved : goal.loop-preserved
 loop-preserved c = (
   omega (arith, c.loop-test.true),
   c.in_ok-put_client.ensures.before ∙ c.loop.invariant.1,
-  tokens_more c.loop.out.tokens c.put_client.new.out.tokens _ (page_size - c.loop.counter) _ c.in-Some.next _ _
-      (one_left c.loop.counter c.loop-test.true) c.in-Some.ensures c.in_ok-put_client.ensures.ok c.loop.invariant.2,
+  tokens_more c.loop.out.tokens c.put_client.new.out.tokens _ (page_size - c.loop.counter) _
+      c.in-Some.next _ _
+      (one_left c.loop.counter c.loop-test.true) c.in-Some.ensures c.in_ok-put_client.ensures.ok
+      c.loop.invariant.2,
   cursor_more (page_size - c.loop.counter) _ c.loop.at _ c.in-Some.next _ _
       (one_left c.loop.counter c.loop-test.true) c.in-Some.ensures c.loop.invariant.3,
 )
@@ -36,12 +43,18 @@ pub returns-clause-ok : goal.returns-clause-ok
 returns-clause-ok c =
     let full : page_size ≤ c.loop.counter = omega (arith, c.loop-test.false) in
     c.in_ok-end_array-2.ensures.ok
-    ∙ ap (λ (k : ℕ). c.loop.out.tokens ++ items_tokens (items_outline (listed k (above (clients_in (held_facts c.args.ledger.now)) c.loop.at)))) (sym (none_left c.loop.counter full))
+    ∙ ap (λ (k : ℕ).
+    c.loop.out.tokens
+    ++ items_tokens
+    (items_outline (listed k (above (clients_in (held_facts c.args.ledger.now)) c.loop.at))))
+    (sym (none_left c.loop.counter full))
     ∙ c.loop.invariant.2
 
 pub returns-clause-next : goal.returns-clause-next
 returns-clause-next c =
     let full : page_size ≤ c.loop.counter = omega (arith, c.loop-test.false) in
     c.cursor_at.ensures
-    ∙ ap (λ (k : ℕ). cursor_of k c.loop.at (above (clients_in (held_facts c.args.ledger.now)) c.loop.at)) (sym (none_left c.loop.counter full))
+    ∙ ap (λ (k : ℕ).
+    cursor_of k c.loop.at (above (clients_in (held_facts c.args.ledger.now)) c.loop.at))
+    (sym (none_left c.loop.counter full))
     ∙ c.loop.invariant.3

@@ -11,7 +11,11 @@ use Rattle.tk_message.proofs.client_page.put_clients.Given as goal
 abbrev pub invariant-loop : goal.invariant-loop
 invariant-loop l =
     (l.counter ≤ page_size) × (l.out.before ≡ l.fn.out.before)
-    × (l.out.tokens ++ items_tokens (items_outline (listed (page_size - l.counter) (above (clients_in (held_facts l.ledger)) l.at)))
-    ≡ l.fn.out.tokens ++ items_tokens (items_outline (listed page_size (above (clients_in (held_facts l.ledger)) l.fn.after))))
+    × (l.out.tokens
+    ++ items_tokens
+    (items_outline (listed (page_size - l.counter) (above (clients_in (held_facts l.ledger)) l.at)))
+    ≡ l.fn.out.tokens
+    ++ items_tokens
+    (items_outline (listed page_size (above (clients_in (held_facts l.ledger)) l.fn.after))))
     × (cursor_of (page_size - l.counter) l.at (above (clients_in (held_facts l.ledger)) l.at)
     ≡ cursor_of page_size l.fn.after (above (clients_in (held_facts l.ledger)) l.fn.after))

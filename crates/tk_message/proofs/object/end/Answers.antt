@@ -7,5 +7,6 @@ use Rattle.tk_message.proofs.object.end.Goals as goal
 pub returns : goal.returns
 returns c members none same =
     c.into_inner.ensures.items
-    ∙ ap₂ (λ before tokens. before ++ print tokens) (c.in_ok-end_object.ensures.room.0 ∙ none) (c.in_ok-end_object.ensures.ok ∙ same)
+    ∙ ap₂ (λ before tokens. before ++ print tokens) (c.in_ok-end_object.ensures.room.0 ∙ none)
+    (c.in_ok-end_object.ensures.ok ∙ same)
     ∙ print-outline (object members)

@@ -21,13 +21,18 @@ loop-client-init c =
     ] in
     ap (λ (l : List (Dot × ClientRow)). filter_map (seen (held_facts c.args.self.now)) l)
     (c.into_iter-client-iterator.ensures.into_iter_gives ∙ c.range-client-items.ensures.between tt
-    ∙ ap (λ (b : Bound Dot). entries_between dot_cmp b Unbounded c.self.inside.index.clients.entries) start)
+    ∙ ap (λ (b : Bound Dot).
+    entries_between dot_cmp b Unbounded c.self.inside.index.clients.entries) start)
     ∙ walk_rows (held_facts c.args.self.now) c.self.inside.index.clients
-    (subst (λ (F : FactSet). IsClients F c.self.inside.index.clients) (ap held_facts c.self.view_is) c.self.invariant.clients_are)
+    (subst (λ (F : FactSet). IsClients F c.self.inside.index.clients) (ap held_facts c.self.view_is)
+    c.self.invariant.clients_are)
     c.range-client-items.ensures.ordered c.args.after
 
 pub returns-in-Some-client : goal.returns-in-Some-client
 returns-in-Some-client c =
-    walk_first (held_facts c.args.self.now) c.args.after (c.in-Some-2.client.now, c.in-Some-2.field-0-1.now) c.next.new.self c.in-Some-client.view
+    walk_first (held_facts c.args.self.now) c.args.after
+    (c.in-Some-2.client.now, c.in-Some-2.field-0-1.now) c.next.new.self c.in-Some-client.view
     (sym c.client.ensures ∙ c.in-Some-client.is)
-    (ap (λ (l : List (Dot × ClientRow)). filter_map (seen (held_facts c.args.self.now)) l) (sym c.in-Some-2.ensures.steps) ∙ c.loop-client.invariant)
+    (ap (λ (l : List (Dot × ClientRow)). filter_map (seen (held_facts c.args.self.now)) l)
+    (sym c.in-Some-2.ensures.steps)
+    ∙ c.loop-client.invariant)

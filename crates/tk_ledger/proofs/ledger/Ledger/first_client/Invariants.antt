@@ -8,4 +8,5 @@ use Rattle.tk_ledger.proofs.ledger.Ledger.first_client.Given as goal
 
 -- the clients of the rows that are left are those above the dot
 abbrev pub invariant-loop-client : goal.invariant-loop-client
-invariant-loop-client l = filter_map (seen (held_facts l.self)) l.client-iterator ≡ above (clients_in (held_facts l.self)) l.fn.after
+invariant-loop-client l = filter_map (seen (held_facts l.self)) l.client-iterator
+    ≡ above (clients_in (held_facts l.self)) l.fn.after

@@ -8,4 +8,5 @@ use Rattle.tk_ledger.proofs.ledger.Ledger.is_used.Goals as goal
 pub returns-clause-value : goal.returns-clause-value
 returns-clause-value c =
     subst (λ (F : FactSet). c.used.result ≡ is_used F c.args.token) (ap held_facts c.self.view_is)
-    (used_says (held_facts c.self.inside.store) c.self.inside.index.forest c.args.token c.used.result c.self.invariant.tied c.used.ensures.used)
+    (used_says (held_facts c.self.inside.store) c.self.inside.index.forest c.args.token
+    c.used.result c.self.invariant.tied c.used.ensures.used)

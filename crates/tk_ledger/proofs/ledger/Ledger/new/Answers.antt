@@ -5,4 +5,5 @@ use Rattle.tk_ledger.specs.Index.{IsIndexed}
 use Rattle.tk_ledger.proofs.ledger.Ledger.new.Goals as goal
 
 pub invariant_of-result : goal.invariant_of-result
-invariant_of-result c = subst (λ (F : FactSet). IsIndexed F c.new-2.result) (sym (empty_held c.new.result c.new.ensures)) c.new-2.ensures
+invariant_of-result c = subst (λ (F : FactSet). IsIndexed F c.new-2.result)
+    (sym (empty_held c.new.result c.new.ensures)) c.new-2.ensures

@@ -7,4 +7,5 @@ use Rattle.tk_ledger.proofs.ledger.Ledger.prune.Goals as goal
 pub skip_all-requires-clause-may : goal.skip_all-requires-clause-may
 skip_all-requires-clause-may c =
     all_may_go c.self.inside.store c.later-horizon.result (has c.deref.result.now)
-    (λ d h. c.in_ok-dots.ensures.over d (subst (λ (ds : List Dot). has ds d ≡ true) c.deref.ensures.value h))
+    (λ d h. c.in_ok-dots.ensures.over d
+    (subst (λ (ds : List Dot). has ds d ≡ true) c.deref.ensures.value h))

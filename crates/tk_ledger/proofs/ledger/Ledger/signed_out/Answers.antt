@@ -9,4 +9,5 @@ use Rattle.tk_ledger.proofs.ledger.Ledger.signed_out.Goals as goal
 pub returns-clause-value : goal.returns-clause-value
 returns-clause-value c = λ moment.
     last_tells (held_facts c.args.self.now) c.args.subject.now c.last_sign_out.result
-    (subst (λ (F : FactSet). IsLastSignOut (map.get F) c.args.subject.now c.last_sign_out.result) (ap held_facts c.self.view_is) c.last_sign_out.ensures) moment
+    (subst (λ (F : FactSet). IsLastSignOut (map.get F) c.args.subject.now c.last_sign_out.result)
+    (ap held_facts c.self.view_is) c.last_sign_out.ensures) moment

@@ -9,7 +9,8 @@ use Rattle.tk_ledger.proofs.HereLaws.{says_here, known_here, live_here, sound_he
 use Rattle.tk_ledger.proofs.ledger.Ledger.status.Goals as goal
 
 pub returns-clause-says : goal.returns-clause-says
-returns-clause-says c = subst (SaysHere c.args.self.now c.args.handle.now) (sym c.of_handle.ensures.value) (says_here c.args.self.now c.args.now c.args.handle.now)
+returns-clause-says c = subst (SaysHere c.args.self.now c.args.handle.now)
+    (sym c.of_handle.ensures.value) (says_here c.args.self.now c.args.now c.args.handle.now)
 
 pub returns-clause-known : goal.returns-clause-known
 returns-clause-known c =
@@ -27,12 +28,15 @@ pub returns-clause-code : goal.returns-clause-code
 returns-clause-code c = λ code active. active.no_code code
 
 pub returns-clause-revoked : goal.returns-clause-revoked
-returns-clause-revoked c = revoked_ends (map.get (held_facts c.args.self.now)) c.args.now c.args.handle.now
+returns-clause-revoked c =
+    revoked_ends (map.get (held_facts c.args.self.now)) c.args.now c.args.handle.now
 
 pub returns-clause-family : goal.returns-clause-family
-returns-clause-family c = family_ends (map.get (held_facts c.args.self.now)) c.args.now c.args.handle.now
+returns-clause-family c =
+    family_ends (map.get (held_facts c.args.self.now)) c.args.now c.args.handle.now
 
 pub returns-clause-sound : goal.returns-clause-sound
 returns-clause-sound c =
     subst (IsSound c.args.now) (sym c.of_handle.ensures.value)
-    (sound_here c.args.self.now c.args.now c.args.handle.now (subst IsFactSet (ap held_facts c.self.view_is) c.known.ensures))
+    (sound_here c.args.self.now c.args.now c.args.handle.now
+    (subst IsFactSet (ap held_facts c.self.view_is) c.known.ensures))
