@@ -33,9 +33,12 @@ decides_alone place now words sent (judged.Refused why) = tt
 decides_alone place now words sent (judged.Denied target why) = tt
 decides_alone place now words sent (judged.Approved target approval) = refl
 
-pub authorizes_alone : (F : FactSet) (place : Place) (now : ℕ) (words : List ℕ) (request : RequestFields)
+pub authorizes_alone : (F : FactSet) (place : Place) (now : ℕ) (words : List ℕ)
+    (request : RequestFields)
     → IfSome (authorization_of F place now words request).made (λ b. names_of b ≡ None)
-authorizes_alone F place now words request = decides_alone place now words (kept_state (value_of (codes "state") request.params)) (judged_of F place.choices.challenge request.params request.subject)
+authorizes_alone F place now words request =
+    decides_alone place now words (kept_state (value_of (codes "state") request.params))
+    (judged_of F place.choices.challenge request.params request.subject)
 
 carried_out_alone : (place : Place) (a : Administered) → MakesAlone (administered_by place a)
 carried_out_alone place (administered.Refused why) = tt
@@ -52,7 +55,8 @@ carried_out_alone place (administered.SignsOut sign_out) = refl
 
 pub administers_alone : (F : FactSet) (place : Place) (now : ℕ) (request : RequestFields)
     → IfSome (administration_of F place now request).made (λ b. names_of b ≡ None)
-administers_alone F place now request = carried_out_alone place (chosen F place.choices (administered_of F now request))
+administers_alone F place now request =
+    carried_out_alone place (chosen F place.choices (administered_of F now request))
 
 lists_none : (F : FactSet) (r : Result (Option Dot) AdminRefusal) → (listed_by F r).made ≡ None
 lists_none F (Err why) = refl

@@ -40,7 +40,8 @@ at_target : (F : FactSet) (params : Pairs) (target : Target) (approval : Result 
 at_target F params target (Ok approval) known = known
 at_target F params target (Err why) known = known
 
-by_redirect : (F : FactSet) (rules : ChallengeRules) (params : Pairs) (subject : Option (List ℕ)) (client : Dot) (view : ClientFields)
+by_redirect : (F : FactSet) (rules : ChallengeRules) (params : Pairs) (subject : Option (List ℕ))
+    (client : Dot) (view : ClientFields)
     → option_and_then client_in (value_of (codes "client_id") params) ≡ Some client
     → client_view F client ≡ Some view → view.live ≡ true → (p : Picked)
     → picked view.redirects (value_of (codes "redirect_uri") params) ≡ p
@@ -48,7 +49,7 @@ by_redirect : (F : FactSet) (rules : ChallengeRules) (params : Pairs) (subject :
 by_redirect F rules params subject client view named added live Missing is = tt
 by_redirect F rules params subject client view named added live Unknown is = tt
 by_redirect F rules params subject client view named added live (Uri uri) is =
-    at_target F params (target_of client uri params) _ (record {
+    at_target F params (target_of client view.lives uri params) _ (record {
       client = client;
       view = view;
       named = named;
@@ -58,59 +59,89 @@ by_redirect F rules params subject client view named added live (Uri uri) is =
       registered = picked_matches view.redirects (value_of (codes "redirect_uri") params) uri is;
     })
 
-by_live : (F : FactSet) (rules : ChallengeRules) (params : Pairs) (subject : Option (List ℕ)) (client : Dot) (view : ClientFields)
+by_live : (F : FactSet) (rules : ChallengeRules) (params : Pairs) (subject : Option (List ℕ))
+    (client : Dot) (view : ClientFields)
     → option_and_then client_in (value_of (codes "client_id") params) ≡ Some client
     → client_view F client ≡ Some view → (b : Bool) → view.live ≡ b
-    → LeadsTo F params (if b then judged_by_redirect F rules params subject client view (picked view.redirects (value_of (codes "redirect_uri") params)) else Refused refusal.RetiredClient)
-by_live F rules params subject client view named added true live = by_redirect F rules params subject client view named added live _ refl
+    → LeadsTo F params
+    (if b then judged_by_redirect F rules params subject client view
+    (picked view.redirects (value_of (codes "redirect_uri") params)) else Refused
+    refusal.RetiredClient)
+by_live F rules params subject client view named added true live =
+    by_redirect F rules params subject client view named added live _ refl
 by_live F rules params subject client view named added false live = tt
 
-by_view : (F : FactSet) (rules : ChallengeRules) (params : Pairs) (subject : Option (List ℕ)) (client : Dot)
+by_view : (F : FactSet) (rules : ChallengeRules) (params : Pairs) (subject : Option (List ℕ))
+    (client : Dot)
     → option_and_then client_in (value_of (codes "client_id") params) ≡ Some client
     → (v : Option ClientFields) → client_view F client ≡ v
     → LeadsTo F params (judged_by_view F rules params subject client v)
 by_view F rules params subject client named None added = tt
-by_view F rules params subject client named (Some view) added = by_live F rules params subject client view named added view.live refl
+by_view F rules params subject client named (Some view) added =
+    by_live F rules params subject client view named added view.live refl
 
-by_client : (F : FactSet) (rules : ChallengeRules) (params : Pairs) (subject : Option (List ℕ)) (d : Option Dot)
+by_client : (F : FactSet) (rules : ChallengeRules) (params : Pairs) (subject : Option (List ℕ))
+    (d : Option Dot)
     → option_and_then client_in (value_of (codes "client_id") params) ≡ d
     → LeadsTo F params (judged_by_client F rules params subject d)
 by_client F rules params subject None named = tt
-by_client F rules params subject (Some client) named = by_view F rules params subject client named (client_view F client) refl
+by_client F rules params subject (Some client) named =
+    by_view F rules params subject client named (client_view F client) refl
 
-by_id : (F : FactSet) (rules : ChallengeRules) (params : Pairs) (subject : Option (List ℕ)) (id : Option (List ℕ))
+by_id : (F : FactSet) (rules : ChallengeRules) (params : Pairs) (subject : Option (List ℕ))
+    (id : Option (List ℕ))
     → value_of (codes "client_id") params ≡ id
     → LeadsTo F params (judged_by_id F rules params subject id)
 by_id F rules params subject None is = tt
-by_id F rules params subject (Some id) is = by_client F rules params subject (client_in id) (ap (option_and_then client_in) is)
+by_id F rules params subject (Some id) is =
+    by_client F rules params subject (client_in id) (ap (option_and_then client_in) is)
 
-by_duplicate : (F : FactSet) (rules : ChallengeRules) (params : Pairs) (subject : Option (List ℕ)) (b : Bool)
-    → LeadsTo F params (if b then Refused refusal.DuplicateClientOrRedirect else judged_by_id F rules params subject (value_of (codes "client_id") params))
+by_duplicate : (F : FactSet) (rules : ChallengeRules) (params : Pairs) (subject : Option (List ℕ))
+    (b : Bool)
+    → LeadsTo F params
+    (if b then Refused refusal.DuplicateClientOrRedirect else judged_by_id F rules params subject
+    (value_of (codes "client_id") params))
 by_duplicate F rules params subject true = tt
 by_duplicate F rules params subject false = by_id F rules params subject _ refl
 
 -- a redirect leads to the URI that it is made of
 redirect_leads : (F : FactSet) (params : Pairs) (uri name value : List ℕ) (state : Option (List ℕ))
     → IsRegistered F params uri → LeadsToClient F params (redirect_reply uri name value state)
-redirect_leads F params uri name value None known = record { uri = uri; known = known; first = (name, value); others = []; location_is = refl }
-redirect_leads F params uri name value (Some state) known = record { uri = uri; known = known; first = (name, value); others = (codes "state", state) ∷ []; location_is = refl }
+redirect_leads F params uri name value None known =
+    record { uri = uri; known = known; first = (name, value); others = []; location_is = refl }
+redirect_leads F params uri name value (Some state) known = record {
+  uri = uri;
+  known = known;
+  first = (name, value);
+  others = (codes "state", state) ∷ [];
+  location_is = refl;
+}
 
 -- the reply leads to the URI that the judgement leads to
-decided_leads : (F : FactSet) (params : Pairs) (place : Place) (now : ℕ) (words : List ℕ) (state : Option (List ℕ)) (judged : Judged)
+decided_leads : (F : FactSet) (params : Pairs) (place : Place) (now : ℕ) (words : List ℕ)
+    (state : Option (List ℕ)) (judged : Judged)
     → LeadsTo F params judged
     → LeadsToClient F params (decided_by place now words state judged).reply
 decided_leads F params place now words state (Refused why) known = tt
-decided_leads F params place now words state (Denied target why) known = redirect_leads F params target.uri _ _ state known
-decided_leads F params place now words state (Approved target approval) known = redirect_leads F params target.uri _ _ state known
+decided_leads F params place now words state (Denied target why) known =
+    redirect_leads F params target.uri _ _ state known
+decided_leads F params place now words state (Approved target approval) known =
+    redirect_leads F params target.uri _ _ state known
 
 -- the reply to an authorisation request leads to a URI that matches a registered one, or to no URI
 leads : (F : FactSet) (place : Place) (now : ℕ) (words : List ℕ) (request : RequestFields)
     → LeadsToClient F request.params (authorization_of F place now words request).reply
 leads F place now words request =
-    decided_leads F request.params place now words _ (judged_of F place.choices.challenge request.params request.subject) (by_duplicate F place.choices.challenge request.params request.subject (has_twice target_names request.params))
+    decided_leads F request.params place now words _
+    (judged_of F place.choices.challenge request.params request.subject)
+    (by_duplicate F place.choices.challenge request.params request.subject
+    (has_twice target_names request.params))
 
-pub decision_leads : (F : FactSet) (place : Place) (now : ℕ) (words : List ℕ) (request : RequestFields) (r : Result Decision AllocError)
+pub decision_leads : (F : FactSet) (place : Place) (now : ℕ) (words : List ℕ)
+    (request : RequestFields) (r : Result Decision AllocError)
     → IfOk r (λ d. d ≡ authorization_of F place now words request)
     → IfOk r (λ d. LeadsToClient F request.params d.reply)
-decision_leads F place now words request (Ok d) is = subst (λ (x : Decision). LeadsToClient F request.params x.reply) (sym is) (leads F place now words request)
+decision_leads F place now words request (Ok d) is =
+    subst (λ (x : Decision). LeadsToClient F request.params x.reply) (sym is)
+    (leads F place now words request)
 decision_leads F place now words request (Err e) is = tt

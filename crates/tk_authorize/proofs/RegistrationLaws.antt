@@ -22,7 +22,8 @@ registrable uris h = by_refusal (redirects_refusal uris) (list_all is_registrabl
 pub registered_list : (uris us : List (List ℕ)) → client_refusal uris ≡ None
     → redirects_of uris ≡ Some us → Some us ≡ registered uris
 registered_list uris us h r =
-    let same : Some uris ≡ Some us = ap (λ o. cond (is_none o) (Some uris) None) (sym (registrable uris h)) ∙ r in
+    let same : Some uris ≡ Some us =
+    ap (λ o. cond (is_none o) (Some uris) None) (sym (registrable uris h)) ∙ r in
     sym same ∙ ap (λ o. cond (is_none o) (Some uris) None) (sym h)
 
 -- a list with an error is not registered

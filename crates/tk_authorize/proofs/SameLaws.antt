@@ -60,47 +60,71 @@ use Rattle.tk_authorize.specs.declared.refusal.Refusal.TheVariants as refusal
 
 -- ---- authorisation requests
 
-module _ (F G : FactSet) (views : (d : Dot) → client_view F d ≡ client_view G d) (grants : (client : Dot) (subject scope : List ℕ) → consent_for F client subject scope ≡ consent_for G client subject scope) where
+module _ (F G : FactSet) (views : (d : Dot) → client_view F d ≡ client_view G d)
+    (grants : (client : Dot) (subject scope : List ℕ)
+    → consent_for F client subject scope ≡ consent_for G client subject scope) where
   approval_same : (client : Dot) (subject : Option (List ℕ)) (r : Result Asked Denial)
       → approval_of F client subject r ≡ approval_of G client subject r
   approval_same client subject (Err why) = refl
   approval_same client None (Ok asked) = refl
   approval_same client (Some subject) (Ok asked) =
-      ap (λ (o : Option Dot). cond (is_subject subject) (approval_by_consent subject asked o) (Err denial.MalformedSubject)) (grants client subject asked.scope)
+      ap (λ (o : Option Dot).
+      cond (is_subject subject) (approval_by_consent subject asked o) (Err denial.MalformedSubject))
+      (grants client subject asked.scope)
 
-  redirect_same : (rules : ChallengeRules) (params : Pairs) (subject : Option (List ℕ)) (client : Dot) (view : ClientFields) (x : Picked)
-      → judged_by_redirect F rules params subject client view x ≡ judged_by_redirect G rules params subject client view x
+  redirect_same : (rules : ChallengeRules) (params : Pairs) (subject : Option (List ℕ))
+      (client : Dot) (view : ClientFields) (x : Picked)
+      → judged_by_redirect F rules params subject client view x
+      ≡ judged_by_redirect G rules params subject client view x
   redirect_same rules params subject client view Missing = refl
   redirect_same rules params subject client view Unknown = refl
-  redirect_same rules params subject client view (Uri uri) = ap (judged_at (target_of client uri params)) (approval_same client subject (asked_of rules view.client_kind view.scope params))
+  redirect_same rules params subject client view (Uri uri) =
+      ap (judged_at (target_of client view.lives uri params))
+      (approval_same client subject (asked_of rules view.client_kind view.scope params))
 
-  view_same : (rules : ChallengeRules) (params : Pairs) (subject : Option (List ℕ)) (client : Dot) (o : Option ClientFields)
-      → judged_by_view F rules params subject client o ≡ judged_by_view G rules params subject client o
+  view_same : (rules : ChallengeRules) (params : Pairs) (subject : Option (List ℕ)) (client : Dot)
+      (o : Option ClientFields)
+      → judged_by_view F rules params subject client o
+      ≡ judged_by_view G rules params subject client o
   view_same rules params subject client None = refl
   view_same rules params subject client (Some view) =
-      ap (λ (x : Judged). cond view.live x (Refused refusal.RetiredClient)) (redirect_same rules params subject client view (picked view.redirects (value_of (codes "redirect_uri") params)))
+      ap (λ (x : Judged). cond view.live x (Refused refusal.RetiredClient))
+      (redirect_same rules params subject client view
+      (picked view.redirects (value_of (codes "redirect_uri") params)))
 
-  client_same : (rules : ChallengeRules) (params : Pairs) (subject : Option (List ℕ)) (o : Option Dot)
+  client_same : (rules : ChallengeRules) (params : Pairs) (subject : Option (List ℕ))
+      (o : Option Dot)
       → judged_by_client F rules params subject o ≡ judged_by_client G rules params subject o
   client_same rules params subject None = refl
-  client_same rules params subject (Some client) = ap (judged_by_view F rules params subject client) (views client) ∙ view_same rules params subject client (client_view G client)
+  client_same rules params subject (Some client) =
+      ap (judged_by_view F rules params subject client) (views client)
+      ∙ view_same rules params subject client (client_view G client)
 
-  id_same : (rules : ChallengeRules) (params : Pairs) (subject : Option (List ℕ)) (o : Option (List ℕ))
+  id_same : (rules : ChallengeRules) (params : Pairs) (subject : Option (List ℕ))
+      (o : Option (List ℕ))
       → judged_by_id F rules params subject o ≡ judged_by_id G rules params subject o
   id_same rules params subject None = refl
   id_same rules params subject (Some id) = client_same rules params subject (client_in id)
 
-pub authorizations_same : (F G : FactSet) (place : Place) (now : ℕ) (words : List ℕ) (request : RequestFields)
+pub authorizations_same : (F G : FactSet) (place : Place) (now : ℕ) (words : List ℕ)
+    (request : RequestFields)
     → ((d : Dot) → client_view F d ≡ client_view G d)
-    → ((client : Dot) (subject scope : List ℕ) → consent_for F client subject scope ≡ consent_for G client subject scope)
+    → ((client : Dot) (subject scope : List ℕ)
+    → consent_for F client subject scope ≡ consent_for G client subject scope)
     → authorization_of F place now words request ≡ authorization_of G place now words request
 authorizations_same F G place now words request views grants =
-    ap (λ (x : Judged). decided_by place now words (kept_state (value_of (codes "state") request.params)) (cond (has_twice target_names request.params) (Refused refusal.DuplicateClientOrRedirect) x))
-    (id_same F G views grants place.choices.challenge request.params request.subject (value_of (codes "client_id") request.params))
+    ap (λ (x : Judged).
+    decided_by place now words (kept_state (value_of (codes "state") request.params))
+    (cond (has_twice target_names request.params) (Refused refusal.DuplicateClientOrRedirect) x))
+    (id_same F G views grants place.choices.challenge request.params request.subject
+    (value_of (codes "client_id") request.params))
 
 -- ---- administration requests
 
-module _ (F G : FactSet) (now : ℕ) (views : (d : Dot) → client_view F d ≡ client_view G d) (consents : (d : Dot) → consent_view F d ≡ consent_view G d) (outs : (subject : List ℕ) (moment : ℕ) → is_signed_out F subject moment ≡ is_signed_out G subject moment) where
+module _ (F G : FactSet) (now : ℕ) (views : (d : Dot) → client_view F d ≡ client_view G d)
+    (consents : (d : Dot) → consent_view F d ≡ consent_view G d)
+    (outs : (subject : List ℕ) (moment : ℕ)
+    → is_signed_out F subject moment ≡ is_signed_out G subject moment) where
   shown_same : (r : Result Dot AdminRefusal) → shown_by F r ≡ shown_by G r
   shown_same (Err why) = refl
   shown_same (Ok d) = ap (shown_at d) (views d)
@@ -112,14 +136,16 @@ module _ (F G : FactSet) (now : ℕ) (views : (d : Dot) → client_view F d ≡ 
   consented_to_same : (subject scope : List ℕ) (o : Option Dot)
       → consented_to F subject scope o ≡ consented_to G subject scope o
   consented_to_same subject scope None = refl
-  consented_to_same subject scope (Some client) = ap (consented_at client subject scope) (views client)
+  consented_to_same subject scope (Some client) =
+      ap (consented_at client subject scope) (views client)
 
   consented_same : (id subject scope : Option (List ℕ))
       → consented_by F id subject scope ≡ consented_by G id subject scope
   consented_same None subject scope = refl
   consented_same (Some id) None scope = refl
   consented_same (Some id) (Some subject) None = refl
-  consented_same (Some id) (Some subject) (Some scope) = consented_to_same subject scope (client_in id)
+  consented_same (Some id) (Some subject) (Some scope) =
+      consented_to_same subject scope (client_in id)
 
   withdrawn_to_same : (o : Option Dot) → withdrawn_to F o ≡ withdrawn_to G o
   withdrawn_to_same None = refl
@@ -132,7 +158,10 @@ module _ (F G : FactSet) (now : ℕ) (views : (d : Dot) → client_view F d ≡ 
   signed_out_same : (o : Option (List ℕ)) → signed_out_by F now o ≡ signed_out_by G now o
   signed_out_same None = refl
   signed_out_same (Some subject) =
-      ap (λ t. cond (is_subject subject) (cond t (administered.AlreadyOut subject) (administered.SignsOut (record { subject = subject; moment = now }))) (administered.Refused MalformedSubject)) (outs subject now)
+      ap (λ t. cond (is_subject subject)
+      (cond t (administered.AlreadyOut subject)
+      (administered.SignsOut (record { subject = subject; moment = now })))
+      (administered.Refused MalformedSubject)) (outs subject now)
 
   administered_same : (e : Endpoint) (params : Pairs)
       → administered_at e F now params ≡ administered_at e G now params
@@ -145,17 +174,28 @@ module _ (F G : FactSet) (now : ℕ) (views : (d : Dot) → client_view F d ≡ 
   administered_same endpoint.ListClients params = refl
   administered_same endpoint.Retire params = retired_same (client_named params)
   administered_same endpoint.Consent params =
-      ap (λ (x : Administered). cond (has_twice consent_names params) (administered.Refused DuplicateParameter) x)
-      (consented_same (value_of (codes "client_id") params) (value_of (codes "subject") params) (value_of (codes "scope") params))
-  administered_same endpoint.Withdraw params = ap (λ (x : Administered). cond (has_twice withdrawal_names params) (administered.Refused DuplicateParameter) x) (withdrawn_same (value_of (codes "consent_id") params))
-  administered_same endpoint.SignOut params = ap (λ (x : Administered). cond (has_twice sign_out_names params) (administered.Refused DuplicateParameter) x) (signed_out_same (value_of (codes "subject") params))
+      ap (λ (x : Administered).
+      cond (has_twice consent_names params) (administered.Refused DuplicateParameter) x)
+      (consented_same (value_of (codes "client_id") params) (value_of (codes "subject") params)
+      (value_of (codes "scope") params))
+  administered_same endpoint.Withdraw params =
+      ap (λ (x : Administered).
+      cond (has_twice withdrawal_names params) (administered.Refused DuplicateParameter) x)
+      (withdrawn_same (value_of (codes "consent_id") params))
+  administered_same endpoint.SignOut params =
+      ap (λ (x : Administered).
+      cond (has_twice sign_out_names params) (administered.Refused DuplicateParameter) x)
+      (signed_out_same (value_of (codes "subject") params))
 
 -- judgements by the choices
-module _ (F G : FactSet) (grants : (client : Dot) (subject scope : List ℕ) → consent_for F client subject scope ≡ consent_for G client subject scope) where
+module _ (F G : FactSet)
+    (grants : (client : Dot) (subject scope : List ℕ)
+    → consent_for F client subject scope ≡ consent_for G client subject scope) where
   again_same : (choice : ConsentReuse) (consent : given.ConsentGiven)
       → consented_again F choice consent ≡ consented_again G choice consent
   again_same New consent = refl
-  again_same Held consent = ap (λ (o : Option Dot). held_or_given o consent) (grants consent.client consent.subject consent.scope)
+  again_same Held consent = ap (λ (o : Option Dot). held_or_given o consent)
+      (grants consent.client consent.subject consent.scope)
 
   chosen_same : (choices : Choices) (a : Administered) → chosen F choices a ≡ chosen G choices a
   chosen_same choices (administered.Consents consent) = again_same choices.consent consent
@@ -171,12 +211,16 @@ module _ (F G : FactSet) (grants : (client : Dot) (subject scope : List ℕ) →
 pub administrations_same : (F G : FactSet) (place : Place) (now : ℕ) (request : RequestFields)
     → ((d : Dot) → client_view F d ≡ client_view G d)
     → ((d : Dot) → consent_view F d ≡ consent_view G d)
-    → ((subject : List ℕ) (moment : ℕ) → is_signed_out F subject moment ≡ is_signed_out G subject moment)
-    → ((client : Dot) (subject scope : List ℕ) → consent_for F client subject scope ≡ consent_for G client subject scope)
+    → ((subject : List ℕ) (moment : ℕ)
+    → is_signed_out F subject moment ≡ is_signed_out G subject moment)
+    → ((client : Dot) (subject scope : List ℕ)
+    → consent_for F client subject scope ≡ consent_for G client subject scope)
     → administration_of F place now request ≡ administration_of G place now request
 administrations_same F G place now request views consents outs grants =
-    ap (λ (a : Administered). administered_by place (chosen F place.choices a)) (administered_same F G now views consents outs request.endpoint request.params)
-    ∙ ap (administered_by place) (chosen_same F G grants place.choices (administered_of G now request))
+    ap (λ (a : Administered). administered_by place (chosen F place.choices a))
+    (administered_same F G now views consents outs request.endpoint request.params)
+    ∙ ap (administered_by place)
+    (chosen_same F G grants place.choices (administered_of G now request))
 
 -- ---- pages of clients
 
@@ -186,4 +230,5 @@ listings_same F G params views = by_cursor (after_named params)
   where
     by_cursor : (r : Result (Option Dot) AdminRefusal) → listed_by F r ≡ listed_by G r
     by_cursor (Err why) = refl
-    by_cursor (Ok after) = ap (λ (m : map.FinMap dot_cmp ClientFields). answered (json_reply status.Ok (page_body after (above m after)))) (clients_same F G views)
+    by_cursor (Ok after) = ap (λ (m : map.FinMap dot_cmp ClientFields).
+        answered (json_reply status.Ok (page_body after (above m after)))) (clients_same F G views)

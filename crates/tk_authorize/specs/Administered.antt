@@ -42,6 +42,7 @@ use Rattle.tk_fact.specs.declared.client_kind.ClientKind.TheVariants.{
   Resource,
   Keeping,
 }
+use Rattle.tk_fact.specs.declared.client_lives.ClientLives.{ClientLives}
 use Rattle.tk_fact.specs.Subject.{is_visible, is_subject}
 use Rattle.tk_store.specs.FactSet.{FactSet}
 use Rattle.tk_ledger.specs.SignOuts.{is_signed_out}
@@ -52,6 +53,7 @@ use Rattle.tk_message.specs.declared.request.Endpoint.{Endpoint}
 use Rattle.tk_message.specs.declared.request.Endpoint.TheVariants as endpoint
 use Rattle.tk_message.specs.RequestFields.{RequestFields}
 use Rattle.tk_message.specs.ScopeAsked.{scope_asked}
+use Rattle.tk_authorize.specs.Lives.{lives_sent, lives_allowed}
 use Rattle.tk_authorize.specs.declared.admin_refusal.AdminRefusal.{AdminRefusal}
 use Rattle.tk_authorize.specs.declared.admin_refusal.AdminRefusal.TheVariants.{
   DuplicateParameter,
@@ -154,37 +156,52 @@ registered uris = if is_none (client_refusal uris) then Some uris else None
 
 -- the judgement of a new client by its redirection URIs, which must be a list to be registered (RFC
 -- 6749, 3.1.2.2)
-abbrev pub registered_to : ClientKind → List ℕ → Option (List (List ℕ)) → Administered
-registered_to client_kind scope None = Refused BadRedirects
-registered_to client_kind scope (Some uris) =
-    Registers (record { client_kind = client_kind; scope = scope; redirects = uris })
+abbrev pub registered_to : ClientKind → Option ClientLives → List ℕ → Option (List (List ℕ))
+    → Administered
+registered_to client_kind lives scope None = Refused BadRedirects
+registered_to client_kind lives scope (Some uris) = Registers (record {
+  client_kind = client_kind;
+  scope = scope;
+  redirects = uris;
+  lives = lives;
+})
 
 -- the judgement of a new client by its scope, which must be readable (RFC 6749, 3.3)
-abbrev pub registered_with : ClientKind → Option (List ℕ) → List ℕ → Administered
-registered_with client_kind None redirects = Refused MalformedScope
-registered_with client_kind (Some scope) redirects =
-    registered_to client_kind scope (registered (slice_split is_space redirects))
+abbrev pub registered_with : ClientKind → Option ClientLives → Option (List ℕ) → List ℕ
+    → Administered
+registered_with client_kind lives None redirects = Refused MalformedScope
+registered_with client_kind lives (Some scope) redirects =
+    registered_to client_kind lives scope (registered (slice_split is_space redirects))
+
+-- the judgement of a new client by its lives, which a resource server may not have (own)
+abbrev pub registered_for : ClientKind → Result (Option ClientLives) AdminRefusal → List ℕ
+    → List ℕ → Administered
+registered_for client_kind (Err why) scope redirects = Refused why
+registered_for client_kind (Ok lives) scope redirects =
+    registered_with client_kind lives (scope_of scope) redirects
 
 -- the judgement of a new client by its kind, with the digest of its secret (own; RFC 6749, 2)
-abbrev pub registered_as : Result ClientKind AdminRefusal → List ℕ → List ℕ → Administered
-registered_as (Err why) scope redirects = Refused why
-registered_as (Ok client_kind) scope redirects =
-    registered_with client_kind (scope_of scope) redirects
+abbrev pub registered_as : Result ClientKind AdminRefusal
+    → Result (Option ClientLives) AdminRefusal → List ℕ → List ℕ → Administered
+registered_as (Err why) lives scope redirects = Refused why
+registered_as (Ok client_kind) lives scope redirects =
+    registered_for client_kind (lives_allowed client_kind lives) scope redirects
 
 -- the judgement of a new client by its parameters: kind, scope and redirection URIs are required
 -- (own; RFC 6749, 2)
 abbrev pub registered_by : Option (List ℕ) → Option (List ℕ) → Option (List ℕ) → Option (List ℕ)
-    → Option (List ℕ) → Administered
-registered_by None scope redirects refresh secret = Refused MissingParameter
-registered_by (Some kind) None redirects refresh secret = Refused MissingParameter
-registered_by (Some kind) (Some scope) None refresh secret = Refused MissingParameter
-registered_by (Some kind) (Some scope) (Some redirects) refresh secret =
-    registered_as (client_kind_asked kind refresh secret) scope redirects
+    → Option (List ℕ) → Result (Option ClientLives) AdminRefusal → Administered
+registered_by None scope redirects refresh secret lives = Refused MissingParameter
+registered_by (Some kind) None redirects refresh secret lives = Refused MissingParameter
+registered_by (Some kind) (Some scope) None refresh secret lives = Refused MissingParameter
+registered_by (Some kind) (Some scope) (Some redirects) refresh secret lives =
+    registered_as (client_kind_asked kind refresh secret) lives scope redirects
 
 -- the names of the parameters that POST /admin/client knows (own)
 abbrev pub registration_names : List (List ℕ)
 registration_names =
-    codes "kind" ∷ codes "refresh" ∷ codes "secret" ∷ codes "scope" ∷ codes "redirects" ∷ []
+    codes "kind" ∷ codes "refresh" ∷ codes "secret" ∷ codes "scope" ∷ codes "redirects"
+    ∷ codes "access_life" ∷ codes "refresh_life" ∷ codes "family_life" ∷ []
 
 -- the judgement of POST /admin/client: no parameter that the endpoint knows may occur twice (own;
 -- RFC 6749, 2)
@@ -193,7 +210,7 @@ registered_of params =
     if has_twice registration_names params then Refused DuplicateParameter
     else registered_by (value_of (codes "kind") params) (value_of (codes "scope") params)
     (value_of (codes "redirects") params) (value_of (codes "refresh") params)
-    (value_of (codes "secret") params)
+    (value_of (codes "secret") params) (lives_sent params)
 
 -- ---- the client that an id names: show it, retire it
 
@@ -224,6 +241,7 @@ shown_at d (Some client) =
     Shows (record {
       client = d;
       client_kind = client.client_kind;
+      lives = client.lives;
       live = client.live;
       scope = client.scope;
     })

@@ -58,6 +58,7 @@ code_of refusal.WrongRefresh = InvalidRequest
 code_of refusal.UnwantedSecret = InvalidRequest
 code_of refusal.MissingSecret = InvalidRequest
 code_of refusal.MalformedSecret = InvalidRequest
+code_of refusal.WrongLife = InvalidRequest
 code_of refusal.MalformedScope = InvalidScope
 code_of refusal.BadRedirects = InvalidRequest
 code_of refusal.UnknownClient = NotFound
@@ -76,7 +77,8 @@ decided_registered place client = record {
 -- a client is shown (own)
 abbrev pub decided_shown : ShownClient → Decision
 decided_shown client = answered
-    (json_reply status.Ok (shown_body client.client client.client_kind client.live client.scope))
+    (json_reply status.Ok
+    (shown_body client.client client.client_kind client.lives client.live client.scope))
 
 -- a client is retired. A client that is not live makes no fact (own)
 abbrev pub decided_retired : Dot → Bool → Decision

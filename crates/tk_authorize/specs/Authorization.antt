@@ -31,6 +31,7 @@ use Rattle.tk_message.specs.declared.place.Place.{Place}
 use Rattle.tk_message.specs.declared.reply.Reply.{Reply}
 use Rattle.tk_message.specs.Decision.{answered, refused}
 use Rattle.tk_message.specs.ErrorCode.{error_name}
+use Rattle.tk_message.specs.Lives.{lives_within}
 use Rattle.tk_message.specs.Place.{next_in}
 use Rattle.tk_message.specs.Reply.{redirect_reply}
 use Rattle.tk_message.specs.RequestFields.{RequestFields}
@@ -55,7 +56,7 @@ code_handle next words = record {
 }
 
 -- the fact that a code was issued. The code and its family start now, and each has its own life
--- (RFC 6749, 4.1.2; the family's life is own)
+-- (RFC 6749, 4.1.2; the family's life, which the client's bounds, is own)
 abbrev pub code_issued : Place → ℕ → Handle → Target → Approval → CodeIssued
 code_issued place now code target approval = record {
   client = target.client;
@@ -63,7 +64,7 @@ code_issued place now code target approval = record {
   digest = digest_of code;
   start = now;
   expiry = moment_plus now place.lives.code;
-  family_end = moment_plus now place.lives.family;
+  family_end = moment_plus now (lives_within place.lives target.lives).family;
   subject = approval.subject;
   scope = approval.scope;
   uri = target.uri;

@@ -19,6 +19,7 @@ use Rattle.std.specs.Prelude.{
 use Rattle.tk_handle.specs.declared.dot.Dot.{Dot}
 use Rattle.tk_handle.specs.ClientId.{client_in}
 use Rattle.tk_match.specs.Pick.{Picked, Uri, Missing, Unknown, picked}
+use Rattle.tk_fact.specs.declared.client_lives.ClientLives.{ClientLives}
 use Rattle.tk_store.specs.FactSet.{FactSet}
 use Rattle.tk_ledger.specs.Views.{client_view}
 use Rattle.tk_ledger.specs.ViewFields.{ClientFields}
@@ -38,11 +39,15 @@ abbrev pub judged_at : Target → Result Approval Denial → Judged
 judged_at target (Err why) = Denied target why
 judged_at target (Ok approval) = Approved target approval
 
--- the client, the URI that the reply goes to, and whether the request named the URI: the token
--- request must repeat it then (RFC 6749, 4.1.3)
-abbrev pub target_of : Dot → List ℕ → Pairs → Target
-target_of client uri params =
-    record { client = client; uri = uri; sent = is_some (value_of (codes "redirect_uri") params) }
+-- the client and its lives, the URI that the reply goes to, and whether the request named the URI:
+-- the token request must repeat it then (RFC 6749, 4.1.3)
+abbrev pub target_of : Dot → Option ClientLives → List ℕ → Pairs → Target
+target_of client lives uri params = record {
+  client = client;
+  lives = lives;
+  uri = uri;
+  sent = is_some (value_of (codes "redirect_uri") params);
+}
 
 -- the judgement by the redirection URI. There must be one, and it must match a registered one (RFC
 -- 6749, 3.1.2.3; RFC 8252, 7.3)
@@ -51,7 +56,7 @@ abbrev pub judged_by_redirect : FactSet → ChallengeRules → Pairs → Option 
 judged_by_redirect F rules params subject client view Missing = Refused refusal.MissingRedirect
 judged_by_redirect F rules params subject client view Unknown = Refused refusal.UnknownRedirect
 judged_by_redirect F rules params subject client view (Uri uri) =
-    judged_at (target_of client uri params)
+    judged_at (target_of client view.lives uri params)
     (approval_of F client subject (asked_of rules view.client_kind view.scope params))
 
 -- the judgement by the client, which must be added (RFC 6749, 4.1.2.1) and not retired (own)

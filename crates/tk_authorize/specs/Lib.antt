@@ -8,6 +8,7 @@
 --   Authorization   authorization_of, the decision of a request
 --   Registered      LeadsToClient, a reply leads to a URI that matches a registered one, or to none
 -- For administration requests:
+--   Lives               lives_sent, the lives that a new client is registered with
 --   Administered        administered_of, the cases of each endpoint in their order
 --   Chosen              chosen, a judgement by the region's choices
 --   Administration      administration_of, the decision of a request
@@ -23,6 +24,7 @@ pub mod Chosen
 pub mod Denial
 pub mod Judged
 pub mod Listing
+pub mod Lives
 pub mod Refusal
 pub mod Registered
 pub mod SoundAdministered

@@ -23,6 +23,8 @@ pub(crate) enum AdminRefusal {
     MissingSecret,
     /// The secret is not 1 to 128 visible ASCII bytes.
     MalformedSecret,
+    /// A life is no number of seconds, 0 or above its range, or one was sent for a resource server.
+    WrongLife,
     /// The scope can't be read (RFC 6749, 3.3).
     MalformedScope,
     /// There is no redirection URI, there are too many, or one may not be registered (RFC 6749,
@@ -53,6 +55,7 @@ impl AdminRefusal {
             | AdminRefusal::UnwantedSecret
             | AdminRefusal::MissingSecret
             | AdminRefusal::MalformedSecret
+            | AdminRefusal::WrongLife
             | AdminRefusal::BadRedirects
             | AdminRefusal::MalformedSubject => ErrorCode::InvalidRequest,
             AdminRefusal::MalformedScope | AdminRefusal::WrongScope => ErrorCode::InvalidScope,

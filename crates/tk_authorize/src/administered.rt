@@ -1,7 +1,7 @@
 //! Judgements of administration requests, by their endpoint.
 
 use crate::admin_refusal::AdminRefusal;
-use tk_fact::{ClientAdded, ClientKind, ConsentGiven, Subject, SubjectOut};
+use tk_fact::{ClientAdded, ClientKind, ClientLives, ConsentGiven, Subject, SubjectOut};
 use tk_handle::Dot;
 use tk_scope::Scope;
 
@@ -29,6 +29,7 @@ pub(crate) enum Administered {
 pub(crate) struct ShownClient {
     pub(crate) client: Dot,
     pub(crate) client_kind: ClientKind,
+    pub(crate) lives: Option<ClientLives>,
     pub(crate) live: bool,
     pub(crate) scope: Scope,
 }

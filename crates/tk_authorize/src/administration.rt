@@ -88,8 +88,15 @@ fn decide_registered(
 fn decide_shown(alloc: Global, shown: &ShownClient) -> Result<Decision, AllocError>
     ensures { IfOk result (λ d. d ≡ spec.decided_shown shown.now) }
 {
-    let told = JsonReply::Shown(shown.client, &shown.client_kind, shown.live, &shown.scope);
-    Ok(Decision::answer(told.reply(alloc)?))
+    let ShownClient {
+        client,
+        client_kind,
+        lives,
+        live,
+        scope,
+    } = shown;
+    let shown = JsonReply::Shown(*client, client_kind, *lives, *live, scope);
+    Ok(Decision::answer(shown.reply(alloc)?))
 }
 
 // Retires a client. A client that is not live makes no fact.

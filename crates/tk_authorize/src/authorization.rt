@@ -148,8 +148,13 @@ fn code_issued(
     ensures passes { refusal_of (Body.CodeIssued result) ≡ None }
 {
     let expiry = later(now, place.lives.code);
-    let family_end = later(now, place.lives.family);
-    let Target { client, uri, sent } = target;
+    let family_end = later(now, place.lives.bounded_by(target.lives).family);
+    let Target {
+        client,
+        lives: _,
+        uri,
+        sent,
+    } = target;
     let Approval {
         consent,
         subject,

@@ -41,6 +41,7 @@ fn show_at(alloc: Global, ledger: &Ledger, client: Dot) -> Result<Administered, 
     Ok(Administered::Shows(ShownClient {
         client,
         client_kind: *view.client_kind,
+        lives: view.lives,
         live: view.live,
         scope,
     }))

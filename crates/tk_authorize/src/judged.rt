@@ -13,15 +13,17 @@ use crate::asked::find_asked;
 use crate::denial::Denial;
 use crate::refusal::Refusal;
 use std::alloc::{AllocError, Global};
+use tk_fact::ClientLives;
 use tk_handle::{Dot, read_client};
 use tk_ledger::Ledger;
 use tk_match::{Pick, RedirectError, Uri};
 use tk_message::{ChallengeRules, Params};
 
-// The URI that the reply goes to, and the client that a code is issued to.
+// The URI that the reply goes to, and the client that a code is issued to, with its lives.
 #[derive(Drop)]
 pub(crate) struct Target {
     pub(crate) client: Dot,
+    pub(crate) lives: Option<ClientLives>,
     pub(crate) uri: Uri,
     // Whether the request named the URI.
     pub(crate) sent: bool,
@@ -111,7 +113,7 @@ fn judge_client(
         Pick::Uri(uri) => {
             let asked = find_asked(alloc, rules, view.client_kind, view.scope, params)?;
             let approval = approve(alloc, ledger, client, subject, asked)?;
-            let target = find_target(alloc, client, uri, named.is_some())?;
+            let target = find_target(alloc, client, view.lives, uri, named.is_some())?;
             Ok(judged_at(target, approval))
         }
         Pick::Missing => Ok(Judged::Refused(Refusal::MissingRedirect)),
@@ -130,16 +132,28 @@ fn bytes_of(text: Option<&str>) -> Option<&[u8]>
 }
 
 // Returns the target at the URI that the request means.
-fn find_target(alloc: Global, client: Dot, uri: &[u8], sent: bool) -> Result<Target, AllocError>
+fn find_target(
+    alloc: Global,
+    client: Dot,
+    lives: Option<ClientLives>,
+    uri: &[u8],
+    sent: bool,
+) -> Result<Target, AllocError>
     requires { is_uri uri.now ≡ true }
     ensures { IfOk result (λ target. target ≡ record {
       client = client;
+      lives = lives;
       uri = uri.now;
       sent = sent;
     }) }
 {
     match Uri::read(alloc, uri) {
-        Ok(uri) => Ok(Target { client, uri, sent }),
+        Ok(uri) => Ok(Target {
+            client,
+            lives,
+            uri,
+            sent,
+        }),
         Err(RedirectError::Memory) => Err(AllocError),
         Err(_) => unreachable!("a URI that is picked is one"),
     }

@@ -13,10 +13,10 @@
 //! requests to `/admin/` is left to the deployment.
 //!
 //! In reading order: `Refusal`, `Denial`, `challenge`, `Asked`, `Approval`, `Judged`,
-//! `decide_authorize`; then `AdminRefusal`, `registration`, `clients`, `consents`, `sign_outs`,
-//! `Administered`, `chosen`, `decide_admin`, `decide_clients`. The definitions are in `specs/`, by
-//! these names; those of administration are in `Administered`, `Chosen`, `Administration` and
-//! `Listing`.
+//! `decide_authorize`; then `AdminRefusal`, `lives`, `registration`, `clients`, `consents`,
+//! `sign_outs`, `Administered`, `chosen`, `decide_admin`, `decide_clients`. The definitions are in
+//! `specs/`, by these names; those of administration are in `Lives`, `Administered`, `Chosen`,
+//! `Administration` and `Listing`.
 #![tactic(auto)]
 
 mod admin_refusal;
@@ -32,6 +32,7 @@ mod consents;
 mod denial;
 mod judged;
 mod listing;
+mod lives;
 mod refusal;
 mod registration;
 mod sign_outs;

@@ -1,8 +1,9 @@
 //! Judgements of requests that add a client (RFC 6749, 2).
 
-ghost use Rattle.std.specs.Prelude.{◌≡◌, IfOk, Ok as Found, Some, map};
+ghost use Rattle.std.specs.Prelude.{◌≡◌, IfOk, IsTrue, Ok as Found, Some, map};
 ghost use Rattle.std.specs.List.{list_all, slice_split};
 ghost use Rattle.std.specs.Option.{option_copied};
+ghost use Rattle.tk_fact.specs.Check.{are_lives};
 ghost use Rattle.tk_fact.specs.Subject.{is_visible};
 ghost use Rattle.tk_params.specs.Params.{has_twice};
 ghost use Rattle.tk_authorize.specs.Administered as spec;
@@ -10,9 +11,10 @@ ghost use Rattle.tk_authorize.specs.SoundAdministered.{IsSoundAdministered};
 
 use crate::admin_refusal::AdminRefusal;
 use crate::administered::Administered;
+use crate::lives::{lives_allowed, lives_sent};
 use sha2::{Digest, Sha256};
 use std::alloc::{AllocError, Global};
-use tk_fact::{ClientAdded, ClientKind};
+use tk_fact::{ClientAdded, ClientKind, ClientLives};
 use tk_match::{RedirectError, Redirects};
 use tk_message::Params;
 use tk_scope::{Scope, ScopeError};
@@ -39,6 +41,7 @@ pub(crate) fn register(alloc: Global, params: &Params) -> Result<Administered, A
         redirects,
         refresh,
         params.value("secret"),
+        lives_sent(params),
     )
 }
 
@@ -46,7 +49,16 @@ pub(crate) fn register(alloc: Global, params: &Params) -> Result<Administered, A
 fn has_repeats(params: &Params) -> bool
     ensures { result ≡ has_twice spec.registration_names params.now }
 {
-    let names = ["kind", "refresh", "secret", "scope", "redirects"];
+    let names = [
+        "kind",
+        "refresh",
+        "secret",
+        "scope",
+        "redirects",
+        "access_life",
+        "refresh_life",
+        "family_life",
+    ];
     params.has_twice(&names)
 }
 
@@ -58,11 +70,13 @@ fn register_by(
     redirects: Option<&str>,
     refresh: Option<&str>,
     secret: Option<&str>,
+    lives: Result<Option<ClientLives>, AdminRefusal>,
 ) -> Result<Administered, AllocError>
+    requires { IfOk lives (λ lives. IsTrue (are_lives lives)) }
     ensures value { IfOk result (λ a.
         a ≡ spec.registered_by (option_copied kind.entry) (option_copied scope.entry)
         (option_copied redirects.entry) (option_copied refresh.entry)
-        (option_copied secret.entry)) }
+        (option_copied secret.entry) lives) }
     ensures sound { IfOk result IsSoundAdministered }
 {
     let Some(kind) = kind else {
@@ -75,7 +89,7 @@ fn register_by(
         return Ok(Administered::Refused(AdminRefusal::MissingParameter));
     };
     match client_kind_asked(kind, refresh, secret) {
-        Ok(client_kind) => register_as(alloc, client_kind, scope, redirects),
+        Ok(client_kind) => register_as(alloc, client_kind, lives, scope, redirects),
         Err(why) => Ok(Administered::Refused(why)),
     }
 }
@@ -210,20 +224,42 @@ fn is_all_visible(secret: &[u8]) -> bool
     secret.iter().all(|b| (0x21..=0x7e).contains(b))
 }
 
-// ---- the scope and the redirection URIs
+// ---- the lives, the scope and the redirection URIs
 
+// Judges a client of a kind, if a client of that kind may have the lives.
 fn register_as(
     alloc: Global,
     client_kind: ClientKind,
+    lives: Result<Option<ClientLives>, AdminRefusal>,
     scope: &str,
     redirects: &str,
 ) -> Result<Administered, AllocError>
+    requires { IfOk lives (λ lives. IsTrue (are_lives lives)) }
     ensures value { IfOk result (λ a. a
-        ≡ spec.registered_as (Found client_kind) scope.now redirects.now) }
+        ≡ spec.registered_as (Found client_kind) lives scope.now redirects.now) }
+    ensures sound { IfOk result IsSoundAdministered }
+{
+    match lives_allowed(&client_kind, lives) {
+        Ok(lives) => register_for(alloc, client_kind, lives, scope, redirects),
+        Err(why) => Ok(Administered::Refused(why)),
+    }
+}
+
+// Judges a client with lives or without, if the text of its scope can be read.
+fn register_for(
+    alloc: Global,
+    client_kind: ClientKind,
+    lives: Option<ClientLives>,
+    scope: &str,
+    redirects: &str,
+) -> Result<Administered, AllocError>
+    requires { IsTrue (are_lives lives) }
+    ensures value { IfOk result (λ a. a
+        ≡ spec.registered_for client_kind (Found lives) scope.now redirects.now) }
     ensures sound { IfOk result IsSoundAdministered }
 {
     match Scope::read(alloc, scope.as_bytes()) {
-        Ok(scope) => register_with(alloc, client_kind, scope, redirects),
+        Ok(scope) => register_with(alloc, client_kind, lives, scope, redirects),
         Err(ScopeError::Memory) => Err(AllocError),
         Err(ScopeError::TooLong) => Ok(Administered::Refused(AdminRefusal::MalformedScope)),
         Err(ScopeError::Malformed) => Ok(Administered::Refused(AdminRefusal::MalformedScope)),
@@ -231,19 +267,21 @@ fn register_as(
     }
 }
 
-// Judges a client with a scope, if the text of the scope can be read.
+// Judges a client with a scope, by the text of its redirection URIs.
 fn register_with(
     alloc: Global,
     client_kind: ClientKind,
+    lives: Option<ClientLives>,
     scope: Scope,
     redirects: &str,
 ) -> Result<Administered, AllocError>
+    requires { IsTrue (are_lives lives) }
     ensures value { IfOk result (λ a. a
-        ≡ spec.registered_with client_kind (Some scope) redirects.now) }
+        ≡ spec.registered_with client_kind lives (Some scope) redirects.now) }
     ensures sound { IfOk result IsSoundAdministered }
 {
     match split_redirects(alloc, redirects) {
-        Ok(redirects) => Ok(register_to(client_kind, scope, redirects)),
+        Ok(redirects) => Ok(register_to(client_kind, lives, scope, redirects)),
         Err(error) => {
             drop(scope);
             Err(error)
@@ -281,8 +319,14 @@ fn read_redirects(alloc: Global, uris: &[&[u8]]) -> Result<Option<Redirects>, Al
 }
 
 // Judges a client with redirection URIs, if the list may be registered.
-fn register_to(client_kind: ClientKind, scope: Scope, redirects: Option<Redirects>) -> Administered
-    ensures value { result ≡ spec.registered_to client_kind scope redirects }
+fn register_to(
+    client_kind: ClientKind,
+    lives: Option<ClientLives>,
+    scope: Scope,
+    redirects: Option<Redirects>,
+) -> Administered
+    requires { IsTrue (are_lives lives) }
+    ensures value { result ≡ spec.registered_to client_kind lives scope redirects }
     ensures sound { IsSoundAdministered result }
 {
     let Some(redirects) = redirects else {
@@ -294,5 +338,6 @@ fn register_to(client_kind: ClientKind, scope: Scope, redirects: Option<Redirect
         client_kind,
         scope,
         redirects,
+        lives,
     })
 }

@@ -5,4 +5,6 @@ use Rattle.tk_authorize.specs.Administered.{is_space}
 use Rattle.tk_authorize.proofs.registration.split_spaces.Goals as goal
 
 pub returns : goal.returns
-returns c = map_from_collect _ c.collect.ensures.ran (YieldsList-from_slice_split _ is_space c.args.text.now c.split.ensures.rest c.split.ensures.done c.split.ensures.closure (λ x b q called. search rules))
+returns c = map_from_collect _ c.collect.ensures.ran
+    (YieldsList-from_slice_split _ is_space c.args.text.now c.split.ensures.rest
+    c.split.ensures.done c.split.ensures.closure (λ x b q called. search rules))
