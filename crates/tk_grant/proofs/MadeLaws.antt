@@ -39,6 +39,8 @@ use Rattle.tk_ledger.specs.declared.status.Status.{Status}
 use Rattle.tk_ledger.specs.declared.status.Status.TheVariants.{Unseen, Wrong, Broken, Known}
 use Rattle.tk_ledger.proofs.RootLaws.{anchor-linked}
 use Rattle.tk_ledger.proofs.StatusCases.{Knows, known_parts}
+use Rattle.tk_fact.specs.declared.client_lives.ClientLives.{ClientLives}
+use Rattle.tk_ledger.specs.ViewFields.{ClientFields}
 use Rattle.tk_params.specs.Params.{Pairs, value_of}
 use Rattle.tk_message.specs.Caller.{caller_of}
 use Rattle.tk_message.specs.RequestFields.{RequestFields}
@@ -49,11 +51,13 @@ use Rattle.tk_message.specs.declared.decision.Decision.{Decision}
 use Rattle.tk_message.specs.declared.place.Place.{Place}
 use Rattle.tk_grant.specs.Gate.{gate_by_state, gate_by_client, gate_by_status, gate_by_handle}
 use Rattle.tk_grant.specs.Gate.{gate_by_text, gate_of}
-use Rattle.tk_grant.specs.Granted.{earlier, ends_at, granted_by, grant_of}
+use Rattle.tk_grant.specs.Granted.{earlier, ends_at, granted_by, grant_of, lives_at}
 use Rattle.tk_grant.specs.Judged.{judged_by_type, judged_by_caller, judged_of, known_names}
 use Rattle.tk_grant.specs.Redeemed.{meets_challenge, names_uri, redeemed_of}
-use Rattle.tk_grant.specs.Renewed.{is_keeping, refreshed_by, refreshed_of, renewed_of}
+use Rattle.tk_grant.specs.Renewed.{is_keeping, registered_lives, refreshed_by, refreshed_of}
+use Rattle.tk_grant.specs.Renewed.{renewed_of}
 use Rattle.tk_grant.specs.Rotated.{rotated_by, rotated_of}
+use Rattle.tk_grant.specs.ScopeGranted.{grant_by}
 use Rattle.tk_grant.specs.Within.{IsCodeOf, IsRotatable, IsWithin}
 use Rattle.tk_grant.specs.declared.gate.Gate.{Gate}
 use Rattle.tk_grant.specs.declared.gate.Gate.TheVariants.{Shut, Reuse, Open}
@@ -103,9 +107,11 @@ known_is P now h s = by (is_skipped P.slots h.id.dot)
 
 -- what minted a refresh token is the parent of a rotation of the next generation
 rotatable : (b : Body) (m : MintedFields) (d : Dot) → minted_of b kind.Refresh ≡ Some m
-    → (above : Link) × (link_of b ≡ Some above) × (fits (Rotates d (generation_of b + 1)) above ≡ true)
+    → (above : Link) × (link_of b ≡ Some above)
+    × (fits (Rotates d (generation_of b + 1)) above ≡ true)
 rotatable (body.CodeRedeemed f) m d h = (Redeems f.code, refl, refl)
-rotatable (body.RefreshRotated f) m d h = (Rotates f.parent f.generation, refl, same_number (f.generation + 1))
+rotatable (body.RefreshRotated f) m d h =
+    (Rotates f.parent f.generation, refl, same_number (f.generation + 1))
   where
     same_number : (n : ℕ) → n == n ≡ true
     same_number n = grind (arith, nat_tests)
@@ -117,25 +123,39 @@ parent_of : (P : StoreFields) (now : ℕ) (h : Handle) (k : Kind) (s : StandingF
     → IsRotatable (held_facts P) h.id.dot (s.generation + 1)
 parent_of P now h k s same x is =
     let made = ap (option_and_then (λ (b : Body). minted_of b h.id.kind)) (sym x.here) ∙ x.mints in
-    let above = rotatable x.body x.minted h.id.dot (ap (minted_of x.body) (sym is ∙ sym same) ∙ made) in (
+    let above =
+    rotatable x.body x.minted h.id.dot (ap (minted_of x.body) (sym is ∙ sym same) ∙ made) in (
       above.0,
       ap (option_and_then link_of) x.here ∙ above.1,
-      ap (λ n. fits (Rotates h.id.dot (n + 1)) above.0) (sym (ap (λ (y : StandingFields). y.generation) x.standing)) ∙ above.2,
+      ap (λ n. fits (Rotates h.id.dot (n + 1)) above.0)
+          (sym (ap (λ (y : StandingFields). y.generation) x.standing)) ∙ above.2,
     )
 
 open_for : (P : StoreFields) (now : ℕ) (h : Handle) (k : Kind) (s : StandingFields) → h.id.kind ≡ k
     → status_here P now h ≡ Known s
     → IsOpenFor (held_facts P) (record { dot = h.id.dot; kind = k }) s
 open_for P now h k s same e =
-    let x : Knows (held_facts P) now h s = known_parts (held_facts P) now h s (known_is P now h s e) in
+    let x : Knows (held_facts P) now h s =
+    known_parts (held_facts P) now h s (known_is P now h s e) in
     record {
-      minted = some_known (minted_in (map.get (held_facts P)) (record { dot = h.id.dot; kind = k })) x.minted (ap (λ (y : Kind). minted_in (map.get (held_facts P)) (record { dot = h.id.dot; kind = y })) (sym same) ∙ x.mints);
+      minted = some_known (minted_in (map.get (held_facts P)) (record { dot = h.id.dot; kind = k }))
+          x.minted
+          (ap (λ (y : Kind).
+          minted_in (map.get (held_facts P)) (record { dot = h.id.dot; kind = y })) (sym same)
+          ∙ x.mints);
       under = λ is.
           let above = parent_of P now h k s same x is in
-          subst (IsUnder (links_in (map.get (held_facts P))) h.id.dot) (ap (λ (y : StandingFields). y.code) x.standing)
-          (subst (λ (q : Dot). IsUnder (links_in (map.get (held_facts P))) q x.root.code) (anchor-linked (map.get (held_facts P)) h.id.dot above.0 above.1) x.under);
+          subst (IsUnder (links_in (map.get (held_facts P))) h.id.dot)
+          (ap (λ (y : StandingFields). y.code) x.standing)
+          (subst (λ (q : Dot). IsUnder (links_in (map.get (held_facts P))) q x.root.code)
+          (anchor-linked (map.get (held_facts P)) h.id.dot above.0 above.1) x.under);
       rotates = λ is. parent_of P now h k s same x is;
-      issued = (x.root.issued, ap (issued_at (map.get (held_facts P))) (sym (ap (λ (y : StandingFields). y.code) x.standing)) ∙ x.issues, sym (ap (λ (y : StandingFields). y.family_end) x.standing));
+      issued = (
+        x.root.issued,
+        ap (issued_at (map.get (held_facts P)))
+            (sym (ap (λ (y : StandingFields). y.code) x.standing)) ∙ x.issues,
+        sym (ap (λ (y : StandingFields). y.family_end) x.standing),
+      );
     }
 
 module _ (F : FactSet) (id : TokenId) (client : Dot) where
@@ -149,10 +169,11 @@ module _ (F : FactSet) (id : TokenId) (client : Dot) where
   by_state s state.Live o = o
 
   by_client : (s : StandingFields) → IsOpenFor F id s → OpensFor F (gate_by_client id client s)
-  by_client s o = elim (is_same_dot s.client client) as (λ t. OpensFor F (cond t (gate_by_state id s s.state) (Shut refusal.ForeignGrant))) [
-    | true ↦ by_state s s.state o
-    | false ↦ tt
-  ]
+  by_client s o = elim (is_same_dot s.client client) as
+      (λ t. OpensFor F (cond t (gate_by_state id s s.state) (Shut refusal.ForeignGrant))) [
+        | true ↦ by_state s s.state o
+        | false ↦ tt
+      ]
 
 module _ (P : StoreFields) (now : ℕ) where
   abbrev H : FactSet
@@ -164,11 +185,16 @@ module _ (P : StoreFields) (now : ℕ) where
   by_status client k h Unseen same e = tt
   by_status client k h Wrong same e = tt
   by_status client k h (Broken expiry) same e = tt
-  by_status client k h (Known s) same e = by_client H (record { dot = h.id.dot; kind = k }) client s (open_for P now h k s same e)
+  by_status client k h (Known s) same e =
+      by_client H (record { dot = h.id.dot; kind = k }) client s (open_for P now h k s same e)
 
   by_handle : (client : Dot) (k : Kind) (h : Handle) → OpensFor H (gate_by_handle P now client k h)
   by_handle client k h =
-      elim (kind_number h.id.kind == kind_number k) as (λ t. kind_number h.id.kind == kind_number k ≡ t → OpensFor H (cond t (gate_by_status (record { dot = h.id.dot; kind = k }) client (status_here P now h)) (Shut refusal.UnknownGrant))) [
+      elim (kind_number h.id.kind == kind_number k) as
+      (λ t. kind_number h.id.kind == kind_number k ≡ t
+      → OpensFor H
+      (cond t (gate_by_status (record { dot = h.id.dot; kind = k }) client (status_here P now h))
+      (Shut refusal.UnknownGrant))) [
         | true ↦ λ e. by_status client k h (status_here P now h) (kind_is h.id.kind k e) refl
         | false ↦ λ e. tt
       ] refl
@@ -190,36 +216,43 @@ IsGrantFor F (judged.Refused why) = Unit {0}
 IsGrantFor F (judged.Reused id) = minted_in (map.get F) id ≢ None
 IsGrantFor F (judged.Redeems grant) = IsCodeOf F grant.from grant.family_end
 IsGrantFor F (judged.Rotates generation grant) =
-    IsRotatable F grant.from generation × (c : Dot) × IsUnder (links_in (map.get F)) grant.from c × IsCodeOf F c grant.family_end
+    IsRotatable F grant.from generation × (c : Dot) × IsUnder (links_in (map.get F)) grant.from c
+    × IsCodeOf F c grant.family_end
 IsGrantFor F (judged.Refreshes grant) =
-    (l : Link) × (links_in (map.get F) grant.from ≡ Some l) × (c : Dot) × IsUnder (links_in (map.get F)) grant.from c × IsCodeOf F c grant.family_end
+    (l : Link) × (links_in (map.get F) grant.from ≡ Some l) × (c : Dot)
+    × IsUnder (links_in (map.get F)) grant.from c × IsCodeOf F c grant.family_end
 
 module _ (F : FactSet) where
   either : (t : Bool) (a b : Judged) → IsGrantFor F a → IsGrantFor F b → IsGrantFor F (cond t a b)
   either true a b x y = x
   either false a b x y = y
 
-  redeems : (params : Pairs) (g : Gate) → OpensFor F g → IsGrantFor F (redeemed_of params g)
-  redeems params (Shut why) o = tt
-  redeems params (Reuse id) o = o
-  redeems params (Open id s) o =
-      either (not (names_uri s.issued.sent s.issued.uri (value_of (codes "redirect_uri") params))) (judged.Refused refusal.WrongRedirect) _ tt
-      (either (not (meets_challenge s.issued.challenge (value_of (codes "code_verifier") params))) (judged.Refused refusal.WrongVerifier) _ tt o.issued)
+  redeems : (lives : Option ClientLives) (params : Pairs) (g : Gate) → OpensFor F g
+      → IsGrantFor F (redeemed_of lives params g)
+  redeems lives params (Shut why) o = tt
+  redeems lives params (Reuse id) o = o
+  redeems lives params (Open id s) o =
+      either (not (names_uri s.issued.sent s.issued.uri (value_of (codes "redirect_uri") params)))
+      (judged.Refused refusal.WrongRedirect) _ tt
+      (either (not (meets_challenge s.issued.challenge (value_of (codes "code_verifier") params)))
+      (judged.Refused refusal.WrongVerifier) _ tt o.issued)
 
-  rotates_by : (id : TokenId) (s : StandingFields) (scope : Option (List ℕ))
-      → id.kind ≡ kind.Refresh → IsOpenFor F id s → IsGrantFor F (rotated_by id.dot s scope)
-  rotates_by id s None k o = tt
-  rotates_by id s (Some scope) k o = (
+  rotates_by : (id : TokenId) (lives : Option ClientLives) (s : StandingFields)
+      (scope : Option (List ℕ)) → id.kind ≡ kind.Refresh → IsOpenFor F id s
+      → IsGrantFor F (rotated_by (s.generation + 1) (grant_by id.dot lives s scope))
+  rotates_by id lives s None k o = tt
+  rotates_by id lives s (Some scope) k o = (
     o.rotates k,
     s.code,
     o.under k,
     o.issued,
   )
 
-  refreshes_by : (id : TokenId) (s : StandingFields) (scope : Option (List ℕ))
-      → id.kind ≡ kind.Refresh → IsOpenFor F id s → IsGrantFor F (refreshed_by id.dot s scope)
-  refreshes_by id s None k o = tt
-  refreshes_by id s (Some scope) k o = (
+  refreshes_by : (id : TokenId) (lives : Option ClientLives) (s : StandingFields)
+      (scope : Option (List ℕ)) → id.kind ≡ kind.Refresh → IsOpenFor F id s
+      → IsGrantFor F (refreshed_by (grant_by id.dot lives s scope))
+  refreshes_by id lives s None k o = tt
+  refreshes_by id lives s (Some scope) k o = (
     (o.rotates k).0,
     (o.rotates k).1,
     s.code,
@@ -232,25 +265,28 @@ module _ (F : FactSet) where
   IsOfKind k (Reuse id) = Unit {0}
   IsOfKind k (Open id s) = id.kind ≡ k
 
-  rotates : (params : Pairs) (g : Gate) → IsOfKind kind.Refresh g → OpensFor F g
-      → IsGrantFor F (rotated_of params g)
-  rotates params (Shut why) k o = tt
-  rotates params (Reuse id) k o = o
-  rotates params (Open id s) k o =
+  rotates : (lives : Option ClientLives) (params : Pairs) (g : Gate) → IsOfKind kind.Refresh g
+      → OpensFor F g → IsGrantFor F (rotated_of lives params g)
+  rotates lives params (Shut why) k o = tt
+  rotates lives params (Reuse id) k o = o
+  rotates lives params (Open id s) k o =
       either (nat_le max_generations s.generation) (judged.Refused refusal.LastGeneration) _ tt
-      (rotates_by id s (scope_asked s.scope (value_of (codes "scope") params)) k o)
+      (rotates_by id lives s (scope_asked s.scope (value_of (codes "scope") params)) k o)
 
-  refreshes : (params : Pairs) (g : Gate) → IsOfKind kind.Refresh g → OpensFor F g
-      → IsGrantFor F (refreshed_of params g)
-  refreshes params (Shut why) k o = tt
-  refreshes params (Reuse id) k o = o
-  refreshes params (Open id s) k o =
-      refreshes_by id s (scope_asked s.scope (value_of (codes "scope") params)) k o
+  refreshes : (lives : Option ClientLives) (params : Pairs) (g : Gate) → IsOfKind kind.Refresh g
+      → OpensFor F g → IsGrantFor F (refreshed_of lives params g)
+  refreshes lives params (Shut why) k o = tt
+  refreshes lives params (Reuse id) k o = o
+  refreshes lives params (Open id s) k o =
+      refreshes_by id lives s (scope_asked s.scope (value_of (codes "scope") params)) k o
 
-  renews : (keeping : Bool) (params : Pairs) (g : Gate) → IsOfKind kind.Refresh g → OpensFor F g
-      → IsGrantFor F (renewed_of keeping params g)
-  renews keeping params g k o =
-      either keeping (refreshed_of params g) (rotated_of params g) (refreshes params g k o) (rotates params g k o)
+  renews : (client : Option ClientFields) (params : Pairs) (g : Gate) → IsOfKind kind.Refresh g
+      → OpensFor F g → IsGrantFor F (renewed_of client params g)
+  renews client params g k o =
+      either (is_keeping client) (refreshed_of (registered_lives client) params g)
+      (rotated_of (registered_lives client) params g)
+      (refreshes (registered_lives client) params g k o)
+      (rotates (registered_lives client) params g k o)
 
 module _ (P : StoreFields) (now : ℕ) where
   kind_by_state : (id : TokenId) (s : StandingFields) (x : State)
@@ -268,18 +304,23 @@ module _ (P : StoreFields) (now : ℕ) where
   kind_by_status id client Unseen = tt
   kind_by_status id client Wrong = tt
   kind_by_status id client (Broken expiry) = tt
-  kind_by_status id client (Known s) = elim (is_same_dot s.client client) as (λ t. IsOfKind (held_facts P) id.kind (cond t (gate_by_state id s s.state) (Shut refusal.ForeignGrant))) [
-    | true ↦ kind_by_state id s s.state
-    | false ↦ tt
-  ]
+  kind_by_status id client (Known s) = elim (is_same_dot s.client client) as
+      (λ t. IsOfKind (held_facts P) id.kind
+      (cond t (gate_by_state id s s.state) (Shut refusal.ForeignGrant))) [
+        | true ↦ kind_by_state id s s.state
+        | false ↦ tt
+      ]
 
   kind_by_text : (client : Dot) (k : Kind) (o : Option Handle)
       → IsOfKind (held_facts P) k (gate_by_text P now client k o)
   kind_by_text client k None = tt
-  kind_by_text client k (Some h) = elim (kind_number h.id.kind == kind_number k) as (λ t. IsOfKind (held_facts P) k (cond t (gate_by_status (record { dot = h.id.dot; kind = k }) client (status_here P now h)) (Shut refusal.UnknownGrant))) [
-    | true ↦ kind_by_status (record { dot = h.id.dot; kind = k }) client (status_here P now h)
-    | false ↦ tt
-  ]
+  kind_by_text client k (Some h) = elim (kind_number h.id.kind == kind_number k) as
+      (λ t. IsOfKind (held_facts P) k
+      (cond t (gate_by_status (record { dot = h.id.dot; kind = k }) client (status_here P now h))
+      (Shut refusal.UnknownGrant))) [
+        | true ↦ kind_by_status (record { dot = h.id.dot; kind = k }) client (status_here P now h)
+        | false ↦ tt
+      ]
 
   kind_by_gate : (client : Dot) (k : Kind) (o : Option (List ℕ))
       → IsOfKind (held_facts P) k (gate_of P now client k o)
@@ -291,10 +332,14 @@ module _ (P : StoreFields) (now : ℕ) where
   by_type params client None = tt
   by_type params client (Some name) =
       either (held_facts P) (bytes_eq name (codes "authorization_code")) _ _
-      (redeems (held_facts P) params (gate_of P now client kind.Code (value_of (codes "code") params)) (by_gate P now client kind.Code (value_of (codes "code") params)))
+      (redeems (held_facts P) (registered_lives (client_view (held_facts P) client)) params
+      (gate_of P now client kind.Code (value_of (codes "code") params))
+      (by_gate P now client kind.Code (value_of (codes "code") params)))
       (either (held_facts P) (bytes_eq name (codes "refresh_token")) _ _
-      (renews (held_facts P) (is_keeping (client_view (held_facts P) client)) params (gate_of P now client kind.Refresh (value_of (codes "refresh_token") params))
-      (kind_by_gate client kind.Refresh (value_of (codes "refresh_token") params)) (by_gate P now client kind.Refresh (value_of (codes "refresh_token") params)))
+      (renews (held_facts P) (client_view (held_facts P) client) params
+      (gate_of P now client kind.Refresh (value_of (codes "refresh_token") params))
+      (kind_by_gate client kind.Refresh (value_of (codes "refresh_token") params))
+      (by_gate P now client kind.Refresh (value_of (codes "refresh_token") params)))
       tt)
 
   by_caller : (params : Pairs) (c : Caller)
@@ -302,7 +347,8 @@ module _ (P : StoreFields) (now : ℕ) where
   by_caller params caller.DuplicateParameter = tt
   by_caller params caller.MixedCredentials = tt
   by_caller params caller.InvalidClient = tt
-  by_caller params (caller.Client client) = by_type params client (value_of (codes "grant_type") params)
+  by_caller params (caller.Client client) =
+      by_type params client (value_of (codes "grant_type") params)
 
 -- ---- the fact that is made
 
@@ -320,12 +366,34 @@ granted_within : (F : FactSet) (place : Place) (now : ℕ) (words : List ℕ) (j
     → IsGrantFor F j → MakesWithin F (granted_by place now words j)
 granted_within F place now words (judged.Refused why) g = tt
 granted_within F place now words (judged.Reused id) g = g
-granted_within F place now words (judged.Redeems grant) g = (grant.family_end, g, cut now place.lives.access grant.family_end, cut now place.lives.refresh grant.family_end)
-granted_within F place now words (judged.Rotates generation grant) g =
-    (g.0, g.1, g.2, grant.family_end, g.3, cut now place.lives.access grant.family_end, cut now place.lives.refresh grant.family_end)
-granted_within F place now words (judged.Refreshes grant) g =
-    (g.0, g.1, g.2, g.3, grant.family_end, g.4, cut now place.lives.access grant.family_end)
+granted_within F place now words (judged.Redeems grant) g = (
+  grant.family_end,
+  g,
+  cut now (lives_at place grant).access grant.family_end,
+  cut now (lives_at place grant).refresh grant.family_end,
+)
+granted_within F place now words (judged.Rotates generation grant) g = (
+  g.0,
+  g.1,
+  g.2,
+  grant.family_end,
+  g.3,
+  cut now (lives_at place grant).access grant.family_end,
+  cut now (lives_at place grant).refresh grant.family_end,
+)
+granted_within F place now words (judged.Refreshes grant) g = (
+  g.0,
+  g.1,
+  g.2,
+  g.3,
+  grant.family_end,
+  g.4,
+  cut now (lives_at place grant).access grant.family_end,
+)
 
-pub grants_within : (P : StoreFields) (place : Place) (now : ℕ) (words : List ℕ) (request : RequestFields)
+pub grants_within : (P : StoreFields) (place : Place) (now : ℕ) (words : List ℕ)
+    (request : RequestFields)
     → IfSome (grant_of P place now words request).made (IsWithin (held_facts P))
-grants_within P place now words request = granted_within (held_facts P) place now words (judged_of P now request) (by_caller P now request.params (caller_of (held_facts P) known_names request))
+grants_within P place now words request =
+    granted_within (held_facts P) place now words (judged_of P now request)
+    (by_caller P now request.params (caller_of (held_facts P) known_names request))

@@ -46,7 +46,8 @@ reply_with now access refresh s = json_reply Ok (token_body access (s.expiry - n
 repeat_parts : (now : ℕ) (a b : Handle) (o p : Option StandingFields) (reply : ReplyFields)
     → repeat_by now a b o p ≡ Some reply
     → (s : StandingFields) × (o ≡ Some s) × (reply_with now a b s ≡ reply)
-repeat_parts now a b (Some s) (Some t) reply h = (s, refl, some_injective (reply_with now a b s) reply h)
+repeat_parts now a b (Some s) (Some t) reply h =
+    (s, refl, some_injective (reply_with now a b s) reply h)
 repeat_parts now a b (Some s) None reply h = absurd (none_is_not_some reply h)
 repeat_parts now a b None (Some t) reply h = absurd (none_is_not_some reply h)
 repeat_parts now a b None None reply h = absurd (none_is_not_some reply h)
@@ -54,7 +55,8 @@ repeat_parts now a b None None reply h = absurd (none_is_not_some reply h)
 live_parts : (x s : StandingFields) → live_as x ≡ Some s → x ≡ s
 live_parts x s h = elim (cases_Bool (is_live x.state)) [
   | inl live ↦ some_injective x s (sym (cond-true (is_live x.state) (Some x) None live) ∙ h)
-  | inr over ↦ absurd (none_is_not_some s (sym (cond-false (is_live x.state) (Some x) None over) ∙ h))
+  | inr over ↦
+      absurd (none_is_not_some s (sym (cond-false (is_live x.state) (Some x) None over) ∙ h))
 ]
 
 live_known : (x : Status) (s : StandingFields) → live_in x ≡ Some s → x ≡ Known s
@@ -64,26 +66,38 @@ live_known (Broken t) s h = absurd (none_is_not_some s h)
 live_known (Known x) s h = ap (λ (y : StandingFields). Known y) (live_parts x s h)
 
 -- the standing of the access token has what its fact minted
-known_minted : (F : FactSet) (now : ℕ) (h : Handle) (s : StandingFields) (body : Body) (m : MintedFields)
+known_minted : (F : FactSet) (now : ℕ) (h : Handle) (s : StandingFields) (body : Body)
+    (m : MintedFields)
     → Knows F now h s → fin.get F h.id.dot ≡ Some body → minted_of body h.id.kind ≡ Some m
     → (s.expiry ≡ m.expiry) × (s.scope ≡ m.scope)
 known_minted F now h s body m k held mints =
-    let same : k.minted ≡ m = some_injective k.minted m (sym k.mints ∙ ap (option_and_then (λ b. minted_of b h.id.kind)) held ∙ mints) in (
-      ap (λ (y : StandingFields). y.expiry) (sym k.standing) ∙ ap (λ (y : MintedFields). y.expiry) same,
-      ap (λ (y : StandingFields). y.scope) (sym k.standing) ∙ ap (λ (y : MintedFields). y.scope) same,
+    let same : k.minted ≡ m = some_injective k.minted m
+    (sym k.mints ∙ ap (option_and_then (λ b. minted_of b h.id.kind)) held ∙ mints) in (
+      ap (λ (y : StandingFields). y.expiry) (sym k.standing)
+          ∙ ap (λ (y : MintedFields). y.expiry) same,
+      ap (λ (y : StandingFields). y.scope) (sym k.standing)
+          ∙ ap (λ (y : MintedFields). y.scope) same,
     )
 
 pub repeats_reply : RepeatsReply
-repeats_reply P Q place now later words request generation grant body reply judged made held repeats =
+repeats_reply P Q place now later words request generation grant body reply judged made held
+    repeats =
     let a = access_handle (next_in place) words in
     let b = refresh_handle (next_in place) words in
-    let p = repeat_parts later a b (live_in (status_here Q later a)) (live_in (status_here Q later b)) reply repeats in
+    let p = repeat_parts later a b (live_in (status_here Q later a))
+    (live_in (status_here Q later b)) reply repeats in
     let known = here_known Q later a p.0 (live_known (status_here Q later a) p.0 p.1) in
     let by = subst (λ j. (granted_by place now words j).made ≡ Some body) judged made in
-    let mints : minted_of body kind.Access ≡ Some (minted_at now (access_token place now words grant)) = subst (λ y. minted_of y kind.Access ≡ Some (minted_at now (access_token place now words grant))) (some_injective _ body by) refl in
-    let m = known_minted (held_facts Q) later a p.0 body (minted_at now (access_token place now words grant)) (known_parts (held_facts Q) later a p.0 known) held mints in
+    let mints : minted_of body kind.Access
+    ≡ Some (minted_at now (access_token place now words grant)) =
+    subst (λ y. minted_of y kind.Access ≡ Some (minted_at now (access_token place now words grant)))
+    (some_injective _ body by) refl in
+    let m = known_minted (held_facts Q) later a p.0 body
+    (minted_at now (access_token place now words grant))
+    (known_parts (held_facts Q) later a p.0 known) held mints in
     sym p.2 ∙ ap (λ e. json_reply Ok (token_body a (e - later) b p.0.scope)) m.0
-    ∙ ap (λ scope. json_reply Ok (token_body a ((access_token place now words grant).expiry - later) b scope)) m.1
+    ∙ ap (λ scope.
+    json_reply Ok (token_body a ((access_token place now words grant).expiry - later) b scope)) m.1
 
 -- no reply is given again without a live refresh token
 without_refresh : (now : ℕ) (a b : Handle) (o p : Option StandingFields)
@@ -96,7 +110,10 @@ without_refresh now a b None None none = refl
 pub refreshes_anew : RefreshesAnew
 refreshes_anew Q later dot words fact held =
     let b = refresh_handle dot words in
-    without_refresh later (access_handle dot words) b (live_in (status_here Q later (access_handle dot words))) (live_in (status_here Q later b))
+    without_refresh later (access_handle dot words) b
+    (live_in (status_here Q later (access_handle dot words))) (live_in (status_here Q later b))
     (λ s live.
-    let known = known_parts (held_facts Q) later b s (here_known Q later b s (live_known (status_here Q later b) s live)) in
-    none_is_not_some known.minted (sym (ap (option_and_then (λ (x : Body). minted_of x kind.Refresh)) held) ∙ known.mints))
+    let known = known_parts (held_facts Q) later b s
+    (here_known Q later b s (live_known (status_here Q later b) s live)) in
+    none_is_not_some known.minted
+    (sym (ap (option_and_then (λ (x : Body). minted_of x kind.Refresh)) held) ∙ known.mints))

@@ -24,10 +24,12 @@ use Rattle.tk_store.specs.StoreFields.{StoreFields}
 use Rattle.tk_ledger.specs.Status.{digest_of}
 use Rattle.tk_message.specs.declared.decision.Decision.{Decision}
 use Rattle.tk_message.specs.declared.error_code.ErrorCode.TheVariants.{InvalidGrant}
+use Rattle.tk_message.specs.declared.place.Lives.{Lives}
 use Rattle.tk_message.specs.declared.place.Place.{Place}
 use Rattle.tk_message.specs.declared.status_code.StatusCode.TheVariants.{Ok}
 use Rattle.tk_message.specs.Bodies.{refreshed_body, token_body}
 use Rattle.tk_message.specs.Decision.{refused}
+use Rattle.tk_message.specs.Lives.{lives_within}
 use Rattle.tk_message.specs.Place.{next_in}
 use Rattle.tk_message.specs.Reply.{error_reply, json_reply}
 use Rattle.tk_message.specs.ReplyFields.{ReplyFields}
@@ -52,6 +54,10 @@ earlier a b = if nat_le a b then a else b
 abbrev pub ends_at : ℕ → ℕ → ℕ → ℕ
 ends_at now life family_end = earlier (moment_plus now life) family_end
 
+-- how long what is granted lives: the server's lives, within those of the client (own)
+abbrev pub lives_at : Place → Grant → Lives
+lives_at place grant = lives_within place.lives grant.lives
+
 -- the handle of the access token at the dot, of the first three random words (own)
 abbrev pub access_handle : Dot → List ℕ → Handle
 access_handle next words = record {
@@ -70,7 +76,7 @@ refresh_handle next words = record {
 abbrev pub access_token : Place → ℕ → List ℕ → Grant → MintedToken
 access_token place now words grant = record {
   digest = digest_of (access_handle (next_in place) words);
-  expiry = ends_at now place.lives.access grant.family_end;
+  expiry = ends_at now (lives_at place grant).access grant.family_end;
   scope = grant.access;
 }
 
@@ -78,7 +84,7 @@ access_token place now words grant = record {
 abbrev pub refresh_token : Place → ℕ → List ℕ → Grant → MintedToken
 refresh_token place now words grant = record {
   digest = digest_of (refresh_handle (next_in place) words);
-  expiry = ends_at now place.lives.refresh grant.family_end;
+  expiry = ends_at now (lives_at place grant).refresh grant.family_end;
   scope = grant.refresh;
 }
 
@@ -86,7 +92,7 @@ refresh_token place now words grant = record {
 abbrev pub granted_reply : Place → ℕ → List ℕ → Grant → ReplyFields
 granted_reply place now words grant = json_reply Ok
     (token_body (access_handle (next_in place) words)
-    (ends_at now place.lives.access grant.family_end - now)
+    (ends_at now (lives_at place grant).access grant.family_end - now)
     (refresh_handle (next_in place) words) grant.access)
 
 -- the redemption of a code: both tokens start at the moment (RFC 6749, 4.1.3)
@@ -113,7 +119,7 @@ rotation place now words generation grant = record {
 abbrev pub refreshed_reply : Place → ℕ → List ℕ → Grant → ReplyFields
 refreshed_reply place now words grant = json_reply Ok
     (refreshed_body (access_handle (next_in place) words)
-    (ends_at now place.lives.access grant.family_end - now) grant.access)
+    (ends_at now (lives_at place grant).access grant.family_end - now) grant.access)
 
 -- the access token that is minted for a refresh token that is kept starts at the moment (RFC 6749,
 -- 6)

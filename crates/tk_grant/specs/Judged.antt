@@ -23,7 +23,7 @@ use Rattle.tk_grant.specs.declared.refusal.Refusal.TheVariants.{
 }
 use Rattle.tk_grant.specs.Gate.{gate_of}
 use Rattle.tk_grant.specs.Redeemed.{redeemed_of}
-use Rattle.tk_grant.specs.Renewed.{is_keeping, renewed_of}
+use Rattle.tk_grant.specs.Renewed.{registered_lives, renewed_of}
 
 -- the judgement by the grant type, which is required (RFC 6749, 4.1.3 and 6) and must be known (RFC
 -- 6749, 5.2)
@@ -31,9 +31,10 @@ abbrev pub judged_by_type : StoreFields → ℕ → Pairs → Dot → Option (Li
 judged_by_type P now params client None = Refused MissingGrantType
 judged_by_type P now params client (Some name) =
     if bytes_eq name (codes "authorization_code")
-    then redeemed_of params (gate_of P now client kind.Code (value_of (codes "code") params))
+    then redeemed_of (registered_lives (client_view (held_facts P) client)) params
+    (gate_of P now client kind.Code (value_of (codes "code") params))
     else if bytes_eq name (codes "refresh_token")
-    then renewed_of (is_keeping (client_view (held_facts P) client)) params
+    then renewed_of (client_view (held_facts P) client) params
     (gate_of P now client kind.Refresh (value_of (codes "refresh_token") params))
     else Refused UnsupportedGrantType
 

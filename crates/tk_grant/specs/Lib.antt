@@ -2,9 +2,9 @@
 --   Refusal       refusal_code, the error code of a refusal
 --   Gate          gate_of, whether the code or refresh token that was sent can be redeemed
 --   Redeemed      redeemed_of, the judgement of a code
+--   ScopeGranted  grant_asked, what a refresh token is good for
 --   Rotated       rotated_of, the judgement of a refresh token
---   Renewed       renewed_of, the judgement of a refresh request, by whether its client keeps the
---                 refresh token
+--   Renewed       renewed_of, the judgement of a refresh request, by its client
 --   Judged        judged_of, the cases of a token request in their order
 --   Granted       grant_of, the decision of a token request
 --   Repeat        is_again, a refresh that is repeated; repeat_of, the reply to it
@@ -23,6 +23,7 @@ pub mod Refusal
 pub mod Renewed
 pub mod Repeat
 pub mod Rotated
+pub mod ScopeGranted
 pub mod SoundGate
 pub mod SoundJudged
 pub mod Within

@@ -17,6 +17,7 @@ use Rattle.std.specs.Prelude.{
 }
 use Rattle.std.specs.Str.{bytes_eq}
 use Rattle.tk_match.specs.Challenge.{ChallengeFields, is_met}
+use Rattle.tk_fact.specs.declared.client_lives.ClientLives.{ClientLives}
 use Rattle.tk_ledger.specs.StandingFields.{StandingFields}
 use Rattle.tk_params.specs.Params.{Pairs, value_of}
 use Rattle.tk_grant.specs.declared.gate.Gate.{Gate}
@@ -40,8 +41,8 @@ meets_challenge (Some challenge) (Some verifier) = is_met challenge verifier
 
 -- the judgement of the code by the URI (RFC 6749, 4.1.3) and the verifier (RFC 7636, 4.6). Both
 -- tokens get the code's scope (RFC 6749, 4.1.4 and 6)
-abbrev pub redeemed_by : Pairs → StandingFields → Judged
-redeemed_by params standing =
+abbrev pub redeemed_by : Option ClientLives → Pairs → StandingFields → Judged
+redeemed_by lives params standing =
     if not (names_uri standing.issued.sent standing.issued.uri
     (value_of (codes "redirect_uri") params))
     then Refused WrongRedirect
@@ -51,12 +52,13 @@ redeemed_by params standing =
     else Redeems (record {
       from = standing.code;
       family_end = standing.family_end;
+      lives = lives;
       access = standing.scope;
       refresh = standing.scope;
     })
 
 -- the judgement of the code at the gate
-abbrev pub redeemed_of : Pairs → Gate → Judged
-redeemed_of params (Shut why) = Refused why
-redeemed_of params (Reuse id) = Reused id
-redeemed_of params (Open id standing) = redeemed_by params standing
+abbrev pub redeemed_of : Option ClientLives → Pairs → Gate → Judged
+redeemed_of lives params (Shut why) = Refused why
+redeemed_of lives params (Reuse id) = Reused id
+redeemed_of lives params (Open id standing) = redeemed_by lives params standing

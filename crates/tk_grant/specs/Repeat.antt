@@ -25,7 +25,7 @@ use Rattle.tk_message.specs.declared.place.Place.{Place}
 use Rattle.tk_message.specs.declared.request.Endpoint.{Endpoint}
 use Rattle.tk_message.specs.declared.request.Endpoint.TheVariants as endpoint
 use Rattle.tk_message.specs.declared.status_code.StatusCode.TheVariants.{Ok}
-use Rattle.tk_grant.specs.Granted.{access_handle, ends_at, refresh_handle}
+use Rattle.tk_grant.specs.Granted.{access_handle, ends_at, lives_at, refresh_handle}
 use Rattle.tk_grant.specs.Judged.{known_names}
 use Rattle.tk_grant.specs.declared.judged.Grant.{Grant}
 
@@ -97,5 +97,5 @@ repeat_of P now dot words =
 abbrev pub later_reply : Place → ℕ → ℕ → List ℕ → Grant → ReplyFields
 later_reply place now later words grant = json_reply Ok
     (token_body (access_handle (next_in place) words)
-    (ends_at now place.lives.access grant.family_end - later)
+    (ends_at now (lives_at place grant).access grant.family_end - later)
     (refresh_handle (next_in place) words) grant.access)

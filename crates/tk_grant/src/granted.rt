@@ -144,7 +144,8 @@ fn decide_refreshed(
     ensures passes { IfOk result (λ d. Passes d.made) }
 {
     let access = access_handle(place.next_dot(), words);
-    let expiry = ends_at(now, place.lives.access, grant.family_end);
+    let lives = place.lives.bounded_by(grant.lives);
+    let expiry = ends_at(now, lives.access, grant.family_end);
     let lifetime = expiry.seconds() - now.seconds();
     let reply = JsonReply::Refreshed(&access, lifetime, &grant.access).reply(alloc)?;
     let fact = AccessRefreshed {
@@ -188,8 +189,9 @@ fn mint(
 {
     let next = place.next_dot();
     let (access, refresh) = (access_handle(next, words), refresh_handle(next, words));
-    let access_expiry = ends_at(now, place.lives.access, grant.family_end);
-    let refresh_expiry = ends_at(now, place.lives.refresh, grant.family_end);
+    let lives = place.lives.bounded_by(grant.lives);
+    let access_expiry = ends_at(now, lives.access, grant.family_end);
+    let refresh_expiry = ends_at(now, lives.refresh, grant.family_end);
     let lifetime = access_expiry.seconds() - now.seconds();
     let reply = JsonReply::Tokens(&access, lifetime, &refresh, &grant.access).reply(alloc)?;
     Ok(Minted {

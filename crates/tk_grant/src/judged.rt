@@ -1,5 +1,6 @@
 //! Judgements of token requests, by the facts, the moment and the parameters.
 
+use tk_fact::ClientLives;
 use tk_handle::{Dot, Moment, TokenId};
 use tk_scope::Scope;
 
@@ -10,6 +11,8 @@ pub(crate) struct Grant {
     pub(crate) from: Dot,
     // When the family ends.
     pub(crate) family_end: Moment,
+    // How long what the client gets lives at most, if it was registered with such lives.
+    pub(crate) lives: Option<ClientLives>,
     // The scope of the access token.
     pub(crate) access: Scope,
     // The scope of the refresh token.
@@ -40,7 +43,7 @@ ghost use Rattle.tk_grant.specs.SoundJudged.{IsSoundJudged};
 use crate::gate::find_gate;
 use crate::redeem::redeem;
 use crate::refusal::Refusal;
-use crate::renew::{keeps_token, renew};
+use crate::renew::{registered_lives, renew};
 use std::alloc::{AllocError, Global};
 use tk_handle::Kind;
 use tk_ledger::Ledger;
@@ -125,9 +128,10 @@ fn judge_by_type(
     let Some(grant_type) = grant_type else {
         return Ok(Judged::Refused(Refusal::MissingGrantType));
     };
+    let view = ledger.client(client);
     if grant_type == "authorization_code" {
         let gate = find_gate(ledger, now, client, Kind::Code, params.value("code"));
-        return redeem(alloc, now, params, gate);
+        return redeem(alloc, now, params, registered_lives(&view), gate);
     }
     if grant_type == "refresh_token" {
         let gate = find_gate(
@@ -137,7 +141,7 @@ fn judge_by_type(
             Kind::Refresh,
             params.value("refresh_token"),
         );
-        return renew(alloc, now, params, keeps_token(ledger, client), gate);
+        return renew(alloc, now, params, &view, gate);
     }
     Ok(Judged::Refused(Refusal::UnsupportedGrantType))
 }

@@ -2,8 +2,8 @@
 
 ghost use Rattle.tk_grant.specs.Laws.{GrantsAlike, GrantsWithin, RefreshesAnew, RepeatsReply};
 
-/// States a law: two stores that answer each handle alike, and have the same clients, decide a token
-/// request alike.
+/// States a law: two stores that answer each handle alike, and have the same clients, decide a
+/// token request alike.
 ///
 /// A token whose family is closed, or that is under no code, is an invalid grant, whatever the
 /// reason (RFC 6749, 5.2).

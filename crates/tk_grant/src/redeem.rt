@@ -10,6 +10,7 @@ use crate::gate::Gate;
 use crate::judged::{Grant, Judged};
 use crate::refusal::Refusal;
 use std::alloc::{AllocError, Global};
+use tk_fact::ClientLives;
 use tk_handle::Moment;
 use tk_ledger::Standing;
 use tk_match::{Challenge, Uri};
@@ -20,16 +21,18 @@ pub(crate) fn redeem(
     alloc: Global,
     now: Moment,
     params: &Params,
+    lives: Option<ClientLives>,
     gate: Gate<'_>,
 ) -> Result<Judged, AllocError>
     requires { IsSoundGate now gate }
-    ensures value { IfOk result (λ judged. judged ≡ spec.redeemed_of params.now gate.entry) }
+    ensures value { IfOk result (λ judged.
+        judged ≡ spec.redeemed_of lives params.now gate.entry) }
     ensures sound { IfOk result (IsSoundJudged now) }
 {
     match gate {
         Gate::Shut(why) => Ok(Judged::Refused(why)),
         Gate::Reuse(id) => Ok(Judged::Reused(id)),
-        Gate::Open(_, standing) => redeem_by(alloc, now, params, &standing),
+        Gate::Open(_, standing) => redeem_by(alloc, now, params, lives, &standing),
     }
 }
 
@@ -38,10 +41,12 @@ fn redeem_by(
     alloc: Global,
     now: Moment,
     params: &Params,
+    lives: Option<ClientLives>,
     standing: &Standing<'_>,
 ) -> Result<Judged, AllocError>
     requires { now < standing.now.family_end }
-    ensures value { IfOk result (λ judged. judged ≡ spec.redeemed_by params.now standing.now) }
+    ensures value { IfOk result (λ judged.
+        judged ≡ spec.redeemed_by lives params.now standing.now) }
     ensures sound { IfOk result (IsSoundJudged now) }
 {
     let code = standing.issued;
@@ -56,6 +61,7 @@ fn redeem_by(
     Ok(Judged::Redeems(Grant {
         from: standing.code,
         family_end: standing.family_end,
+        lives,
         access,
         refresh,
     }))

@@ -1,61 +1,60 @@
 //! Refresh requests: a refresh token is rotated, unless its client keeps it (RFC 6749, 6; RFC 9700,
 //! 2.2.2).
 
-ghost use Rattle.std.specs.Prelude.{◌≡◌, ◌<◌, IfOk};
-ghost use Rattle.tk_store.specs.StoreFields.{held_facts};
-ghost use Rattle.tk_ledger.specs.Views.{client_view};
+ghost use Rattle.std.specs.Prelude.{◌≡◌, IfOk};
 ghost use Rattle.tk_grant.specs.Renewed as spec;
 ghost use Rattle.tk_grant.specs.SoundGate.{IsSoundGate};
 ghost use Rattle.tk_grant.specs.SoundJudged.{IsSoundJudged};
 
 use crate::gate::Gate;
-use crate::judged::{Grant, Judged};
+use crate::judged::Judged;
 use crate::refusal::Refusal;
 use crate::rotate::rotate;
+use crate::scope_granted::grant_asked;
 use std::alloc::{AllocError, Global};
-use tk_fact::ClientKind;
-use tk_handle::{Dot, Moment};
-use tk_ledger::{Ledger, Standing};
-use tk_message::{Params, scope_asked};
-use tk_scope::Scope;
+use tk_fact::ClientLives;
+use tk_handle::Moment;
+use tk_ledger::ClientView;
+use tk_message::Params;
 
-// Returns whether the client that was added at the dot keeps its refresh token.
-pub(crate) fn keeps_token(ledger: &Ledger, client: Dot) -> bool
-    ensures { result ≡ spec.is_keeping (client_view (held_facts ledger.now) client) }
+// Returns whether the client keeps its refresh token.
+fn is_keeping(client: &Option<ClientView<'_>>) -> bool
+    ensures { result ≡ spec.is_keeping client.now }
 {
-    match ledger.client(client) {
-        Some(view) => keeps(view.client_kind),
+    match client {
+        Some(view) => view.client_kind.keeps_refresh(),
         None => false,
     }
 }
 
-// Returns whether clients of the kind keep their refresh token.
-fn keeps(client_kind: &ClientKind) -> bool
-    ensures { result ≡ spec.keeps client_kind.now }
+// Returns the lives that the client was registered with, if it was with any.
+pub(crate) fn registered_lives(client: &Option<ClientView<'_>>) -> Option<ClientLives>
+    ensures { result ≡ spec.registered_lives client.now }
 {
-    match client_kind {
-        ClientKind::Keeping(_) => true,
-        ClientKind::Public | ClientKind::Confidential(_) | ClientKind::Resource(_) => false,
+    match client {
+        Some(view) => view.lives,
+        None => None,
     }
 }
 
-// Judges a refresh request, by whether its client keeps the refresh token at the gate.
+// Judges a refresh request of the client, by the refresh token at the gate.
 pub(crate) fn renew(
     alloc: Global,
     now: Moment,
     params: &Params,
-    keeping: bool,
+    client: &Option<ClientView<'_>>,
     gate: Gate<'_>,
 ) -> Result<Judged, AllocError>
     requires { IsSoundGate now gate }
     ensures value { IfOk result (λ judged.
-        judged ≡ spec.renewed_of keeping params.now gate.entry) }
+        judged ≡ spec.renewed_of client.now params.now gate.entry) }
     ensures sound { IfOk result (IsSoundJudged now) }
 {
-    if keeping {
-        refresh(alloc, now, params, gate)
+    let lives = registered_lives(client);
+    if is_keeping(client) {
+        refresh(alloc, now, params, lives, gate)
     } else {
-        rotate(alloc, now, params, gate)
+        rotate(alloc, now, params, lives, gate)
     }
 }
 
@@ -64,44 +63,22 @@ fn refresh(
     alloc: Global,
     now: Moment,
     params: &Params,
+    lives: Option<ClientLives>,
     gate: Gate<'_>,
 ) -> Result<Judged, AllocError>
     requires { IsSoundGate now gate }
-    ensures value { IfOk result (λ judged. judged ≡ spec.refreshed_of params.now gate.entry) }
+    ensures value { IfOk result (λ judged.
+        judged ≡ spec.refreshed_of lives params.now gate.entry) }
     ensures sound { IfOk result (IsSoundJudged now) }
 {
     match gate {
         Gate::Shut(why) => Ok(Judged::Refused(why)),
         Gate::Reuse(id) => Ok(Judged::Reused(id)),
         Gate::Open(id, standing) => {
-            let scope = scope_asked(alloc, standing.scope, params.value("scope"))?;
-            refresh_by(alloc, now, id.dot, &standing, scope)
+            match grant_asked(alloc, id.dot, lives, &standing, params)? {
+                Some(grant) => Ok(Judged::Refreshes(grant)),
+                None => Ok(Judged::Refused(Refusal::WrongScope)),
+            }
         }
-    }
-}
-
-// Judges a request for an access token of a scope, if there is one.
-fn refresh_by(
-    alloc: Global,
-    now: Moment,
-    from: Dot,
-    standing: &Standing<'_>,
-    scope: Option<Scope>,
-) -> Result<Judged, AllocError>
-    requires { now < standing.now.family_end }
-    ensures value { IfOk result (λ judged. judged ≡ spec.refreshed_by from standing.now scope) }
-    ensures sound { IfOk result (IsSoundJudged now) }
-{
-    match scope {
-        Some(access) => {
-            let refresh = standing.scope.copy(alloc)?;
-            Ok(Judged::Refreshes(Grant {
-                from,
-                family_end: standing.family_end,
-                access,
-                refresh,
-            }))
-        }
-        None => Ok(Judged::Refused(Refusal::WrongScope)),
     }
 }
