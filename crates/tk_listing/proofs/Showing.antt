@@ -30,7 +30,9 @@ pub shows_one : (bytes : List ℕ) (piece : Piece) (n : ℕ) → IsFront bytes p
 shows_one bytes piece n front = record {
   pieces = piece ∷ [];
   fit = (front.fits, tt);
-  parts = sym (take-append-drop n bytes) ∙ ap (λ (l : List ℕ). l ++ drop n bytes) (front.spelled ∙ sym (append-nil (piece_bytes piece)));
+  parts = sym (take-append-drop n bytes)
+      ∙ ap (λ (l : List ℕ). l ++ drop n bytes)
+      (front.spelled ∙ sym (append-nil (piece_bytes piece)));
   shown = sym (append-nil (piece_lines piece));
 }
 
@@ -46,7 +48,8 @@ shows_trans bytes mid rest before after one two = record {
   parts = one.parts ∙ ap (λ (l : List ℕ). flat_map piece_bytes one.pieces ++ l) two.parts
       ∙ sym (append_assoc (flat_map piece_bytes one.pieces) (flat_map piece_bytes two.pieces) rest)
       ∙ ap (λ (l : List ℕ). l ++ rest) (sym (flat_map-append piece_bytes one.pieces two.pieces));
-  shown = ap (λ (l : List ℕ). l ++ after) one.shown ∙ ap (λ (l : List ℕ). flat_map piece_lines one.pieces ++ l) two.shown
+  shown = ap (λ (l : List ℕ). l ++ after) one.shown
+      ∙ ap (λ (l : List ℕ). flat_map piece_lines one.pieces ++ l) two.shown
       ∙ sym (flat_map-append piece_lines one.pieces two.pieces);
 }
 
@@ -55,7 +58,8 @@ pub shows_extend : (bytes rest lines more : List ℕ) → Shows bytes rest lines
 shows_extend bytes rest lines more one = record {
   pieces = one.pieces;
   fit = one.fit;
-  parts = ap (λ (l : List ℕ). l ++ more) one.parts ∙ append_assoc (flat_map piece_bytes one.pieces) rest more;
+  parts = ap (λ (l : List ℕ). l ++ more) one.parts
+      ∙ append_assoc (flat_map piece_bytes one.pieces) rest more;
   shown = one.shown;
 }
 
@@ -63,8 +67,10 @@ pub shows_next : (bytes lines : List ℕ) (used n : ℕ) (piece : Piece)
     → Shows bytes (drop used bytes) lines → IsFront (drop used bytes) piece n
     → Shows bytes (drop (used + n) bytes) (lines ++ piece_lines piece)
 shows_next bytes lines used n piece before front =
-    subst (λ (rest : List ℕ). Shows bytes rest (lines ++ piece_lines piece)) (drop-drop n used bytes)
-    (shows_trans bytes (drop used bytes) (drop n (drop used bytes)) lines (piece_lines piece) before (shows_one (drop used bytes) piece n front))
+    subst (λ (rest : List ℕ). Shows bytes rest (lines ++ piece_lines piece))
+    (drop-drop n used bytes)
+    (shows_trans bytes (drop used bytes) (drop n (drop used bytes)) lines (piece_lines piece) before
+    (shows_one (drop used bytes) piece n front))
 
 -- some lines were written, and then a beginning of more
 pub prints_more : (old mid new : Option (List ℕ)) (before text : List ℕ) → Appends old mid before
@@ -72,13 +78,15 @@ pub prints_more : (old mid new : Option (List ℕ)) (before text : List ℕ) →
 prints_more old mid new before text done begun = record {
   front = before ++ begun.front;
   rest = begun.rest;
-  parts = ap (λ (t : List ℕ). before ++ t) begun.parts ∙ sym (append_assoc before begun.front begun.rest);
+  parts = ap (λ (t : List ℕ). before ++ t) begun.parts
+      ∙ sym (append_assoc before begun.front begun.rest);
   appended = Appends-trans old mid new before begun.front done begun.appended;
 }
 
 -- the bundles and vectors of the first bytes are printed
 abbrev pub Printed : List ℕ → ℕ → Option (List ℕ) → Option (List ℕ) → Type 0
-Printed bytes used old now = (used ≤ length bytes) × ((lines : List ℕ) × Shows bytes (drop used bytes) lines × Appends old now lines)
+Printed bytes used old now = (used ≤ length bytes)
+    × ((lines : List ℕ) × Shows bytes (drop used bytes) lines × Appends old now lines)
 
 within : (bytes : List ℕ) (used n : ℕ) → used ≤ length bytes → n ≤ length (drop used bytes)
     → used + n ≤ length bytes
@@ -88,7 +96,8 @@ pub next_printed : (bytes rest : List ℕ) (used n : ℕ) (old mid new : Option 
     → Printed bytes used old mid → rest ≡ drop used bytes
     → PrintsFirst rest (step.Printed n) mid new → Printed bytes (used + n) old new
 next_printed bytes rest used n old mid new so_far is first =
-    let one : PrintsFirst (drop used bytes) (step.Printed n) mid new = subst (λ (l : List ℕ). PrintsFirst l (step.Printed n) mid new) is first in (
+    let one : PrintsFirst (drop used bytes) (step.Printed n) mid new =
+    subst (λ (l : List ℕ). PrintsFirst l (step.Printed n) mid new) is first in (
       within bytes used n so_far.0 one.1.within,
       (
         so_far.1.0 ++ piece_lines one.0,
@@ -101,7 +110,8 @@ pub next_failed : (bytes rest : List ℕ) (used n : ℕ) (old mid new : Option (
     → Printed bytes used old mid → rest ≡ drop used bytes
     → PrintsFirst rest (step.Failed n) mid new → PrintsWhole bytes (used + n) ends.Output old new
 next_failed bytes rest used n old mid new so_far is first =
-    let one : PrintsFirst (drop used bytes) (step.Failed n) mid new = subst (λ (l : List ℕ). PrintsFirst l (step.Failed n) mid new) is first in record {
+    let one : PrintsFirst (drop used bytes) (step.Failed n) mid new =
+    subst (λ (l : List ℕ). PrintsFirst l (step.Failed n) mid new) is first in record {
       within = within bytes used n so_far.0 one.1.within;
       lines = so_far.1.0 ++ piece_lines one.0;
       shows = shows_next bytes so_far.1.0 used n one.0 so_far.1.1 one.1;
@@ -112,12 +122,24 @@ pub ended_bad : (bytes rest : List ℕ) (used : ℕ) (old mid new : Option (List
     → Printed bytes used old mid → rest ≡ drop used bytes
     → PrintsFirst rest step.Malformed mid new → PrintsWhole bytes used ends.Malformed old new
 ended_bad bytes rest used old mid new so_far is first =
-    let one : PrintsFirst (drop used bytes) step.Malformed mid new = subst (λ (l : List ℕ). PrintsFirst l step.Malformed mid new) is first in
-    record { within = so_far.0; lines = so_far.1.0; shows = so_far.1.1; ends = (one.0, Appends-kept _ _ _ _ so_far.1.2 one.1) }
+    let one : PrintsFirst (drop used bytes) step.Malformed mid new =
+    subst (λ (l : List ℕ). PrintsFirst l step.Malformed mid new) is first in
+    record {
+      within = so_far.0;
+      lines = so_far.1.0;
+      shows = so_far.1.1;
+      ends = (one.0, Appends-kept _ _ _ _ so_far.1.2 one.1);
+    }
 
 pub ended_cut : (bytes rest : List ℕ) (used : ℕ) (old mid new : Option (List ℕ))
     → Printed bytes used old mid → rest ≡ drop used bytes
     → PrintsFirst rest step.Cut mid new → PrintsWhole bytes used ends.More old new
 ended_cut bytes rest used old mid new so_far is first =
-    let one : PrintsFirst (drop used bytes) step.Cut mid new = subst (λ (l : List ℕ). PrintsFirst l step.Cut mid new) is first in
-    record { within = so_far.0; lines = so_far.1.0; shows = so_far.1.1; ends = (inr one.0, Appends-kept _ _ _ _ so_far.1.2 one.1) }
+    let one : PrintsFirst (drop used bytes) step.Cut mid new =
+    subst (λ (l : List ℕ). PrintsFirst l step.Cut mid new) is first in
+    record {
+      within = so_far.0;
+      lines = so_far.1.0;
+      shows = so_far.1.1;
+      ends = (inr one.0, Appends-kept _ _ _ _ so_far.1.2 one.1);
+    }

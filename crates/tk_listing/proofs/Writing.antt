@@ -35,5 +35,6 @@ pub next_written : (v : Vector) (n : ℕ) (old mid new : List ℕ) → mid ≡ o
     → new ≡ mid ++ region_line v (n + 1)
     → new ≡ old ++ lines_up_to v (n + 1)
 next_written v n old mid new so_far next =
-    next ∙ ap (λ (l : List ℕ). l ++ region_line v (n + 1)) so_far ∙ append_assoc old (lines_up_to v n) (region_line v (n + 1))
+    next ∙ ap (λ (l : List ℕ). l ++ region_line v (n + 1)) so_far
+    ∙ append_assoc old (lines_up_to v n) (region_line v (n + 1))
     ∙ ap (λ (l : List ℕ). old ++ l) (sym (next_region v n))

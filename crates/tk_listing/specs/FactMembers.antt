@@ -15,6 +15,7 @@ use Rattle.tk_fact.specs.declared.client_kind.ClientKind.TheVariants.{
   Resource,
   Keeping,
 }
+use Rattle.tk_fact.specs.declared.client_lives.ClientLives.{ClientLives}
 use Rattle.tk_fact.specs.declared.client_added.ClientAdded.{ClientAdded}
 use Rattle.tk_fact.specs.declared.consent_given.ConsentGiven.{ConsentGiven}
 use Rattle.tk_fact.specs.declared.code_issued.CodeIssued.{CodeIssued}
@@ -94,11 +95,24 @@ minted_member name t =
     ++ (moment_member (codes "expiry") t.expiry
     ++ (text_member (codes "scope") t.scope ++ codes "}")))
 
--- the members of a client that is added: its kind, its scope and its redirection URIs
+-- the lives that a client was registered with, in seconds
+unfoldable pub given_lives : ClientLives → List ℕ
+given_lives l =
+    number_member (codes "access_life") l.access
+    ++ (number_member (codes "refresh_life") l.refresh
+    ++ number_member (codes "family_life") l.family)
+
+-- the lives that a client was registered with, if it has any
+unfoldable pub lives_members : Option ClientLives → List ℕ
+lives_members None = []
+lives_members (Some l) = given_lives l
+
+-- the members of a client that is added: its kind, its scope, its redirection URIs and its lives
 unfoldable pub client_fields : ClientAdded → List ℕ
 client_fields f =
     client_kind_members f.client_kind
-    ++ (text_member (codes "scope") f.scope ++ texts_member (codes "uris") f.redirects)
+    ++ (text_member (codes "scope") f.scope
+    ++ (texts_member (codes "uris") f.redirects ++ lives_members f.lives))
 
 -- the members of a consent that is given: its client, its subject and its scope
 unfoldable pub consent_fields : ConsentGiven → List ℕ

@@ -9,8 +9,8 @@ use crate::members::{
 };
 use std::alloc::AllocError;
 use tk_fact::{
-    AccessRefreshed, Body, ClientAdded, ClientKind, CodeIssued, CodeRedeemed, ConsentGiven,
-    MintedToken, RefreshRotated, SubjectOut, TokenRevoked,
+    AccessRefreshed, Body, ClientAdded, ClientKind, ClientLives, CodeIssued, CodeRedeemed,
+    ConsentGiven, MintedToken, RefreshRotated, SubjectOut, TokenRevoked,
 };
 use tk_format::Writer;
 use tk_handle::{Kind, TokenId};
@@ -43,7 +43,29 @@ fn put_client(writer: &mut Writer, fields: &ClientAdded) -> Result<(), AllocErro
 {
     put_client_kind(writer, &fields.client_kind)?;
     put_text(writer, b"scope", fields.scope.text().as_bytes())?;
-    put_uris(writer, b"uris", fields.redirects.uris())
+    put_uris(writer, b"uris", fields.redirects.uris())?;
+    put_lives(writer, &fields.lives)
+}
+
+// Writes the lives that a client was registered with, if it has any.
+#[tactic(auto, unfolding(crate::specs::FactMembers::lives_members))]
+fn put_lives(writer: &mut Writer, lives: &Option<ClientLives>) -> Result<(), AllocError>
+    ensures { OnOk result (writer.new ≡ writer.old ++ spec.lives_members lives.now) }
+{
+    match lives {
+        Some(lives) => put_given_lives(writer, lives),
+        None => Ok(()),
+    }
+}
+
+// Writes the lives that a client was registered with, in seconds.
+#[tactic(auto, unfolding(crate::specs::FactMembers::given_lives))]
+fn put_given_lives(writer: &mut Writer, lives: &ClientLives) -> Result<(), AllocError>
+    ensures { OnOk result (writer.new ≡ writer.old ++ spec.given_lives lives.now) }
+{
+    put_number(writer, b"access_life", lives.access)?;
+    put_number(writer, b"refresh_life", lives.refresh)?;
+    put_number(writer, b"family_life", lives.family)
 }
 
 // Writes the client kind, with the digest of the client's secret if it has one.

@@ -4,4 +4,5 @@ use Rattle.tk_listing.specs.Lines.{item_line}
 use Rattle.tk_listing.proofs.lines.put_items.Given as goal
 
 abbrev pub invariant-loop-item : goal.invariant-loop-item
-invariant-loop-item l = l.writer ≡ l.fn.writer ++ flat_map (item_line l.horizon) (take l.item-index l.items)
+invariant-loop-item l =
+    l.writer ≡ l.fn.writer ++ flat_map (item_line l.horizon) (take l.item-index l.items)
