@@ -48,8 +48,10 @@ use Rattle.tk_edge.specs.Terms.{TermsFields}
 use Rattle.tk_edge.specs.declared.tell.Fault.{Fault}
 use Rattle.tk_edge.specs.declared.tell.Fault.TheVariants.{Read, Write, Log, Memory}
 
-pub refused : (why : Refusal) (code : ErrorCode) (reply : ReplyFields) (allowed : Option (List ℕ)) (result : Result AnswerFields AllocError)
-    → code ≡ code_of why → reply ≡ error_reply code → allowed ≡ allowed_by why → IfOk result (λ a. a ≡ rendered reply allowed None)
+pub refused : (why : Refusal) (code : ErrorCode) (reply : ReplyFields) (allowed : Option (List ℕ))
+    (result : Result AnswerFields AllocError)
+    → code ≡ code_of why → reply ≡ error_reply code → allowed ≡ allowed_by why
+    → IfOk result (λ a. a ≡ rendered reply allowed None)
     → IfOk result (λ a. a ≡ refused_by why)
 refused why code reply allowed (Ok a) code_is reply_is allowed_is is =
     is ∙ ap (λ w. rendered reply w None) allowed_is
@@ -59,21 +61,30 @@ refused why code reply allowed (Err e) code_is reply_is allowed_is is = tt
 pub gains_nothing : (r : RegionFields) → Gains r None r
 gains_nothing r = record { number = refl; settings = refl; facts = refl }
 
-pub answers_nothing : (r : RegionFields) (told : AnswerFields) (result : Result AnswerFields AllocError)
+pub answers_nothing : (r : RegionFields) (told : AnswerFields)
+    (result : Result AnswerFields AllocError)
     → IfOk result (λ a. a ≡ told) → AnswersBy r told None result r
 answers_nothing r told (Ok a) h = (h, gains_nothing r, tt)
 answers_nothing r told (Err e) h = refl
 
-pub answers_request : (terms : TermsFields) (r : RegionFields) (now : ℕ) (words : List ℕ) (request : RequestFields) (p : PreparedFields) (result : Result AnswerFields AllocError) (new : RegionFields)
-    → p ≡ prepared_of r now words request → AnswersBy r (rendered (with_iss terms.issuer p.reply) None p.logged) p.fact result new
-    → AnswersBy r (answer_at terms r now words (Request request)) (fact_by r now words (Request request)) result new
+pub answers_request : (terms : TermsFields) (r : RegionFields) (now : ℕ) (words : List ℕ)
+    (request : RequestFields) (p : PreparedFields) (result : Result AnswerFields AllocError)
+    (new : RegionFields)
+    → p ≡ prepared_of r now words request
+    → AnswersBy r (rendered (with_iss terms.issuer p.reply) None p.logged) p.fact result new
+    → AnswersBy r (answer_at terms r now words (Request request))
+    (fact_by r now words (Request request)) result new
 answers_request terms r now words request p result new is answers =
-    subst (λ (x : PreparedFields). AnswersBy r (rendered (with_iss terms.issuer x.reply) None x.logged) x.fact result new) is answers
+    subst (λ (x : PreparedFields).
+    AnswersBy r (rendered (with_iss terms.issuer x.reply) None x.logged) x.fact result new) is
+    answers
 
 -- if no path of `/sync/` is served, an arrival is answered with its answer and its fact
-pub answers_alone : (terms : TermsFields) (r : RegionFields) (now : ℕ) (words : List ℕ) (came : Arrival) (result : Result AnswerFields AllocError) (new : RegionFields)
+pub answers_alone : (terms : TermsFields) (r : RegionFields) (now : ℕ) (words : List ℕ)
+    (came : Arrival) (result : Result AnswerFields AllocError) (new : RegionFields)
     → MayArrive (plain Admin) came
-    → Answers terms r now words came result new → AnswersBy r (answer_at terms r now words came) (fact_by r now words came) result new
+    → Answers terms r now words came result new
+    → AnswersBy r (answer_at terms r now words came) (fact_by r now words came) result new
 answers_alone terms r now words (Exchange asked) result new off told = absurd (clash off)
   where
     clash : Admin ≡ All → ⊥
@@ -81,33 +92,43 @@ answers_alone terms r now words (Exchange asked) result new off told = absurd (c
 answers_alone terms r now words came result new off told = told
 
 -- running out of memory leaves the region unchanged, or with the first facts of a bundle
-pub short_of : (reach : Reach) (terms : TermsFields) (known : Option (List ℕ)) (now : ℕ) (words : List ℕ) (came : Arrival) (old new : RegionFields) (e : AllocError)
+pub short_of : (reach : Reach) (terms : TermsFields) (known : Option (List ℕ)) (now : ℕ)
+    (words : List ℕ) (came : Arrival) (old new : RegionFields) (e : AllocError)
     → Arrives reach known came
     → Answers terms old now words came (Err e) new → IsShort reach terms now known old new
 short_of reach terms known now words (Exchange Vector) old new e arrives told = inl told
 short_of reach terms known now words (Exchange (Pull sent)) old new e arrives told = inl told
-short_of reach terms known now words (Exchange (Push sent)) old new e arrives told = inr (sent, arrives, told.0, told.1)
+short_of reach terms known now words (Exchange (Push sent)) old new e arrives told =
+    inr (sent, arrives, told.0, told.1)
 short_of reach terms known now words came old new e arrives told = inl told
 
 -- an arrival is answered, if memory doesn't run out
-pub answered : (reach : Reach) (terms : TermsFields) (bytes : List ℕ) (now : ℕ) (words : List ℕ) (came : Arrival) (old new : RegionFields) (result : Result AnswerFields AllocError)
+pub answered : (reach : Reach) (terms : TermsFields) (bytes : List ℕ) (now : ℕ) (words : List ℕ)
+    (came : Arrival) (old new : RegionFields) (result : Result AnswerFields AllocError)
     → IsArrival reach bytes came → Answers terms old now words came result new
-    → OnOk result ((x : Arrival) × IsArrival reach bytes x × Answers terms old now words x result new)
+    → OnOk result
+    ((x : Arrival) × IsArrival reach bytes x × Answers terms old now words x result new)
 answered reach terms bytes now words came old new (Ok answer) is told = (came, is, told)
 answered reach terms bytes now words came old new (Err e) is told = tt
 
 -- running out of memory over known bytes leaves the region unchanged, or with the first facts of a
 -- bundle
-pub short_answer : (reach : Reach) (terms : TermsFields) (bytes : List ℕ) (now : ℕ) (words : List ℕ) (came : Arrival) (old new : RegionFields) (result : Result AnswerFields AllocError)
-    → IsArrival reach bytes came → MayArrive reach came → Answers terms old now words came result new → OnErr result (IsShort reach terms now (Some bytes) old new)
+pub short_answer : (reach : Reach) (terms : TermsFields) (bytes : List ℕ) (now : ℕ) (words : List ℕ)
+    (came : Arrival) (old new : RegionFields) (result : Result AnswerFields AllocError)
+    → IsArrival reach bytes came → MayArrive reach came
+    → Answers terms old now words came result new
+    → OnErr result (IsShort reach terms now (Some bytes) old new)
 short_answer reach terms bytes now words came old new (Ok answer) is may told = tt
-short_answer reach terms bytes now words came old new (Err e) is may told = short_of reach terms (Some bytes) now words came old new e (may, λ b same. subst (λ x. IsArrival reach x came) (some_is b same) is) told
+short_answer reach terms bytes now words came old new (Err e) is may told =
+    short_of reach terms (Some bytes) now words came old new e
+    (may, λ b same. subst (λ x. IsArrival reach x came) (some_is b same) is) told
   where
     some_is : (b : List ℕ) → Some bytes ≡ Some b → bytes ≡ b
     some_is b same = cc
 
 -- replying to a pull with a page changes nothing
-pub pulls : (terms : TermsFields) (now : ℕ) (r : RegionFields) (sent : List ℕ) (result : Result AnswerFields AllocError)
+pub pulls : (terms : TermsFields) (now : ℕ) (r : RegionFields) (sent : List ℕ)
+    (result : Result AnswerFields AllocError)
     → IfOk result (λ a. a ≡ rendered (page_reply r.facts (whole wanted sent)) None None)
     → Exchanges terms now r (Pull sent) result r
 pulls terms now r sent (Ok a) h = (h, refl)
@@ -121,18 +142,23 @@ abbrev told_fault : Fault → Result StatusCode Fault
 told_fault fault = Err fault
 
 -- no arrival is replied to with a read fault
-no_read : (sent : Option (List ℕ)) (terms : TermsFields) (now : ℕ) (words : List ℕ) (came : Arrival) (region : Step) (log : Change) (still : Type 0) (writer : Change) (sealed : Bool)
+no_read : (sent : Option (List ℕ)) (terms : TermsFields) (now : ℕ) (words : List ℕ) (came : Arrival)
+    (region : Step) (log : Change) (still : Type 0) (writer : Change) (sealed : Bool)
     → RepliesTo sent terms now words came region log still writer sealed (Err Read) → ⊥
 no_read None terms now words came region log still writer sealed told = told
 no_read (Some bytes) terms now words came region log still writer sealed told = told.4.2
 
-module _ (asked : Asked) (came : Arrival) (old new : RegionFields) (log : Change) (still : Type 0) (writer : Change) (sealed : Bool) (arrives : Arrives asked.reach asked.known came) (spoke : came ≢ Silence) where
+module _ (asked : Asked) (came : Arrival) (old new : RegionFields) (log : Change) (still : Type 0)
+    (writer : Change) (sealed : Bool) (arrives : Arrives asked.reach asked.known came)
+    (spoke : came ≢ Silence) where
   -- an arrival was replied to, with the pushed bundle that is logged, if any
   abbrev Told : Option (List ℕ) → Result StatusCode Fault → Type 0
-  Told sent result = RepliesTo sent asked.terms asked.now asked.words came (record { before = old; after = new }) log still writer sealed result
+  Told sent result = RepliesTo sent asked.terms asked.now asked.words came
+      (record { before = old; after = new }) log still writer sealed result
 
   pub served : (status : StatusCode) → Told (bundle_to_log asked.log_taken came) (Ok status)
-      → IsServed asked (record { before = old; after = new }) log still writer sealed (Ok (Done status))
+      → IsServed asked (record { before = old; after = new }) log still writer sealed
+      (Ok (Done status))
   served status told = (came, arrives, spoke, told)
 
   -- running out of memory for an arrival's reply
@@ -141,9 +167,14 @@ module _ (asked : Asked) (came : Arrival) (old new : RegionFields) (log : Change
   ran_out b told = by came b arrives told
     where
       by : (c : Arrival) (b : Bool) → Arrives asked.reach asked.known c
-          → RepliesTo (bundle_to_log b c) asked.terms asked.now asked.words c (record { before = old; after = new }) log still writer sealed (Err Memory)
+          → RepliesTo (bundle_to_log b c) asked.terms asked.now asked.words c
+          (record { before = old; after = new }) log still writer sealed (Err Memory)
           → RunsOut b asked (record { before = old; after = new }) log still writer sealed
-      by c false arrives told = (short_of asked.reach asked.terms asked.known asked.now asked.words c old new told.0 arrives told.1, told.2)
+      by c false arrives told = (
+        short_of asked.reach asked.terms asked.known asked.now asked.words
+            c old new told.0 arrives told.1,
+        told.2,
+      )
       by (Exchange (Push sent)) true arrives told = inr (sent, arrives, told)
       by (Exchange (Pull sent)) true arrives told = inl (told.1, told.2)
       by (Exchange Vector) true arrives told = inl (told.1, told.2)
@@ -154,22 +185,29 @@ module _ (asked : Asked) (came : Arrival) (old new : RegionFields) (log : Change
 
   pub faulted : (fault : Fault) → Told (bundle_to_log asked.log_taken came) (Err fault)
       → IsServed asked (record { before = old; after = new }) log still writer sealed (Err fault)
-  faulted Read told = absurd (no_read (bundle_to_log asked.log_taken came) asked.terms asked.now asked.words came (record { before = old; after = new }) log still writer sealed told)
+  faulted Read told = absurd
+      (no_read (bundle_to_log asked.log_taken came) asked.terms asked.now asked.words came
+      (record { before = old; after = new }) log still writer sealed told)
   faulted Write told = (came, arrives, spoke, told)
   faulted Log told = (came, arrives, spoke, told)
   faulted Memory told = ran_out asked.log_taken told
 
 -- running out of memory before anything arrived
-pub nothing_heard : (b : Bool) (asked : Asked) (region : Step) (log : Change) (still : Type 0) (writer : Change) (sealed : Bool)
+pub nothing_heard : (b : Bool) (asked : Asked) (region : Step) (log : Change) (still : Type 0)
+    (writer : Change) (sealed : Bool)
     → IsUntouched region log still writer sealed
     → RunsOut b asked region log still writer sealed
 nothing_heard false asked region log still writer sealed same = (inl same.0, same.1)
 nothing_heard true asked region log still writer sealed same = inl same
 
 -- a fault while replying isn't a read fault
-pub unread : (sent : Option (List ℕ)) (terms : TermsFields) (now : ℕ) (words : List ℕ) (came : Arrival) (region : Step) (log : Change) (still : Type 0) (writer : Change) (sealed : Bool) (fault : Fault)
-    → RepliesTo sent terms now words came region log still writer sealed (Err fault) → fails fault ≢ fails Read
-unread sent terms now words came region log still writer sealed Read told = absurd (no_read sent terms now words came region log still writer sealed told)
+pub unread : (sent : Option (List ℕ)) (terms : TermsFields) (now : ℕ) (words : List ℕ)
+    (came : Arrival) (region : Step) (log : Change) (still : Type 0) (writer : Change)
+    (sealed : Bool) (fault : Fault)
+    → RepliesTo sent terms now words came region log still writer sealed (Err fault)
+    → fails fault ≢ fails Read
+unread sent terms now words came region log still writer sealed Read told =
+    absurd (no_read sent terms now words came region log still writer sealed told)
 unread sent terms now words came region log still writer sealed Write told = λ is. cc
 unread sent terms now words came region log still writer sealed Log told = λ is. cc
 unread sent terms now words came region log still writer sealed Memory told = λ is. cc

@@ -7,9 +7,11 @@
 --   front_arrives   what came at the front arrives in a stream of these bytes and what follows
 --   size_at         the size of a request, by the parts of its head
 --   stays_at        whether the connection may stay behind it, by the parts of its head
+--   named_at        the path that it names, by the parts of its head
 --   some_taken      a request behind which a connection stays took some bytes
 use Rattle.std.proofs.Common.{◌≡◌, ℕ, ◌+◌, ◌-◌, ◌<◌, ◌≤◌, Bool, true, false, List, [], ◌∷◌, ◌++◌}
-use Rattle.std.proofs.Common.{length, take, drop, map, Some, Result, Ok, Err, IfOk, nat_le, nat_lt}
+use Rattle.std.proofs.Common.{length, take, drop, map, Option, None, Some, Result, Ok, Err, IfOk}
+use Rattle.std.proofs.Common.{nat_le, nat_lt}
 use Rattle.std.proofs.Common.{inl, inr, refl, sym, ap, ◌∙◌, subst, arith, append-nil, length-take}
 use Rattle.std.proofs.lemmas.Bool.Decides.{nat_tests}
 use Rattle.std.specs.declared.alloc.AllocError.{AllocError}
@@ -24,12 +26,13 @@ use Rattle.httparse.proofs.GrammarLemmas.{ReadsRequest-append, request_unique}
 use Rattle.tk_params.specs.Params.{Pairs}
 use Rattle.tk_edge.specs.Bounds.{request_limit}
 use Rattle.tk_edge.specs.Fronts.{Follows, HasCome, IsCut, IsFewer, IsFront, IsFrontBy, IsOneRequest}
-use Rattle.tk_edge.specs.Fronts.{IsTakenWithin, MayComeBy}
+use Rattle.tk_edge.specs.Fronts.{IsTakenWithin, MayComeBy, Names, NamesIn}
 use Rattle.tk_edge.specs.Fronts.{Takes, TakesIn, front_of, request_size, size_of}
 use Rattle.tk_edge.specs.Heads.{HasHead, head_limit, field_limit}
 use Rattle.tk_edge.specs.Heard.{Arrives, IsArrival, MayArrive, arrival_by, arrival_of, headless}
 use Rattle.tk_edge.specs.Heard.{posted_to}
 use Rattle.tk_edge.specs.Judged.{judged_of}
+use Rattle.tk_edge.specs.Paths.{path_named, path_of}
 use Rattle.tk_edge.specs.Staying.{stays_by, stays_open}
 use Rattle.tk_edge.specs.declared.front.Front.{Front}
 use Rattle.tk_edge.specs.declared.front.Front.TheVariants.{More, Came}
@@ -40,6 +43,7 @@ use Rattle.tk_edge.specs.declared.hear.Arrival.TheVariants as arrival
 use Rattle.tk_message.specs.RequestFields.{RequestFields}
 use Rattle.tk_edge.specs.declared.judge.Judged.{Judged}
 use Rattle.tk_edge.specs.declared.judge.Judged.TheVariants.{Body}
+use Rattle.tk_edge.specs.declared.path.Path.{Path}
 use Rattle.tk_edge.specs.declared.path.Posted.{Posted}
 use Rattle.tk_edge.specs.declared.path.Posted.TheVariants.{Form, Pull, Push}
 use Rattle.tk_edge.specs.declared.reach.Reach.{Reach}
@@ -64,14 +68,21 @@ silent_front reach tail e =
     subst (λ (x : List ℕ). IsArrival reach x Silence) (sym e)
     (inl (λ h has. no_head_of_none h has.0.0 has.0.1, refl))
 
+-- no bytes, behind which nothing follows, name no path
+silent_names : (reach : Reach) (tail : List ℕ) → tail ≡ [] → Names reach tail None
+silent_names reach tail e =
+    subst (λ (x : List ℕ). Names reach x None) (sym e)
+    (inl (λ h has. no_head_of_none h has.0.0 has.0.1, refl))
+
 -- no bytes, behind which nothing follows, come as silence
 pub silent_comes : (reach : Reach) (over : Bool) → over ≡ true
-    → HasCome reach [] over Silence (record { size = 0; stays = false })
+    → HasCome reach [] over Silence (record { size = 0; stays = false; path = None })
 silent_comes reach over is = record {
   within = omega arith;
   takes = (refl, refl);
   may = tt;
   means = λ tail follows. silent_front reach tail (follows is);
+  names = λ tail follows. silent_names reach tail (follows is);
 }
 
 -- bytes that have no head, whatever follows
@@ -83,13 +94,17 @@ headless_arrives reach (b ∷ bytes) tail some none = inl (none, refl)
 
 -- bytes that have no head, whatever follows, are refused, and all of them are taken
 pub headless_comes : (reach : Reach) (bytes : List ℕ) (over : Bool)
-    → ((tail : List ℕ) → Follows over tail → IsArrival reach (bytes ++ tail) (Refused NoHead))
-    → HasCome reach bytes over (Refused NoHead) (record { size = length bytes; stays = false })
-headless_comes reach bytes over means = record {
+    → 0 < length bytes
+    → ((tail : List ℕ) → Follows over tail
+    → (h : RequestHead) → HasHead (bytes ++ tail) head_limit field_limit h → ⊥)
+    → HasCome reach bytes over (Refused NoHead)
+    (record { size = length bytes; stays = false; path = None })
+headless_comes reach bytes over some none = record {
   within = omega arith;
   takes = (refl, refl);
   may = tt;
-  means = means;
+  means = λ tail follows. headless_arrives reach bytes tail some (none tail follows);
+  names = λ tail follows. inl (none tail follows, refl);
 }
 
 -- bytes without a head that are over
@@ -122,28 +137,31 @@ long_none bytes tail headers spans k at long h ((rest, reads), short, few) =
     ap (λ (x : RequestHead). length (print_request x)) same.0 in
     absurd (omega (arith, at.len, long, short, e))
 
+-- a head at the front is the head of the stream, with what follows
+head_of : (bytes tail : List ℕ) (headers : List HeaderSpan) (spans : RequestSpans)
+    (h : RequestHead) → IsRequestAt bytes headers spans h
+    → spans.len ≤ head_limit → length headers ≡ field_limit
+    → HasHead (bytes ++ tail) head_limit field_limit h
+head_of bytes tail headers spans h at fits full =
+    let count : length (take spans.headers headers) ≡ length h.fields =
+    sym (length-map (take spans.headers headers) (header_bytes bytes)) ∙ ap length at.fields
+    ∙ length-map h.fields name_and_value in
+    let reads = ReadsRequest-append bytes h (drop spans.len bytes) tail at.reads in (
+      (drop spans.len bytes ++ tail, reads),
+      omega (arith, at.len, fits),
+      omega (arith, count, full, length-take spans.headers headers),
+    )
+
 -- a head at the front, with what follows
 pub head_arrives : (reach : Reach) (bytes tail : List ℕ) (headers : List HeaderSpan)
     (spans : RequestSpans) (h : RequestHead) (came : Arrival)
     → IsRequestWithin bytes headers spans → IsRequestAt bytes headers spans h
     → spans.len ≤ head_limit → length headers ≡ field_limit
-    → came ≡ arrival_of reach h (drop spans.len bytes ++ tail) → IsArrival reach (bytes ++ tail) came
+    → came ≡ arrival_of reach h (drop spans.len bytes ++ tail)
+    → IsArrival reach (bytes ++ tail) came
 head_arrives reach bytes tail headers spans h came within at fits full e =
-    let count : length (take spans.headers headers) ≡ length h.fields =
-    sym (length-map (take spans.headers headers) (header_bytes bytes)) ∙ ap length at.fields
-    ∙ length-map h.fields name_and_value in
     let reads = ReadsRequest-append bytes h (drop spans.len bytes) tail at.reads in
-    inr (
-      h,
-      drop spans.len bytes ++ tail,
-      reads,
-      (
-        (drop spans.len bytes ++ tail, reads),
-        omega (arith, at.len, fits),
-        omega (arith, count, full, length-take spans.headers headers),
-      ),
-      e,
-    )
+    inr (h, drop spans.len bytes ++ tail, reads, head_of bytes tail headers spans h at fits full, e)
 
 -- a head at the front, with what was read of the bytes behind it
 pub front_heard : {E : Type 0} (reach : Reach) (bytes : List ℕ) (over : Bool)
@@ -153,26 +171,31 @@ pub front_heard : {E : Type 0} (reach : Reach) (bytes : List ℕ) (over : Bool)
     → IfOk result (IsFrontBy over (λ tail. arrival_of reach h (drop spans.len bytes ++ tail)))
     → IfOk result (IsTakenWithin (length bytes)) → IfOk result (TakesIn reach bytes)
     → IfOk result (IsFewer (length bytes) (request_limit reach)) → IfOk result (MayComeBy reach)
+    → IfOk result (NamesIn (path_named reach (path_of h.target)))
     → IfOk result (IsFront reach bytes over)
 front_heard reach bytes over headers spans h (Ok More) within at fits full (open_yet, cut) taken
-    takes fewer may =
+    takes fewer may names =
     let whole = head_arrives reach bytes [] headers spans h (Refused ShortBody) within at fits full
     (sym cut) in
-    let ends = subst (λ (x : List ℕ). IsArrival reach x (Refused ShortBody)) (append-nil bytes) whole in
+    let ends =
+    subst (λ (x : List ℕ). IsArrival reach x (Refused ShortBody)) (append-nil bytes) whole in
     record {
       unended = open_yet;
       fewer = fewer;
-      cut = λ came is. subst IsCut (has_one_meaning reach bytes (Refused ShortBody) came ends is) tt;
+      cut =
+          λ came is. subst IsCut (has_one_meaning reach bytes (Refused ShortBody) came ends is) tt;
     }
 front_heard reach bytes over headers spans h (Ok (Came came count)) within at fits full by taken
-    takes fewer may = record {
+    takes fewer may names = record {
       within = taken;
       takes = takes;
       may = may;
       means = λ tail follows. head_arrives reach bytes tail headers spans h came within at fits full
           (by tail follows);
+      names = λ tail follows. inr (h, head_of bytes tail headers spans h at fits full, names);
     }
-front_heard reach bytes over headers spans h (Err e) within at fits full by taken takes fewer may = tt
+front_heard reach bytes over headers spans h (Err e) within at fits full by taken takes fewer may
+    names = tt
 
 -- a whole body, whatever follows it
 pub body_whole : (over : Bool) (posted : Posted) (size : ℕ) (taken : Taken) (front target : List ℕ)
@@ -200,6 +223,12 @@ pub same_front : {E : Type 0} (over : Bool) (f g : List ℕ → Arrival) (result
 same_front over f g (Ok More) e (open_yet, cut) = (open_yet, sym (e []) ∙ cut)
 same_front over f g (Ok (Came came taken)) e by = λ tail follows. by tail follows ∙ e tail
 same_front over f g (Err error) e by = tt
+
+-- what comes of a whole request names the path of its head
+pub names_come : (path : Option Path) (result : Result Arrival AllocError) (taken : Taken)
+    → taken.path ≡ path → IfOk (front_of result taken) (NamesIn path)
+names_come path (Ok came) taken is = is
+names_come path (Err error) taken is = tt
 
 -- what comes of a whole request
 pub may_come : (reach : Reach) (result : Result Arrival AllocError) (taken : Taken)
@@ -242,26 +271,36 @@ size_at reach h len method target judged el em et ej =
     let pairs = map name_and_value h.fields in
     ap (λ n. n + size_of judged) el
     ∙ ap (λ j. length (print_request h) + size_of j)
-    (ej ∙ ap (λ m. judged_of reach m target pairs) em ∙ ap (λ t. judged_of reach h.method t pairs) et)
+    (ej ∙ ap (λ m. judged_of reach m target pairs) em
+    ∙ ap (λ t. judged_of reach h.method t pairs) et)
 
 -- whether the connection may stay behind a request, by the parts of its head and what was judged
-pub stays_at : (reach : Reach) (h : RequestHead) (minor : ℕ) (method target : List ℕ) (pairs : Pairs)
+pub stays_at : (reach : Reach) (h : RequestHead) (minor : ℕ) (method target : List ℕ)
+    (pairs : Pairs)
     (judged : Judged) (stays : Bool) → minor ≡ h.minor → method ≡ h.method → target ≡ h.target
     → pairs ≡ map name_and_value h.fields → judged ≡ judged_of reach method target pairs
     → stays ≡ stays_by minor pairs judged → stays ≡ stays_open reach h
 stays_at reach h minor method target pairs judged stays en em et ep ej es =
     es ∙ ap (stays_by minor pairs) ej ∙ rw (en, em, et, ep) refl
 
+-- the path that a request names, by the parts of its head
+pub named_at : (reach : Reach) (h : RequestHead) (target text : List ℕ) (path : Option Path)
+    → target ≡ h.target → text ≡ path_of target → path ≡ path_named reach text
+    → path ≡ path_named reach (path_of h.target)
+named_at reach h target text path et ex ep = ep ∙ ap (path_named reach) (ex ∙ ap path_of et)
+
 -- a whole request takes its size
 pub request_takes : (reach : Reach) (bytes : List ℕ) (taken : Taken) (request : RequestFields)
     (result : Result Arrival AllocError) → IsOneRequest reach bytes taken
-    → IfOk result (λ came. came ≡ Request request) → IfOk (front_of result taken) (TakesIn reach bytes)
+    → IfOk result (λ came. came ≡ Request request)
+    → IfOk (front_of result taken) (TakesIn reach bytes)
 request_takes reach bytes taken request (Ok came) one e =
     subst (λ (x : Arrival). Takes reach bytes x taken) (sym e) one
 request_takes reach bytes taken request (Err error) one e = tt
 
 -- a whole body is that of a request or of an exchange, which takes its size
-pub posted_takes : (reach : Reach) (bytes : List ℕ) (taken : Taken) (posted : Posted) (body : List ℕ)
+pub posted_takes : (reach : Reach) (bytes : List ℕ) (taken : Taken) (posted : Posted)
+    (body : List ℕ)
     (pairs : Pairs) (result : Result Arrival AllocError) → IsOneRequest reach bytes taken
     → IfOk result (λ came. came ≡ posted_to posted body pairs)
     → IfOk (front_of result taken) (TakesIn reach bytes)
@@ -298,8 +337,10 @@ some_taken reach bytes (Refused why) taken h stays = absurd (false_true (sym h.1
     false_true : false ≡ true → ⊥
     false_true e = cc
 some_taken reach bytes (Request request) taken h stays = omega (arith, h.3, some_head h.0 h.2.0)
-some_taken reach bytes (arrival.Exchange exchange) taken h stays = omega (arith, h.3, some_head h.0 h.2.0)
-some_taken reach bytes (arrival.Notice notice) taken h stays = omega (arith, h.3, some_head h.0 h.2.0)
+some_taken reach bytes (arrival.Exchange exchange) taken h stays =
+    omega (arith, h.3, some_head h.0 h.2.0)
+some_taken reach bytes (arrival.Notice notice) taken h stays =
+    omega (arith, h.3, some_head h.0 h.2.0)
 
 -- fewer bytes than a limit are fewer than a greater one
 pub fewer_within : {E : Type 0} (many all limit most : ℕ) (result : Result Front E) → many ≡ all

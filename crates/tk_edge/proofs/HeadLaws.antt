@@ -13,7 +13,8 @@ use Rattle.tk_edge.specs.Heads.{HasHead}
 pub front-within : (a b c d : List ℕ) → a ++ b ≡ c ++ d → length c ≤ length a
     → a ≡ c ++ drop (length c) a
 front-within a b c d e short =
-    let same : take (length c) a ≡ c = sym (take-append-le (length c) a b short) ∙ ap (take (length c)) e ∙ take-append_seam c d in
+    let same : take (length c) a ≡ c =
+    sym (take-append-le (length c) a b short) ∙ ap (take (length c)) e ∙ take-append_seam c d in
     sym (take-append-drop (length c) a) ∙ ap (λ l. l ++ drop (length c) a) same
 
 -- if the bytes have no head and are as many as the limit, no bytes behind them make one within it

@@ -20,7 +20,8 @@ pair_grows form name value = simp length-append (omega arith)
 pairs_grow : (form : List ℕ) (pairs : Pairs) → 0 < length form
     → 0 < length (extend_pairs form pairs)
 pairs_grow form [] some = some
-pairs_grow form (pair ∷ pairs) some = pairs_grow (append_pair form pair.0 pair.1) pairs (pair_grows form pair.0 pair.1)
+pairs_grow form (pair ∷ pairs) some =
+    pairs_grow (append_pair form pair.0 pair.1) pairs (pair_grows form pair.0 pair.1)
 
 -- a pair behind a form that isn't empty is separated from it
 parts : (form : List ℕ) → 0 < length form → separator form ≡ 38 ∷ []
@@ -30,11 +31,15 @@ pub adds_iss : AddsIssuer
 adds_iss issuer uri first others =
     let form = extend_pairs [] (first ∷ others) in
     let iss = serialize_pair (codes "iss", issuer) in
-    let long : 0 < length form = pairs_grow (append_pair [] first.0 first.1) others (pair_grows [] first.0 first.1) in
+    let long : 0 < length form =
+    pairs_grow (append_pair [] first.0 first.1) others (pair_grows [] first.0 first.1) in
     let longer : 0 < length (reply_of uri (first ∷ others)) = simp length-append (omega arith) in
-    let more : extend_pairs [] (first ∷ (others ++ (codes "iss", issuer) ∷ [])) ≡ append_pair form (codes "iss") issuer =
-    fold-append (λ text pair. append_pair text pair.0 pair.1) (append_pair [] first.0 first.1) others ((codes "iss", issuer) ∷ []) in
-    ap (λ s. (reply_of uri (first ∷ others) ++ s) ++ iss) (parts (reply_of uri (first ∷ others)) longer)
+    let more : extend_pairs [] (first ∷ (others ++ (codes "iss", issuer) ∷ []))
+    ≡ append_pair form (codes "iss") issuer =
+    fold-append (λ text pair. append_pair text pair.0 pair.1) (append_pair [] first.0 first.1)
+    others ((codes "iss", issuer) ∷ []) in
+    ap (λ s. (reply_of uri (first ∷ others) ++ s) ++ iss)
+    (parts (reply_of uri (first ∷ others)) longer)
     ∙ ap (λ s. s ++ iss) (append_assoc uri (joint uri ∷ form) (38 ∷ []))
     ∙ append_assoc uri ((joint uri ∷ form) ++ 38 ∷ []) iss
     ∙ ap (λ s. uri ++ joint uri ∷ ((form ++ s) ++ iss)) (sym (parts form long))

@@ -53,9 +53,11 @@ pub opened : (all shown new : List ℕ) (start at : ℕ) → shown ≡ all
 opened all shown new start at is first cut =
     let reply : List ℕ = drop start all in
     let front = take-add start at all in
-    let rest : drop (at + length closing_line) reply ≡ drop (start + (at + length closing_line)) all =
+    let rest : drop (at + length closing_line) reply
+    ≡ drop (start + (at + length closing_line)) all =
     drop-drop (at + length closing_line) start all in
-    let same : start + at + length closing_line ≡ start + (at + length closing_line) = omega arith in (
+    let same : start + at + length closing_line ≡ start + (at + length closing_line) =
+    omega arith in (
       take at reply ++ drop (at + length closing_line) reply,
       inl (at, subst (λ l. IsFirstAt l at) (shown_is all shown start is) first, refl),
       cut ∙ ap (λ l. l ++ drop (start + at + length closing_line) all) front

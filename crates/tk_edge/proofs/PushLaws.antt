@@ -24,14 +24,21 @@ use Rattle.tk_edge.specs.declared.tell.Fault.{Fault}
 use Rattle.tk_edge.specs.declared.tell.Fault.TheVariants.{Read, Write, Log, Memory}
 
 -- a record was logged, if there is one, and then the reply was written
-pub logged_and_told : (logged : Option (List ℕ)) (taken : Result ℕ PushError) (log : Change) (still : Type 0) (writer : Change) (sealed : Bool) (result : Result StatusCode Fault)
-    → Appends log.before log.after (logged_of logged) → (logged ≡ None → still) → TellsTaken taken writer result → sealed ≡ false
+pub logged_and_told : (logged : Option (List ℕ)) (taken : Result ℕ PushError) (log : Change)
+    (still : Type 0) (writer : Change) (sealed : Bool) (result : Result StatusCode Fault)
+    → Appends log.before log.after (logged_of logged) → (logged ≡ None → still)
+    → TellsTaken taken writer result → sealed ≡ false
     → LogsAndTells logged taken log still writer sealed result
-logged_and_told logged taken log still writer sealed (Ok status) gained unused told unsealed = (gained, unused, told, unsealed)
-logged_and_told logged taken log still writer sealed (Err Write) gained unused told unsealed = (gained, unused, told, unsealed)
-logged_and_told logged taken log still writer sealed (Err Memory) gained unused told unsealed = (gained, unused, told, unsealed)
-logged_and_told logged taken log still writer sealed (Err Read) gained unused told unsealed = absurd told
-logged_and_told logged taken log still writer sealed (Err Log) gained unused told unsealed = absurd told
+logged_and_told logged taken log still writer sealed (Ok status) gained unused told unsealed =
+    (gained, unused, told, unsealed)
+logged_and_told logged taken log still writer sealed (Err Write) gained unused told unsealed =
+    (gained, unused, told, unsealed)
+logged_and_told logged taken log still writer sealed (Err Memory) gained unused told unsealed =
+    (gained, unused, told, unsealed)
+logged_and_told logged taken log still writer sealed (Err Read) gained unused told unsealed =
+    absurd told
+logged_and_told logged taken log still writer sealed (Err Log) gained unused told unsealed =
+    absurd told
 
 -- the log failed, and has a beginning of the record
 pub begun : (logged : Option (List ℕ)) (log : Change) → logged ≢ None
@@ -40,7 +47,8 @@ begun None log some front = absurd (some refl)
 begun (Some bytes) log some front = front
 
 pub refused_lost : RefusedIsLost
-refused_lost terms now old new bytes taken why is h = by taken (subst (λ r. PushesBy r old bytes taken new) is h)
+refused_lost terms now old new bytes taken why is h =
+    by taken (subst (λ r. PushesBy r old bytes taken new) is h)
   where
     by : (t : Result ℕ PushError) → PushesBy (Some why) old bytes t new
         → ((t ≡ Err why) ⊎ (t ≡ Err (Take take.Memory))) × (new ≡ old)
@@ -61,7 +69,8 @@ all_accepted now None = refl
 all_accepted now (Some b) = ap (first_refusal false) (none_outside b.items)
 
 pub taken_as : TakesAsRegion
-taken_as terms now old new bytes taken is h = by taken (subst (λ r. PushesBy r old bytes taken new) is h)
+taken_as terms now old new bytes taken is h =
+    by taken (subst (λ r. PushesBy r old bytes taken new) is h)
   where
     by : (t : Result ℕ PushError) → PushesBy None old bytes t new
         → (result : Result ℕ TakeError) × (t ≡ lifted result) × TakesBundle old bytes result new

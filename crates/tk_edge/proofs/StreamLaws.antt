@@ -59,12 +59,14 @@ form_in_front front rest size fits =
     (le-leb size (length (front ++ rest)) long, take-append-le size front rest fits)
 
 pub judged_same : (reach : Reach) (h : RequestHead) (rest method target : List ℕ) (judged : Judged)
-    → method ≡ h.method → target ≡ h.target → judged ≡ judged_of reach method target (map name_and_value h.fields)
+    → method ≡ h.method → target ≡ h.target
+    → judged ≡ judged_of reach method target (map name_and_value h.fields)
     → arrival_by target (map name_and_value h.fields) rest judged ≡ arrival_of reach h rest
 judged_same reach h rest method target judged em et ej =
     let pairs = map name_and_value h.fields in
     ap (λ j. arrival_by target pairs rest j)
-    (ej ∙ ap (λ m. judged_of reach m target pairs) em ∙ ap (λ t. judged_of reach h.method t pairs) et)
+    (ej ∙ ap (λ m. judged_of reach m target pairs) em
+    ∙ ap (λ t. judged_of reach h.method t pairs) et)
     ∙ ap (λ t. arrival_by t pairs rest (judged_of reach h.method h.target pairs)) et
 
 pub has_one_meaning : HasOneMeaning
@@ -90,7 +92,8 @@ speaks target pairs rest (Query endpoint) e = absurd (cc)
 speaks target pairs rest Vector e = absurd (cc)
 speaks target pairs rest (Notice notice) e = absurd (cc)
 speaks target pairs rest (Body posted n) e =
-    (elim (nat_le n (length rest)) as (λ b. Silence ≡ cond b (posted_to posted (take n rest) pairs) (arrival.Refused ShortBody) → ⊥) [
+    (elim (nat_le n (length rest)) as
+    (λ b. Silence ≡ cond b (posted_to posted (take n rest) pairs) (arrival.Refused ShortBody) → ⊥) [
       | true ↦ speaks_to posted (take n rest) pairs
       | false ↦ λ e. absurd (cc)
     ]) e
@@ -99,11 +102,13 @@ pub silent_is_empty : (reach : Reach) (bytes : List ℕ) → IsArrival reach byt
 silent_is_empty reach [] came = refl
 silent_is_empty reach (b ∷ bytes) (inl (none, e)) = absurd (cc)
 silent_is_empty reach (b ∷ bytes) (inr (h, rest, reads, has, e)) =
-    absurd (speaks h.target (map name_and_value h.fields) rest (judged_of reach h.method h.target (map name_and_value h.fields)) e)
+    absurd (speaks h.target (map name_and_value h.fields) rest
+    (judged_of reach h.method h.target (map name_and_value h.fields)) e)
 
 pub hears_nothing : (reach : Reach) (known : Option (List ℕ)) (came : Arrival) → came ≡ Silence
     → Arrives reach known came → (bytes : List ℕ) → known ≡ Some bytes → bytes ≡ []
-hears_nothing reach known came silent arrives bytes is = silent_is_empty reach bytes (subst (IsArrival reach bytes) silent (arrives.1 bytes is))
+hears_nothing reach known came silent arrives bytes is =
+    silent_is_empty reach bytes (subst (IsArrival reach bytes) silent (arrives.1 bytes is))
 
 -- ---- unless all paths are served
 
@@ -155,7 +160,8 @@ inner_may : (reach : Reach) (set : PathSet) (text : List ℕ) → reach.paths �
     → MayServeIf reach (inner_named set text)
 inner_may reach Clients text is = tt
 inner_may reach Admin text is = admin_may reach text
-inner_may reach All text is = either reach (admin_named text) (sync_named text) (admin_may reach text) (sync_may reach text is)
+inner_may reach All text is = either reach (admin_named text) (sync_named text)
+    (admin_may reach text) (sync_may reach text is)
 
 -- a path that needs a flag is served only if the flag is set
 flagged : (reach : Reach) (flag named : Bool) (p : Path) (o : Option Path)
@@ -167,15 +173,19 @@ flagged reach false named p o h k = k
 
 notice_may : (reach : Reach) (text : List ℕ) → MayServeIf reach (notice_named reach text)
 notice_may reach text =
-    flagged reach reach.discovery (bytes_eq text (codes "/.well-known/oauth-authorization-server")) (path.Notice Discovery) _ (λ on. on)
+    flagged reach reach.discovery (bytes_eq text (codes "/.well-known/oauth-authorization-server"))
+    (path.Notice Discovery) _ (λ on. on)
     (flagged reach reach.health (bytes_eq text (codes "/health")) (path.Notice Health) _ (λ on. on)
-    (flagged reach (has_metrics reach) (bytes_eq text (codes "/metrics")) (path.Notice Metrics) None (λ on. on) tt))
+    (flagged reach (has_metrics reach) (bytes_eq text (codes "/metrics")) (path.Notice Metrics) None
+    (λ on. on) tt))
 
 beside_may : (reach : Reach) (text : List ℕ) → MayServeIf reach (beside_clients reach text)
-beside_may reach text = either reach (notice_named reach text) (inner_named reach.paths text) (notice_may reach text) (inner_may reach reach.paths text refl)
+beside_may reach text = either reach (notice_named reach text) (inner_named reach.paths text)
+    (notice_may reach text) (inner_may reach reach.paths text refl)
 
 may_serve : (reach : Reach) (text : List ℕ) → MayServeIf reach (path_named reach text)
-may_serve reach text = either reach (client_named text) (beside_clients reach text) (client_may reach text) (beside_may reach text)
+may_serve reach text = either reach (client_named text) (beside_clients reach text)
+    (client_may reach text) (beside_may reach text)
 
 -- the services that exist only if all paths are served
 abbrev MayDo : Reach → Service → Type 0
@@ -226,26 +236,30 @@ may_size : (reach : Reach) (posted : Posted) (told : Numeral) (kinds : List (Lis
     → MayPost reach posted → MayAsk reach (sized posted told kinds)
 may_size reach posted numeral.Malformed kinds fits h = tt
 may_size reach posted numeral.Above kinds fits h = tt
-may_size reach posted (numeral.Within n) kinds fits h = choose reach (fits_type posted kinds) (Body posted n) _ (h, fits) tt
+may_size reach posted (numeral.Within n) kinds fits h =
+    choose reach (fits_type posted kinds) (Body posted n) _ (h, fits) tt
 
 may_post : (reach : Reach) (posted : Posted) (codings lengths kinds : List (List ℕ))
     → MayPost reach posted → MayAsk reach (with_body posted codings lengths kinds)
 may_post reach posted (coding ∷ codings) lengths kinds h = tt
 may_post reach posted [] [] kinds h = tt
 may_post reach posted [] (text ∷ more) kinds h =
-    may_size reach posted (numeral_up_to (limit_of posted) text) kinds (bounded (limit_of posted) text) h
+    may_size reach posted (numeral_up_to (limit_of posted) text) kinds
+    (bounded (limit_of posted) text) h
 
 may_be_asked : (reach : Reach) (s : Service) (pairs : Pairs) → MayDo reach s
     → MayAsk reach (asked s pairs)
 may_be_asked reach (service.Query e) pairs h = tt
 may_be_asked reach service.Vector pairs h = h
 may_be_asked reach (service.Notice notice) pairs h = h
-may_be_asked reach (service.Body posted) pairs h = may_post reach posted (coding_in pairs) (length_in pairs) (type_in pairs) h
+may_be_asked reach (service.Body posted) pairs h =
+    may_post reach posted (coding_in pairs) (length_in pairs) (type_in pairs) h
 
 may_at : (reach : Reach) (p : Path) (s : Option Service) (pairs : Pairs) → MayDoIf reach s
     → MayAsk reach (at_service p s pairs)
 may_at reach p None pairs h = tt
-may_at reach p (Some s) pairs h = choose reach (has_repeats pairs) _ (asked s pairs) tt (may_be_asked reach s pairs h)
+may_at reach p (Some s) pairs h =
+    choose reach (has_repeats pairs) _ (asked s pairs) tt (may_be_asked reach s pairs h)
 
 may_at_path : (reach : Reach) (o : Option Path) (m : Option Method) (pairs : Pairs)
     → MayServeIf reach o → MayAsk reach (at_path o m pairs)
@@ -254,13 +268,17 @@ may_at_path reach (Some p) m pairs h = may_at reach p (service_at p m) pairs (ma
 
 may_ask : (reach : Reach) (method target : List ℕ) (pairs : Pairs)
     → MayAsk reach (judged_of reach method target pairs)
-may_ask reach method target pairs = may_at_path reach _ (method_named method) pairs (may_serve reach (path_of target))
+may_ask reach method target pairs =
+    may_at_path reach _ (method_named method) pairs (may_serve reach (path_of target))
 
 -- a judgement requests an exchange only if all paths are served, whatever fields were read
-pub judged_may : (reach : Reach) (method target : List ℕ) (fields : Fields) (pairs : Pairs) (judged : Judged)
+pub judged_may : (reach : Reach) (method target : List ℕ) (fields : Fields) (pairs : Pairs)
+    (judged : Judged)
     → AreFields fields pairs
-    → ((all : Pairs) → AreFields fields all → judged ≡ judged_of reach method target all) → MayAsk reach judged
-judged_may reach method target fields pairs judged are told = subst (MayAsk reach) (sym (told pairs are)) (may_ask reach method target pairs)
+    → ((all : Pairs) → AreFields fields all → judged ≡ judged_of reach method target all)
+    → MayAsk reach judged
+judged_may reach method target fields pairs judged are told =
+    subst (MayAsk reach) (sym (told pairs are)) (may_ask reach method target pairs)
 
 by_posted : (reach : Reach) (posted : Posted) (body : List ℕ) (pairs : Pairs) → MayPost reach posted
     → MayArrive reach (posted_to posted body pairs)
@@ -275,7 +293,9 @@ by_judged reach target pairs rest (Query e) h = tt
 by_judged reach target pairs rest Vector h = h
 by_judged reach target pairs rest (Notice notice) h = h
 by_judged reach target pairs rest (Body posted n) h =
-    elim (nat_le n (length rest)) as (λ b. MayArrive reach (cond b (posted_to posted (take n rest) pairs) (arrival.Refused ShortBody))) [
+    elim (nat_le n (length rest)) as
+    (λ b. MayArrive reach
+    (cond b (posted_to posted (take n rest) pairs) (arrival.Refused ShortBody))) [
       | true ↦ by_posted reach posted (take n rest) pairs h.0
       | false ↦ tt
     ]
@@ -285,8 +305,10 @@ headless_may reach [] = tt
 headless_may reach (b ∷ bytes) = tt
 
 pub all_heard : HearsAll
-all_heard reach bytes came (inl (none, p)) = subst (MayArrive reach) (sym p) (headless_may reach bytes)
+all_heard reach bytes came (inl (none, p)) =
+    subst (MayArrive reach) (sym p) (headless_may reach bytes)
 all_heard reach bytes came (inr (h, rest, reads, has, p)) =
     let pairs = map name_and_value h.fields in
     subst (MayArrive reach) (sym p)
-    (by_judged reach h.target pairs rest (judged_of reach h.method h.target pairs) (may_ask reach h.method h.target pairs))
+    (by_judged reach h.target pairs rest (judged_of reach h.method h.target pairs)
+    (may_ask reach h.method h.target pairs))

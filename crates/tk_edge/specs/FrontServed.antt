@@ -49,5 +49,6 @@ IsFrontServed asked bytes over region log still writer sealed (Err fault) =
 abbrev pub IsFrontTurnedAway : List ℕ → Change → Result (Option (Served × Taken)) Fault → Type 0
 IsFrontTurnedAway bytes writer (Ok None) = ⊥
 IsFrontTurnedAway bytes writer (Ok (Some end)) =
-    (end.1 ≡ record { size = length bytes; stays = false }) × IsTurnedAway writer (Ok end.0)
+    (end.1 ≡ record { size = length bytes; stays = false; path = None })
+    × IsTurnedAway writer (Ok end.0)
 IsFrontTurnedAway bytes writer (Err fault) = IsTurnedAway writer (Err fault)

@@ -4,17 +4,20 @@
 --   IsCut          the meaning of a stream that ends too early
 --   request_size   how many bytes a request takes
 --   Takes          what was taken of what came, and whether the connection may stay
+--   Names          the path that a stream names
 --   IsPartial      no request is whole
 --   IsFront        what the front of bytes is: a meaning whatever follows, or no whole request
---   IsFrontBy, IsTakenWithin, TakesIn, IsFewer, MayComeBy   parts of that
-use Rattle.std.specs.Prelude.{◌≡◌, ⊤, ℕ, ◌+◌, ◌<◌, ◌≤◌, Bool, true, false, List, [], ◌++◌, length}
-use Rattle.std.specs.Prelude.{map, Result, Ok, Err}
+--   IsFrontBy, IsTakenWithin, TakesIn, IsFewer, MayComeBy, NamesIn   parts of that
+use Rattle.std.specs.Prelude.{◌≡◌, ◌⊎◌, ⊤, ℕ, ◌+◌, ◌<◌, ◌≤◌, Bool, true, false, List, [], ◌++◌}
+use Rattle.std.specs.Prelude.{length, map, Option, None, Result, Ok, Err}
 use Rattle.std.specs.declared.alloc.AllocError.{AllocError}
 use Rattle.httparse.specs.Grammar.{RequestHead, ReadsRequest, print_request}
 use Rattle.httparse.specs.Spans.{name_and_value}
 use Rattle.tk_edge.specs.Bounds.{request_limit}
+use Rattle.tk_edge.specs.Heads.{HasHead, head_limit, field_limit}
 use Rattle.tk_edge.specs.Heard.{IsArrival, MayArrive}
 use Rattle.tk_edge.specs.Judged.{judged_of}
+use Rattle.tk_edge.specs.Paths.{path_named, path_of}
 use Rattle.tk_edge.specs.Staying.{stays_open}
 use Rattle.tk_edge.specs.declared.front.Front.{Front}
 use Rattle.tk_edge.specs.declared.front.Front.TheVariants.{More, Came}
@@ -24,6 +27,7 @@ use Rattle.tk_edge.specs.declared.hear.Arrival.TheVariants.{Silence, Refused, Re
 use Rattle.tk_edge.specs.declared.hear.Arrival.TheVariants.{Notice}
 use Rattle.tk_edge.specs.declared.judge.Judged.{Judged}
 use Rattle.tk_edge.specs.declared.judge.Judged.TheVariants as judged
+use Rattle.tk_edge.specs.declared.path.Path.{Path}
 use Rattle.tk_edge.specs.declared.reach.Reach.{Reach}
 use Rattle.tk_edge.specs.declared.refusal.Refusal.{Refusal}
 use Rattle.tk_edge.specs.declared.refusal.Refusal.TheVariants.{NoHead, ShortBody}
@@ -76,6 +80,14 @@ Takes reach bytes (Request request) taken = IsOneRequest reach bytes taken
 Takes reach bytes (Exchange exchange) taken = IsOneRequest reach bytes taken
 Takes reach bytes (Notice notice) taken = IsOneRequest reach bytes taken
 
+-- The path that a stream names: that of its head, if it is reached. A stream without a head names
+-- none (RFC 9112, 3.2).
+abbrev pub Names : Reach → List ℕ → Option Path → Type 0
+Names reach bytes path =
+    (((h : RequestHead) → HasHead bytes head_limit field_limit h → ⊥) × (path ≡ None))
+    ⊎ ((h : RequestHead) × HasHead bytes head_limit field_limit h
+    × (path ≡ path_named reach (path_of h.target)))
+
 -- No request is whole: more bytes may follow, there are fewer than a request may have, and a stream
 -- that ended here would end too early (own).
 pub record IsPartial (reach : Reach) (bytes : List ℕ) (over : Bool) : Type 0 where
@@ -83,13 +95,15 @@ pub record IsPartial (reach : Reach) (bytes : List ℕ) (over : Bool) : Type 0 w
   pub fewer : length bytes < request_limit reach
   pub cut : (came : Arrival) → IsArrival reach bytes came → IsCut came
 
--- what came at the front: it means the same whatever follows the bytes (own)
+-- what came at the front: it means the same, and names the same path, whatever follows the bytes
+-- (own)
 pub record HasCome (reach : Reach) (bytes : List ℕ) (over : Bool) (came : Arrival) (taken : Taken)
     : Type 0 where
   pub within : taken.size ≤ length bytes
   pub takes : Takes reach bytes came taken
   pub may : MayArrive reach came
   pub means : (tail : List ℕ) → Follows over tail → IsArrival reach (bytes ++ tail) came
+  pub names : (tail : List ℕ) → Follows over tail → Names reach (bytes ++ tail) taken.path
 
 -- what the front of bytes is (own)
 abbrev pub IsFront : Reach → List ℕ → Bool → Front → Type 0
@@ -121,6 +135,11 @@ IsFewer many limit (Came came taken) = ⊤
 abbrev pub MayComeBy : Reach → Front → Type 0
 MayComeBy reach More = ⊤
 MayComeBy reach (Came came taken) = MayArrive reach came
+
+-- what came names this path (own)
+abbrev pub NamesIn : Option Path → Front → Type 0
+NamesIn path More = ⊤
+NamesIn path (Came came taken) = taken.path ≡ path
 
 -- the front of a whole request, unless memory ran out for it (own)
 abbrev pub front_of : Result Arrival AllocError → Taken → Result Front AllocError

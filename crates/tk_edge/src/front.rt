@@ -12,6 +12,9 @@ pub struct Taken {
     pub size: usize,
     /// Whether the connection may stay open behind the reply (RFC 9112, 9.3).
     pub stays: bool,
+    /// The path that the request names, if it is reached (RFC 9112, 3.2). A refused request has it
+    /// too, if its head came.
+    pub path: Option<Path>,
 }
 
 /// What the front of the bytes of a connection is.
@@ -24,17 +27,18 @@ pub enum Front {
 }
 
 ghost use Rattle.std.specs.Prelude.{◌≡◌, ◌++◌, ◌+◌, ◌^◌, ◌<◌, ◌≤◌, ℕ, List, [], length, drop};
-ghost use Rattle.std.specs.Prelude.{IfOk, false};
+ghost use Rattle.std.specs.Prelude.{IfOk, None, false};
 ghost use Rattle.httparse.specs.Grammar.{RequestHead, HasNoRequest};
 ghost use Rattle.httparse.specs.Spans.{IsRequestAt, IsRequestWithin};
 ghost use Rattle.tk_params.specs.Params.{Pairs};
 ghost use Rattle.tk_edge.specs.Bounds.{request_limit};
 ghost use Rattle.tk_edge.specs.Fronts.{IsFewer, IsFront, IsFrontBy, IsOneRequest, IsTakenWithin};
-ghost use Rattle.tk_edge.specs.Fronts.{MayComeBy, TakesIn, front_of};
+ghost use Rattle.tk_edge.specs.Fronts.{MayComeBy, NamesIn, TakesIn, front_of};
 ghost use Rattle.tk_edge.specs.HeadFields.{AreFields};
 ghost use Rattle.tk_edge.specs.Heads.{head_limit};
 ghost use Rattle.tk_edge.specs.Heard as spec;
 ghost use Rattle.tk_edge.specs.Judged.{MayPost};
+ghost use Rattle.tk_edge.specs.Paths.{path_named, path_of};
 ghost use Rattle.tk_edge.specs.declared.judge.Judged.TheVariants.{Body};
 ghost use Rattle.tk_edge.specs.declared.reach.Reach.{Reach as AnyReach};
 
@@ -42,7 +46,7 @@ use crate::exchange::Exchange;
 use crate::field::{Fields, fields_of};
 use crate::hear::{asked, posted_to};
 use crate::judge::{Judged, judge};
-use crate::path::{Posted, split_target};
+use crate::path::{Path, Posted, path_named, split_target};
 use crate::reach::Reach;
 use crate::refusal::Refusal;
 use crate::staying::stays_by;
@@ -115,16 +119,20 @@ fn partial_front(bytes: &[u8], is_over: bool) -> Front
 // Returns the front of bytes that can't become a head.
 fn headless_front(bytes: &[u8]) -> Front
     ensures { result ≡ Front.Came (Arrival.Refused Refusal.NoHead)
-        (record { size = length bytes.now; stays = false }) }
+        (record { size = length bytes.now; stays = false; path = None }) }
 {
     Front::Came(Arrival::Refused(Refusal::NoHead), ending(bytes.len()))
 }
 
-// Returns what was taken of a connection that ends: this many bytes.
+// Returns what was taken of a connection that ends, and names no path: this many bytes.
 pub(crate) fn ending(size: usize) -> Taken
-    ensures { result ≡ record { size = size; stays = false } }
+    ensures { result ≡ record { size = size; stays = false; path = None } }
 {
-    Taken { size, stays: false }
+    Taken {
+        size,
+        stays: false,
+        path: None,
+    }
 }
 
 // Returns the front of bytes that begin with a head.
@@ -146,17 +154,21 @@ fn head_front(
         → IfOk result (TakesIn reach bytes.now) }
     ensures fewer { IfOk result (IsFewer (length bytes.now) (request_limit reach)) }
     ensures may { IfOk result (MayComeBy reach) }
+    ensures names { (h : RequestHead) → IsRequestAt bytes.now headers.now spans h
+        → IfOk result (NamesIn (path_named reach (path_of h.target))) }
 {
     let fields = fields_of(bytes, &headers[..spans.headers]);
     let method = spans.method.of(bytes);
     let target = spans.path.of(bytes);
     let judged = judge(reach, method, target, &fields);
+    let path = path_named(reach, split_target(target).0);
     let head = Taken {
         size: spans.len,
         stays: stays_by(spans.version, &fields, &judged),
+        path,
     };
     match judged {
-        Judged::Refused(why) => Ok(Front::Came(Arrival::Refused(why), ending(bytes.len()))),
+        Judged::Refused(why) => Ok(refused_front(why, bytes.len(), path)),
         Judged::Query(endpoint) => {
             let query = split_target(target).1;
             whole_front(asked(alloc, endpoint, query, &fields), head)
@@ -168,6 +180,19 @@ fn head_front(
             body_front(alloc, posted, size as usize, head, rest, is_over, &fields)
         }
     }
+}
+
+// Returns the front of a request that names this path and is refused: all bytes are taken.
+fn refused_front(why: Refusal, size: usize, path: Option<Path>) -> Front
+    ensures { result ≡ Front.Came (Arrival.Refused why)
+        (record { size = size; stays = false; path = path }) }
+{
+    let all = Taken {
+        size,
+        stays: false,
+        path,
+    };
+    Front::Came(Arrival::Refused(why), all)
 }
 
 // Returns the front of a whole request, if there was memory for it.
@@ -198,21 +223,24 @@ fn body_front(
     ensures within { IfOk result (IsTakenWithin (head.size + length rest.now)) }
     ensures takes { (reach : AnyReach) (bytes : List ℕ) (pairs : Pairs) → AreFields fields.now pairs
         → length bytes ≡ head.size + length rest.now
-        → IsOneRequest reach bytes (record { size = head.size + size; stays = head.stays })
+        → IsOneRequest reach bytes
+        (record { size = head.size + size; stays = head.stays; path = head.path })
         → IfOk result (TakesIn reach bytes) }
     ensures fewer { IfOk result (IsFewer (head.size + length rest.now) (head.size + size)) }
     ensures may { (reach : AnyReach) → MayPost reach posted → IfOk result (MayComeBy reach) }
+    ensures names { IfOk result (NamesIn head.path) }
 {
     if size <= rest.len() {
         let taken = Taken {
             size: head.size + size,
             stays: head.stays,
+            path: head.path,
         };
         return whole_front(posted_to(alloc, posted, &rest[..size], fields), taken);
     }
     if is_over {
-        let all = ending(head.size + rest.len());
-        return Ok(Front::Came(Arrival::Refused(Refusal::ShortBody), all));
+        let all = head.size + rest.len();
+        return Ok(refused_front(Refusal::ShortBody, all, head.path));
     }
     Ok(Front::More)
 }

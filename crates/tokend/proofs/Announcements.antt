@@ -26,10 +26,12 @@ begins_later old mid new text more done begun = record {
   appended = Appends-trans old mid new text begun.front done begun.appended;
 }
 
-pub prints_then : {A E : Type 0} (old mid new : Option (List ℕ)) (text more : List ℕ) (r : Result A E)
+pub prints_then : {A E : Type 0} (old mid new : Option (List ℕ)) (text more : List ℕ)
+    (r : Result A E)
     → Appends old mid text → Prints r mid new more
     → Prints r old new (text ++ more)
-prints_then old mid new text more (Ok x) done printed = Appends-trans old mid new text more done printed
+prints_then old mid new text more (Ok x) done printed =
+    Appends-trans old mid new text more done printed
 prints_then old mid new text more (Err e) done begun = begins_later old mid new text more done begun
 
 pub prints_less : (old new : Option (List ℕ)) (text more : List ℕ) → AppendsFront old new text

@@ -61,7 +61,8 @@ is_told name load.Memory fault h = subst IsSourceFault (sym h) tt
 
 source_fault : (name : Text) (known : Option (List ℕ)) (fault : Fault) (old new : RegionFields)
     → LoadsSource name known old (Err fault) new → IsSourceFault fault
-source_fault name known fault old new (inr h) = subst IsSourceFault (sym (ap (fault_in fault) h.1)) (is_unread name h.0 h.2)
+source_fault name known fault old new (inr h) =
+    subst IsSourceFault (sym (ap (fault_in fault) h.1)) (is_unread name h.0 h.2)
 source_fault name known fault old new (inl h) = by h.1 h.4
   where
     by : (loaded : Result ℕ LoadFault) → IsReported name loaded (Err fault) → IsSourceFault fault
@@ -75,7 +76,8 @@ each_fault (name ∷ more) input fault old new (inl h) =
     subst IsSourceFault (sym (ap (fault_in fault) h.1)) (source_fault name _ h.0 old new h.2)
 each_fault (name ∷ more) input fault old new (inr h) =
     each_fault more h.2 fault h.1 new
-    (subst (λ (r : Result ℕ Fault). LoadsEach more h.2 h.1 r new) (later_fault h.0 h.3 fault h.7) h.6)
+    (subst (λ (r : Result ℕ Fault). LoadsEach more h.2 h.1 r new) (later_fault h.0 h.3 fault h.7)
+    h.6)
 
 sources_fault : (s : Sources) (input : Option (List ℕ)) (fault : Fault) (old new : RegionFields)
     → LoadsSources s input old (Err fault) new → IsSourceFault fault
@@ -89,21 +91,28 @@ sources_fault s input fault old new h = by (map string_bytes s.names.items) h
 pub check_fault : (c : Check) (input : Option (List ℕ)) (fault : Fault) (region : RegionFields)
     → Checks c input (Err fault) region
     → IsSourceFault fault × ((region : RegionFields) × Checks c input (Err fault) region)
-check_fault c input fault region ended = (sources_fault c.sources input fault _ region ended, (region, ended))
+check_fault c input fault region ended =
+    (sources_fault c.sources input fault _ region ended, (region, ended))
 
 -- the loading of sources ends at the first
-pub each_stops : (names : List Text) (name : Text) (more : List Text) (input : Option (List ℕ)) (fault : Fault) (old new : RegionFields)
+pub each_stops : (names : List Text) (name : Text) (more : List Text) (input : Option (List ℕ))
+    (fault : Fault) (old new : RegionFields)
     → names ≡ name ∷ more
-    → LoadsSource name (known_of name input) old (Err fault) new → LoadsEach names input old (Err fault) new
+    → LoadsSource name (known_of name input) old (Err fault) new
+    → LoadsEach names input old (Err fault) new
 each_stops names name more input fault old new is h =
     subst (λ (l : List Text). LoadsEach l input old (Err fault) new) (sym is) (inl (fault, refl, h))
 
 -- the loading of sources goes on behind the first
-pub each_goes : (names : List Text) (name : Text) (more : List Text) (input left : Option (List ℕ)) (cut : ℕ) (later result : Result ℕ Fault) (old mid new : RegionFields)
-    → names ≡ name ∷ more → LoadsSource name (known_of name input) old (Ok cut) mid → (bytes_eq name (codes "-") ≡ false → left ≡ input)
-    → LoadsEach more left mid later new → result ≡ with_cut cut later → LoadsEach names input old result new
+pub each_goes : (names : List Text) (name : Text) (more : List Text) (input left : Option (List ℕ))
+    (cut : ℕ) (later result : Result ℕ Fault) (old mid new : RegionFields)
+    → names ≡ name ∷ more → LoadsSource name (known_of name input) old (Ok cut) mid
+    → (bytes_eq name (codes "-") ≡ false → left ≡ input)
+    → LoadsEach more left mid later new → result ≡ with_cut cut later
+    → LoadsEach names input old result new
 each_goes names name more input left cut later result old mid new is first kept h same =
-    subst (λ (l : List Text). LoadsEach l input old result new) (sym is) (inr (cut, mid, left, later, first, kept, h, same))
+    subst (λ (l : List Text). LoadsEach l input old result new) (sym is)
+    (inr (cut, mid, left, later, first, kept, h, same))
 
 keeps_same : (bytes : Option (List ℕ)) → Keeps bytes bytes
 keeps_same None = tt
@@ -132,12 +141,15 @@ check_left c input Output old h = absurd h.0
 
 -- what is known of sources that can be loaded
 abbrev pub IsLoaded : Check → Option (List ℕ) → ℕ → ℕ → Type 0
-IsLoaded c input facts cut = (region : RegionFields) × Checks c input (Ok cut) region × (facts ≡ sets.len (held_facts region.facts))
+IsLoaded c input facts cut = (region : RegionFields) × Checks c input (Ok cut) region
+    × (facts ≡ sets.len (held_facts region.facts))
 
 -- all sources can be loaded
-pub checked : (c : Check) (input : Option (List ℕ)) (output : Change) (faults : Writing) (facts cut : ℕ)
+pub checked : (c : Check) (input : Option (List ℕ)) (output : Change) (faults : Writing)
+    (facts cut : ℕ)
     → IsLoaded c input facts cut
-    → Appends output.before output.after (loaded_text facts) → TellsDropped cut faults → ChecksFacts c input output faults
+    → Appends output.before output.after (loaded_text facts) → TellsDropped cut faults
+    → ChecksFacts c input output faults
 checked c input output faults facts cut h printed told = record {
   cut = cut;
   region = h.0;
@@ -150,4 +162,5 @@ checked c input output faults facts cut h printed told = record {
 pub check_begun : (c : Check) (input old new : Option (List ℕ)) (facts cut : ℕ)
     → IsLoaded c input facts cut → AppendsFront old new (loaded_text facts)
     → BeginsCheck c input Output old new
-check_begun c input old new facts cut h begun = (cut, h.0, h.1, subst (λ (n : ℕ). AppendsFront old new (loaded_text n)) h.2 begun)
+check_begun c input old new facts cut h begun =
+    (cut, h.0, h.1, subst (λ (n : ℕ). AppendsFront old new (loaded_text n)) h.2 begun)

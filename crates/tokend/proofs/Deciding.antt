@@ -27,13 +27,15 @@ use Rattle.tk_edge.specs.declared.hear.Arrival.TheVariants.{Request}
 use Rattle.tk_edge.specs.declared.edge.Served.{Served}
 use Rattle.tk_edge.specs.declared.edge.Served.TheVariants.{Nothing, Done}
 use Rattle.tk_edge.specs.declared.front.Taken.{Taken}
+use Rattle.tk_edge.specs.declared.path.Path.{Path}
 use Rattle.tk_edge.specs.Paths.{plain}
 use Rattle.tk_edge.specs.declared.reach.PathSet.TheVariants.{All}
 use Rattle.tk_edge.specs.declared.tell.Fault.{Fault}
 use Rattle.tk_edge.specs.declared.tell.Fault.TheVariants.{Read, Write, Log, Memory}
 use Rattle.tokend.specs.Decisions.{Asking, Decides, Ending, Ends, FrontDecides, IsDecided}
 use Rattle.tokend.specs.Decisions.{IsDecision, IsDecisionBy, IsOutcome, IsReplied, IsTaken}
-use Rattle.tokend.specs.Decisions.{IsUnread, MayGrant, MayStay, asked_of, asking_of, ended_if}
+use Rattle.tokend.specs.Decisions.{IsNamed, IsUnread, MayGrant, MayStay, asked_of, asking_of}
+use Rattle.tokend.specs.Decisions.{ended_if}
 use Rattle.tokend.specs.Decisions.{gains, outcome_by, reach_by}
 use Rattle.tokend.specs.Decisions.{fault_of, kept_by, moved_on, tally_with}
 use Rattle.tokend.specs.Repeating.{FallsShort, GivesAgain, IsAgain, IsCome, IsKept}
@@ -76,17 +78,16 @@ unread_by asking edge Memory h = record {
 unread_by asking edge Write h = absurd h
 unread_by asking edge Log h = absurd h
 
-pub unread : (words : List ℕ) (log_taken : Bool) (edge : EdgeFields) (fault : Fault)
+pub unread : (words : List ℕ) (log_taken : Bool) (edge : EdgeFields) (fault : Fault) (now : ℕ)
     → IsUnread fault
-    → IsDecision words log_taken edge (record { end = Err fault; stays = false; reach = plain All; granted = None; again = None }) [] edge
-unread words log_taken edge fault h =
-    (0, [], false, [], unread_by (record { words = words; log_taken = log_taken; reach = plain All; now = 0; bytes = []; over = false }) edge fault h, tt, tt)
+    → IsDecision words log_taken edge (record { end = Err fault; stays = false; reach = plain All; path = None; now = now; granted = None; again = None }) [] edge
+unread words log_taken edge fault now h =
+    ([], false, [], unread_by (record { words = words; log_taken = log_taken; reach = plain All; now = now; bytes = []; over = false }) edge fault h, tt, tt, tt)
 
 -- a kept connection ended behind its last reply: nothing more came
 pub parted : (words : List ℕ) (log_taken : Bool) (edge : EdgeFields)
-    → IsDecision words log_taken edge (record { end = Ok Nothing; stays = false; reach = plain All; granted = None; again = None }) [] edge
+    → IsDecision words log_taken edge (record { end = Ok Nothing; stays = false; reach = plain All; path = None; now = 0; granted = None; again = None }) [] edge
 parted words log_taken edge = (
-  0,
   [],
   true,
   [],
@@ -95,6 +96,7 @@ parted words log_taken edge = (
     shut = λ _. (refl, refl, inr tt);
     terms = refl;
   },
+  tt,
   tt,
   tt,
 )
@@ -117,10 +119,10 @@ decision_grows_by : (again : Option Repetition) (words : List ℕ) (log_taken : 
 decision_grows_by (Some it) words log_taken old ending logged new h = grows_same old.region new.region (ap (λ (n : EdgeFields). n.region) h.0)
 decision_grows_by None words log_taken old ending logged new h =
     elim old.sealed as (λ b. old.sealed ≡ b → Grows old.region new.region) [
-      | true ↦ λ e. subst (λ (n : EdgeFields). Grows old.region n.region) (sym (h.4.shut e).0) (grows_same old.region old.region refl)
+      | true ↦ λ e. subst (λ (n : EdgeFields). Grows old.region n.region) (sym (h.3.shut e).0) (grows_same old.region old.region refl)
       | false ↦ λ e.
-          let asking : Asking = record { words = words; log_taken = log_taken; reach = ending.reach; now = h.0; bytes = h.1; over = h.2 } in
-          served_grows (asked_by (asked_of asking old) h.1 []) old.region new.region (gains logged) (logged ≡ []) (gains h.3) new.sealed ending.end (h.4.served e [] (λ _. refl))
+          let asking : Asking = record { words = words; log_taken = log_taken; reach = ending.reach; now = ending.now; bytes = h.0; over = h.1 } in
+          served_grows (asked_by (asked_of asking old) h.0 []) old.region new.region (gains logged) (logged ≡ []) (gains h.2) new.sealed ending.end (h.3.served e [] (λ _. refl))
     ] refl
 
 pub decision_grows : (words : List ℕ) (log_taken : Bool) (old : EdgeFields) (ending : Ending) (logged : List ℕ) (new : EdgeFields)
@@ -204,6 +206,12 @@ may_stay keeps (Ok (Done status)) asking old outcome h =
       | false ↦ λ e. tt
     ] refl)
 
+-- a request that was served is counted under the path that was taken of it
+named_by : (asking : Asking) (old : EdgeFields) (served : Served) (taken : Taken)
+    → IsTaken asking old taken → IsNamed asking old (Ok served) taken.path
+named_by asking old Nothing taken h = tt
+named_by asking old (Done status) taken h = (taken, h, refl)
+
 -- no connection stays unless connections are kept
 pub none_stays : (keeps : Bool) (end : Result Served Fault) (asking : Asking) (old : EdgeFields) (outcome : Outcome)
     → IsOutcome keeps end asking old outcome → keeps ≡ false → goes_on outcome ≡ false
@@ -226,11 +234,11 @@ may_grant asking old region (Some refresh) served now dot words (Some it) came h
 )
 
 -- the server that moved on, by its steps
-pub has_moved : (old mid kept new : Server) (next : ChaCha) (left : ℕ) (end : Result Served Fault) (granted : Option Refreshed)
+pub has_moved : (old mid kept new : Server) (next : ChaCha) (left : ℕ) (end : Result Served Fault) (path : Option Path) (granted : Option Refreshed)
     → mid ≡ record old { edge = mid.edge }
-    → kept ≡ record mid { repeats = kept_by granted mid.repeats } → new ≡ record kept { words = next; left = left; fault = fault_of end; tally = tally_with kept end }
-    → next ≡ past_six old.words → new ≡ moved_on old end new.edge granted left
-has_moved old mid kept new next left end granted one keep two words =
+    → kept ≡ record mid { repeats = kept_by granted mid.repeats } → new ≡ record kept { words = next; left = left; fault = fault_of end; tally = tally_with kept end path }
+    → next ≡ past_six old.words → new ≡ moved_on old end path new.edge granted left
+has_moved old mid kept new next left end path granted one keep two words =
     let alloc = ap (λ (s : Server). s.alloc) two ∙ ap (λ (s : Server). s.alloc) keep ∙ ap (λ (s : Server). s.alloc) one in
     let drawn = ap (λ (s : Server). s.words) two ∙ words in
     let logs = ap (λ (s : Server). s.log_taken) two ∙ ap (λ (s : Server). s.log_taken) keep ∙ ap (λ (s : Server). s.log_taken) one in
@@ -242,7 +250,7 @@ has_moved old mid kept new next left end granted one keep two words =
     let told = ap (λ (s : Server). s.fault) two in
     let repeats = ap (λ (s : Server). s.repeats) two ∙ ap (λ (s : Server). s.repeats) keep ∙ ap (λ (s : Server). kept_by granted s.repeats) one in
     let pruning = ap (λ (s : Server). s.pruning) two ∙ ap (λ (s : Server). s.pruning) keep ∙ ap (λ (s : Server). s.pruning) one in
-    let tally = ap (λ (s : Server). s.tally) two ∙ ap (λ (s : Server). tally_with s end) keep ∙ ap (λ (s : Server). tally_with s end) one in
+    let tally = ap (λ (s : Server). s.tally) two ∙ ap (λ (s : Server). tally_with s end path) keep ∙ ap (λ (s : Server). tally_with s end path) one in
     λ i. record { alloc = alloc i; edge = new.edge; words = drawn i; log_taken = logs i; keeps = keeps i; has_inner = has_inner i; is_inner = is_inner i; now = now i; left = many i; fault = told i; repeats = repeats i; pruning = pruning i; tally = tally i }
 
 module _ (old mid kept new : Server) (bytes : List ℕ) (over : Bool) (next : ChaCha) (left : ℕ) (words : List ℕ) (reply logged : List ℕ) (granted : Option Refreshed)
@@ -262,7 +270,7 @@ module _ (old mid kept new : Server) (bytes : List ℕ) (over : Bool) (next : Ch
   pub served_ends : (served : Served) (taken : Taken) (outcome : Outcome) (sent : List ℕ)
       → FrontDecides asking old.edge (Ok (Some (served, taken))) reply logged mid.edge
       → MayGrant (asking_of old bytes over) old.edge (Ok served) granted
-      → new ≡ record kept { words = next; left = left; fault = None; tally = tally_with kept (Ok served) } → outcome ≡ outcome_by old.keeps served taken → IsReplied (goes_on outcome) reply sent
+      → new ≡ record kept { words = next; left = left; fault = None; tally = tally_with kept (Ok served) taken.path } → outcome ≡ outcome_by old.keeps served taken → IsReplied (goes_on outcome) reply sent
       → old.left ≡ left + ended_if (goes_on outcome) → Decides old bytes over outcome sent logged new
   served_ends served taken outcome sent h may two is replied counted = ends_decides old bytes over old.keeps served taken outcome sent logged new is (record {
     end = Ok served;
@@ -273,13 +281,15 @@ module _ (old mid kept new : Server) (bytes : List ℕ) (over : Bool) (next : Ch
     is_sent = replied;
     granted = granted;
     is_granted = may;
+    path = taken.path;
+    is_named = named_by (asking_of old bytes over) old.edge served taken h.0;
     left = left;
     counted = counted;
-    moved = has_moved old mid kept new next left (Ok served) granted one keep two past_words;
+    moved = has_moved old mid kept new next left (Ok served) taken.path granted one keep two past_words;
   })
 
   -- the request ended by a fault
-  pub fault_ends : (fault : Fault) → granted ≡ None → FrontDecides asking old.edge (Err fault) reply logged mid.edge → new ≡ record kept { words = next; left = left; fault = Some fault; tally = tally_with kept (Err fault) }
+  pub fault_ends : (fault : Fault) → granted ≡ None → FrontDecides asking old.edge (Err fault) reply logged mid.edge → new ≡ record kept { words = next; left = left; fault = Some fault; tally = tally_with kept (Err fault) None }
       → old.left ≡ left + 1 → Decides old bytes over Ended [] logged new
   fault_ends fault none h two counted = inl (record {
     end = Err fault;
@@ -290,9 +300,11 @@ module _ (old mid kept new : Server) (bytes : List ℕ) (over : Bool) (next : Ch
     is_sent = refl;
     granted = granted;
     is_granted = subst (MayGrant (asking_of old bytes over) old.edge (Err fault)) (sym none) tt;
+    path = None;
+    is_named = tt;
     left = left;
     counted = counted;
-    moved = has_moved old mid kept new next left (Err fault) granted one keep two past_words;
+    moved = has_moved old mid kept new next left (Err fault) None granted one keep two past_words;
   })
 
 -- no memory: the connection ends, and nothing is changed
@@ -307,14 +319,16 @@ short_decides old bytes over outcome new untold h = subst (λ o. Decides old byt
   is_sent = refl;
   granted = None;
   is_granted = tt;
+  path = None;
+  is_named = tt;
   left = h.1.0;
   counted = h.1.1;
   moved = moved_same old new (Err Memory) h.1.0 h.1.2;
 }))
   where
     moved_same : (old new : Server) (end : Result Served Fault) (left : ℕ)
-        → new ≡ moved_on old end old.edge None left → new ≡ moved_on old end new.edge None left
-    moved_same old new end left is = is ∙ ap (λ e. moved_on old end e None left) (sym (ap (λ (s : Server). s.edge) is))
+        → new ≡ moved_on old end None old.edge None left → new ≡ moved_on old end None new.edge None left
+    moved_same old new end left is = is ∙ ap (λ e. moved_on old end None e None left) (sym (ap (λ (s : Server). s.edge) is))
 
 -- a request that was given a reply again took some bytes, if its connection stays
 pub again_some : (old : Server) (bytes : List ℕ) (over : Bool) (outcome : Outcome) (reply before after : List ℕ) (taken : Taken) (new : Server)

@@ -11,15 +11,18 @@ each_pushed : {X : Type 0} (P : ℕ → X → Type 0) (xs : List X) (x : X)
 each_pushed P [] x each last zero = last
 each_pushed P [] x each last (suc k) = tt
 each_pushed P (y ∷ ys) x each last zero = each zero
-each_pushed P (y ∷ ys) x each last (suc k) = each_pushed (λ n. P (suc n)) ys x (λ n. each (suc n)) last k
+each_pushed P (y ∷ ys) x each last (suc k) =
+    each_pushed (λ n. P (suc n)) ys x (λ n. each (suc n)) last k
 
 pub words_pushed : (events : List Event) (event : Event)
     → ((k : ℕ) → IfSome (slice_get events k) (HasWords (words_at k)))
     → HasWords (words_at (length events)) event → (k : ℕ)
     → IfSome (slice_get (events ++ event ∷ []) k) (HasWords (words_at k))
-words_pushed events event each last = each_pushed (λ k e. HasWords (words_at k) e) events event each last
+words_pushed events event each last =
+    each_pushed (λ k e. HasWords (words_at k) e) events event each last
 
 pub short_pushed : (longest : Option ℕ) (events : List Event) (event : Event)
     → AreShort longest events → ¬ (IsTooLong longest event)
     → AreShort longest (events ++ event ∷ [])
-short_pushed longest events event each last = each_pushed (λ k e. ¬ (IsTooLong longest e)) events event each last
+short_pushed longest events event each last =
+    each_pushed (λ k e. ¬ (IsTooLong longest e)) events event each last

@@ -95,7 +95,8 @@ fault_in other (Err fault) = fault
 
 source_fault : (name : Text) (known : Option (List ℕ)) (fault : Fault) (old new : Option (List ℕ))
     → PrintsSource name known (Err fault) old new → IsFactsFault fault
-source_fault name known fault old new (inr h) = subst IsFactsFault (sym (ap (fault_in fault) h.1)) (of_source h.0 (is_unread name h.0 h.2))
+source_fault name known fault old new (inr h) =
+    subst IsFactsFault (sym (ap (fault_in fault) h.1)) (of_source h.0 (is_unread name h.0 h.2))
 source_fault name known fault old new (inl h) = by h.0 h.2
   where
     by : (printed : Result ℕ PrintFault) → IsReported name printed (Err fault) → IsFactsFault fault
@@ -110,16 +111,19 @@ later_fault cut (Err why) fault e = sym e
 pub no_error : (fault : Fault) (n : ℕ) → Err fault ≡ Ok n → ⊥
 no_error fault n e = absurd (cc)
 
-each_fault : (names : List Text) (input : Option (List ℕ)) (fault : Fault) (old new : Option (List ℕ))
+each_fault : (names : List Text) (input : Option (List ℕ)) (fault : Fault)
+    (old new : Option (List ℕ))
     → PrintsEach names input (Err fault) old new → IsFactsFault fault
 each_fault [] input fault old new h = absurd (no_error fault 0 h.0)
 each_fault (name ∷ more) input fault old new (inl h) =
     subst IsFactsFault (sym (ap (fault_in fault) h.1)) (source_fault name _ h.0 old new h.2)
 each_fault (name ∷ more) input fault old new (inr h) =
     each_fault more h.2 fault h.1 new
-    (subst (λ (r : Result ℕ Fault). PrintsEach more h.2 r h.1 new) (later_fault h.0 h.3 fault h.7) h.6)
+    (subst (λ (r : Result ℕ Fault). PrintsEach more h.2 r h.1 new) (later_fault h.0 h.3 fault h.7)
+    h.6)
 
-pub facts_fault : (s : Sources) (input : Option (List ℕ)) (fault : Fault) (old new : Option (List ℕ))
+pub facts_fault : (s : Sources) (input : Option (List ℕ)) (fault : Fault)
+    (old new : Option (List ℕ))
     → PrintsSources s input (Err fault) old new → IsFactsFault fault
 facts_fault s input fault old new h = by (map string_bytes s.names.items) h
   where
@@ -127,9 +131,11 @@ facts_fault s input fault old new h = by (map string_bytes s.names.items) h
     by [] h = source_fault _ input fault old new h
     by (name ∷ more) h = each_fault (name ∷ more) input fault old new h
 
-pub all_printed : (s : Sources) (input : Option (List ℕ)) (r : Result ℕ Fault) (cut : ℕ) (mid : Option (List ℕ)) (output : Change) (faults : Writing)
+pub all_printed : (s : Sources) (input : Option (List ℕ)) (r : Result ℕ Fault) (cut : ℕ)
+    (mid : Option (List ℕ)) (output : Change) (faults : Writing)
     → r ≡ Ok cut
-    → PrintsSources s input r output.before mid → Keeps mid output.after → TellsDropped cut faults → PrintsFacts s input output faults
+    → PrintsSources s input r output.before mid → Keeps mid output.after → TellsDropped cut faults
+    → PrintsFacts s input output faults
 all_printed s input r cut mid output faults is h kept told = record {
   cut = cut;
   mid = mid;
@@ -138,10 +144,13 @@ all_printed s input r cut mid output faults is h kept told = record {
   told = told;
 }
 
-pub fault_left : (s : Sources) (input : Option (List ℕ)) (r : Result ℕ Fault) (fault : Fault) (old mid new : Option (List ℕ))
+pub fault_left : (s : Sources) (input : Option (List ℕ)) (r : Result ℕ Fault) (fault : Fault)
+    (old mid new : Option (List ℕ))
     → r ≡ Err fault
-    → PrintsSources s input r old mid → Keeps mid new → LeavesBegun (BeginsFacts s input fault old new) fault old new
-fault_left s input r fault old mid new is h kept = of fault (facts_fault s input fault old mid ended) ended
+    → PrintsSources s input r old mid → Keeps mid new
+    → LeavesBegun (BeginsFacts s input fault old new) fault old new
+fault_left s input r fault old mid new is h kept =
+    of fault (facts_fault s input fault old mid ended) ended
   where
     ended : PrintsSources s input (Err fault) old mid
     ended = subst (λ (x : Result ℕ Fault). PrintsSources s input x old mid) is h
@@ -165,11 +174,13 @@ fault_left s input r fault old mid new is h kept = of fault (facts_fault s input
     of (BadLine n) f h = absurd f
     of Memory f h = absurd f
 
-pub fault_of_sources : (s : Sources) (input : Option (List ℕ)) (r : Result ℕ Fault) (fault : Fault) (old mid : Option (List ℕ))
+pub fault_of_sources : (s : Sources) (input : Option (List ℕ)) (r : Result ℕ Fault) (fault : Fault)
+    (old mid : Option (List ℕ))
     → r ≡ Err fault
     → PrintsSources s input r old mid → IsFactsFault fault
 fault_of_sources s input r fault old mid is h =
-    facts_fault s input fault old mid (subst (λ (x : Result ℕ Fault). PrintsSources s input x old mid) is h)
+    facts_fault s input fault old mid
+    (subst (λ (x : Result ℕ Fault). PrintsSources s input x old mid) is h)
 
 -- the texts that clap has
 abbrev pub texts_in : Bor (List (Bor Text)) → List Text
@@ -180,13 +191,18 @@ pub rows_named : (f : Found) (id : Text) (r : Option (Bor (List (Bor Text))))
     → unwrap_or (option_map texts_in r) [] ≡ unwrap_or (all_of id (rows_of f)) []
 rows_named f id r e = ap (λ (o : Option (List Text)). unwrap_or o []) (e ∙ raw_values-rows f id)
 
-pub some_named : (f : Found) (id : Text) (r : Option (Bor (List (Bor Text)))) (s : Bor (List (Bor Text)))
+pub some_named : (f : Found) (id : Text) (r : Option (Bor (List (Bor Text))))
+    (s : Bor (List (Bor Text)))
     → r ≡ Some s
-    → option_map texts_in r ≡ option_map raw_values (matched_of f id) → texts_in s ≡ unwrap_or (all_of id (rows_of f)) []
+    → option_map texts_in r ≡ option_map raw_values (matched_of f id)
+    → texts_in s ≡ unwrap_or (all_of id (rows_of f)) []
 some_named f id r s is e =
-    ap (λ (o : Option (Bor (List (Bor Text)))). unwrap_or (option_map texts_in o) []) (sym is) ∙ rows_named f id r e
+    ap (λ (o : Option (Bor (List (Bor Text)))). unwrap_or (option_map texts_in o) []) (sym is)
+    ∙ rows_named f id r e
 
 pub none_named : (f : Found) (id : Text) (r : Option (Bor (List (Bor Text)))) → r ≡ None
-    → option_map texts_in r ≡ option_map raw_values (matched_of f id) → [] ≡ unwrap_or (all_of id (rows_of f)) []
+    → option_map texts_in r ≡ option_map raw_values (matched_of f id)
+    → [] ≡ unwrap_or (all_of id (rows_of f)) []
 none_named f id r is e =
-    ap (λ (o : Option (Bor (List (Bor Text)))). unwrap_or (option_map texts_in o) []) (sym is) ∙ rows_named f id r e
+    ap (λ (o : Option (Bor (List (Bor Text)))). unwrap_or (option_map texts_in o) []) (sym is)
+    ∙ rows_named f id r e

@@ -45,10 +45,16 @@ appends_apart old new more text is h = append_cancel_left old more text (sym is 
 front_apart : (old new more text : List ℕ) → new ≡ old ++ more
     → AppendsFront (Some old) (Some new) text → AppendsFront (Some []) (Some more) text
 front_apart old new more text is h =
-    record { front = h.front; rest = h.rest; parts = h.parts; appended = appends_apart old new more h.front is h.appended }
+    record {
+      front = h.front;
+      rest = h.rest;
+      parts = h.parts;
+      appended = appends_apart old new more h.front is h.appended;
+    }
 
 same_apart : (old new more : List ℕ) → new ≡ old ++ more → new ≡ old → more ≡ []
-same_apart old new more is same = append_cancel_left old more [] (sym is ∙ same ∙ sym (append-nil old))
+same_apart old new more is same =
+    append_cancel_left old more [] (sym is ∙ same ∙ sym (append-nil old))
 
 keeps_apart : (old new more : List ℕ) → new ≡ old ++ more → Keeps (Some old) (Some new)
     → Keeps (Some []) (Some more)
@@ -87,16 +93,23 @@ module _ (a n c w : List ℕ) (still : Type 0) (sealed : Bool) where
   tells_behind taken (Err Log) h = absurd h
   tells_behind taken (Err Read) h = absurd h
 
-  logs_behind : (logged : Option (List ℕ)) (taken : Result ℕ PushError) (result : Result StatusCode Fault)
+  logs_behind : (logged : Option (List ℕ)) (taken : Result ℕ PushError)
+      (result : Result StatusCode Fault)
       → LogsAndTells logged taken (memory a n) still (memory c w) sealed result → Both
   logs_behind logged taken (Err Log) h = (keeps_behind c w h.1, begun_behind logged h.0)
-  logs_behind logged taken (Ok status) h = (tells_behind taken (Ok status) h.2, appends_behind a n _ h.0)
-  logs_behind logged taken (Err Write) h = (tells_behind taken (Err Write) h.2, appends_behind a n _ h.0)
-  logs_behind logged taken (Err Read) h = (tells_behind taken (Err Read) h.2, appends_behind a n _ h.0)
-  logs_behind logged taken (Err Memory) h = (tells_behind taken (Err Memory) h.2, appends_behind a n _ h.0)
+  logs_behind logged taken (Ok status) h =
+      (tells_behind taken (Ok status) h.2, appends_behind a n _ h.0)
+  logs_behind logged taken (Err Write) h =
+      (tells_behind taken (Err Write) h.2, appends_behind a n _ h.0)
+  logs_behind logged taken (Err Read) h =
+      (tells_behind taken (Err Read) h.2, appends_behind a n _ h.0)
+  logs_behind logged taken (Err Memory) h =
+      (tells_behind taken (Err Memory) h.2, appends_behind a n _ h.0)
 
-  replied_behind : (sent : Option (List ℕ)) (terms : TermsFields) (now : ℕ) (words : List ℕ) (came : Arrival) (region : Step) (result : Result StatusCode Fault)
-      → RepliesTo sent terms now words came region (memory a n) still (memory c w) sealed result → Both
+  replied_behind : (sent : Option (List ℕ)) (terms : TermsFields) (now : ℕ) (words : List ℕ)
+      (came : Arrival) (region : Step) (result : Result StatusCode Fault)
+      → RepliesTo sent terms now words came region (memory a n) still (memory c w) sealed result
+      → Both
   replied_behind (Some bytes) terms now words came region result h = logs_behind h.2 h.0 result h.4
   replied_behind None terms now words came region (Ok status) h = told_behind h.0 (Ok status) h.2
   replied_behind None terms now words came region (Err Log) h = told_behind h.0 (Err Log) h.2
@@ -112,10 +125,15 @@ module _ (a n c w : List ℕ) (still : Type 0) (sealed : Bool) where
 
   served_behind : (asked : Asked) (region : Step) (result : Result Served Fault)
       → IsServed asked region (memory a n) still (memory c w) sealed result → Both
-  served_behind asked region (Ok (Done status)) h = replied_behind (bundle_to_log asked.log_taken h.0) asked.terms asked.now asked.words h.0 region (Ok status) h.3
+  served_behind asked region (Ok (Done status)) h =
+      replied_behind (bundle_to_log asked.log_taken h.0) asked.terms asked.now asked.words h.0
+      region (Ok status) h.3
   served_behind asked region (Ok Nothing) h = nothing_behind h.1.1
-  served_behind asked region (Err Log) h = replied_behind (bundle_to_log asked.log_taken h.0) asked.terms asked.now asked.words h.0 region (Err Log) h.3
-  served_behind asked region (Err Write) h = replied_behind (bundle_to_log asked.log_taken h.0) asked.terms asked.now asked.words h.0 region (Err Write) h.3
+  served_behind asked region (Err Log) h = replied_behind (bundle_to_log asked.log_taken h.0)
+      asked.terms asked.now asked.words h.0 region (Err Log) h.3
+  served_behind asked region (Err Write) h =
+      replied_behind (bundle_to_log asked.log_taken h.0) asked.terms asked.now asked.words h.0
+      region (Err Write) h.3
   served_behind asked region (Err Read) h = nothing_behind h.1
   served_behind asked region (Err Memory) h = out_behind asked.log_taken asked region h
 
@@ -128,19 +146,24 @@ module _ (a n c w : List ℕ) (still : Type 0) (sealed : Bool) where
   away_behind (Err Log) h = absurd h
 
   -- apart from what was before
-  module _ (logged reply : List ℕ) (is_log : n ≡ a ++ logged) (is_reply : w ≡ c ++ reply) (unused : still → logged ≡ []) where
+  module _ (logged reply : List ℕ) (is_log : n ≡ a ++ logged) (is_reply : w ≡ c ++ reply)
+      (unused : still → logged ≡ []) where
     told_apart : (answer : AnswerFields) (result : Result StatusCode Fault)
         → IsTold answer (memory a n) (memory c w) sealed result
         → IsTold answer (gains logged) (gains reply) sealed result
-    told_apart answer (Ok status) h = (h.0, appends_apart a n logged _ is_log h.1, appends_apart c w reply _ is_reply h.2, h.3)
-    told_apart answer (Err Log) h = (front_apart a n logged _ is_log h.0, keeps_apart c w reply is_reply h.1, h.2)
-    told_apart answer (Err Write) h = (appends_apart a n logged _ is_log h.0, front_apart c w reply _ is_reply h.1, h.2)
+    told_apart answer (Ok status) h =
+        (h.0, appends_apart a n logged _ is_log h.1, appends_apart c w reply _ is_reply h.2, h.3)
+    told_apart answer (Err Log) h =
+        (front_apart a n logged _ is_log h.0, keeps_apart c w reply is_reply h.1, h.2)
+    told_apart answer (Err Write) h =
+        (appends_apart a n logged _ is_log h.0, front_apart c w reply _ is_reply h.1, h.2)
     told_apart answer (Err Read) h = absurd h
     told_apart answer (Err Memory) h = absurd h
 
     nothing_apart : WritesNothing (memory a n) still (memory c w) sealed
         → WritesNothing (gains logged) (logged ≡ []) (gains reply) sealed
-    nothing_apart h = (keeps_apart a n logged is_log h.0, keeps_apart c w reply is_reply h.1, h.2, unused h.3)
+    nothing_apart h =
+        (keeps_apart a n logged is_log h.0, keeps_apart c w reply is_reply h.1, h.2, unused h.3)
 
     begun_apart : (l : Option (List ℕ)) → IsBegun l (memory a n) → IsBegun l (gains logged)
     begun_apart None h = absurd h
@@ -154,22 +177,59 @@ module _ (a n c w : List ℕ) (still : Type 0) (sealed : Bool) where
     tells_apart taken (Err Log) h = absurd h
     tells_apart taken (Err Read) h = absurd h
 
-    logs_apart : (l : Option (List ℕ)) (taken : Result ℕ PushError) (result : Result StatusCode Fault)
+    logs_apart : (l : Option (List ℕ)) (taken : Result ℕ PushError)
+        (result : Result StatusCode Fault)
         → LogsAndTells l taken (memory a n) still (memory c w) sealed result
         → LogsAndTells l taken (gains logged) (logged ≡ []) (gains reply) sealed result
     logs_apart l taken (Err Log) h = (begun_apart l h.0, keeps_apart c w reply is_reply h.1, h.2)
-    logs_apart l taken (Ok status) h = (appends_apart a n logged _ is_log h.0, λ none. unused (h.1 none), tells_apart taken (Ok status) h.2, h.3)
-    logs_apart l taken (Err Write) h = (appends_apart a n logged _ is_log h.0, λ none. unused (h.1 none), tells_apart taken (Err Write) h.2, h.3)
+    logs_apart l taken (Ok status) h = (
+      appends_apart a n logged _ is_log h.0,
+      λ none. unused (h.1 none),
+      tells_apart taken (Ok status) h.2,
+      h.3,
+    )
+    logs_apart l taken (Err Write) h = (
+      appends_apart a n logged _ is_log h.0,
+      λ none. unused (h.1 none),
+      tells_apart taken (Err Write) h.2,
+      h.3,
+    )
     logs_apart l taken (Err Read) h = absurd h.2
-    logs_apart l taken (Err Memory) h = (appends_apart a n logged _ is_log h.0, λ none. unused (h.1 none), tells_apart taken (Err Memory) h.2, h.3)
+    logs_apart l taken (Err Memory) h = (
+      appends_apart a n logged _ is_log h.0,
+      λ none. unused (h.1 none),
+      tells_apart taken (Err Memory) h.2,
+      h.3,
+    )
 
-    replied_apart : (sent : Option (List ℕ)) (terms : TermsFields) (now : ℕ) (words : List ℕ) (came : Arrival) (region : Step) (result : Result StatusCode Fault)
+    replied_apart : (sent : Option (List ℕ)) (terms : TermsFields) (now : ℕ) (words : List ℕ)
+        (came : Arrival) (region : Step) (result : Result StatusCode Fault)
         → RepliesTo sent terms now words came region (memory a n) still (memory c w) sealed result
-        → RepliesTo sent terms now words came region (gains logged) (logged ≡ []) (gains reply) sealed result
-    replied_apart (Some bytes) terms now words came region result h = (h.0, h.1, h.2, h.3, logs_apart h.2 h.0 result h.4)
-    replied_apart None terms now words came region (Ok status) h = (h.0, h.1, told_apart h.0 (Ok status) h.2, uses_less still (logged ≡ []) h.0 (Ok status) unused h.3, h.4)
-    replied_apart None terms now words came region (Err Log) h = (h.0, h.1, told_apart h.0 (Err Log) h.2, uses_less still (logged ≡ []) h.0 (Err Log) unused h.3, h.4)
-    replied_apart None terms now words came region (Err Write) h = (h.0, h.1, told_apart h.0 (Err Write) h.2, uses_less still (logged ≡ []) h.0 (Err Write) unused h.3, h.4)
+        → RepliesTo sent terms now words came region (gains logged) (logged ≡ [])
+        (gains reply) sealed result
+    replied_apart (Some bytes) terms now words came region result h =
+        (h.0, h.1, h.2, h.3, logs_apart h.2 h.0 result h.4)
+    replied_apart None terms now words came region (Ok status) h = (
+      h.0,
+      h.1,
+      told_apart h.0 (Ok status) h.2,
+      uses_less still (logged ≡ []) h.0 (Ok status) unused h.3,
+      h.4,
+    )
+    replied_apart None terms now words came region (Err Log) h = (
+      h.0,
+      h.1,
+      told_apart h.0 (Err Log) h.2,
+      uses_less still (logged ≡ []) h.0 (Err Log) unused h.3,
+      h.4,
+    )
+    replied_apart None terms now words came region (Err Write) h = (
+      h.0,
+      h.1,
+      told_apart h.0 (Err Write) h.2,
+      uses_less still (logged ≡ []) h.0 (Err Write) unused h.3,
+      h.4,
+    )
     replied_apart None terms now words came region (Err Read) h = absurd h
     replied_apart None terms now words came region (Err Memory) h = (h.0, h.1, nothing_apart h.2)
 
@@ -178,15 +238,34 @@ module _ (a n c w : List ℕ) (still : Type 0) (sealed : Bool) where
         → RunsOut b asked region (gains logged) (logged ≡ []) (gains reply) sealed
     out_apart false asked region h = (h.0, nothing_apart h.1)
     out_apart true asked region (inl h) = inl (h.0, nothing_apart h.1)
-    out_apart true asked region (inr h) = inr (h.0, h.1, (h.2.0, h.2.1, h.2.2, h.2.3, logs_apart h.2.2 h.2.0 (Err Memory) h.2.4))
+    out_apart true asked region (inr h) =
+        inr (h.0, h.1, (h.2.0, h.2.1, h.2.2, h.2.3, logs_apart h.2.2 h.2.0 (Err Memory) h.2.4))
 
     served_apart : (asked : Asked) (region : Step) (result : Result Served Fault)
         → IsServed asked region (memory a n) still (memory c w) sealed result
         → IsServed asked region (gains logged) (logged ≡ []) (gains reply) sealed result
-    served_apart asked region (Ok (Done status)) h = (h.0, h.1, h.2, replied_apart (bundle_to_log asked.log_taken h.0) asked.terms asked.now asked.words h.0 region (Ok status) h.3)
+    served_apart asked region (Ok (Done status)) h = (
+      h.0,
+      h.1,
+      h.2,
+      replied_apart (bundle_to_log asked.log_taken h.0) asked.terms asked.now asked.words h.0
+          region (Ok status) h.3,
+    )
     served_apart asked region (Ok Nothing) h = (h.0, (h.1.0, nothing_apart h.1.1))
-    served_apart asked region (Err Log) h = (h.0, h.1, h.2, replied_apart (bundle_to_log asked.log_taken h.0) asked.terms asked.now asked.words h.0 region (Err Log) h.3)
-    served_apart asked region (Err Write) h = (h.0, h.1, h.2, replied_apart (bundle_to_log asked.log_taken h.0) asked.terms asked.now asked.words h.0 region (Err Write) h.3)
+    served_apart asked region (Err Log) h = (
+      h.0,
+      h.1,
+      h.2,
+      replied_apart (bundle_to_log asked.log_taken h.0) asked.terms asked.now asked.words h.0
+          region (Err Log) h.3,
+    )
+    served_apart asked region (Err Write) h = (
+      h.0,
+      h.1,
+      h.2,
+      replied_apart (bundle_to_log asked.log_taken h.0) asked.terms asked.now asked.words h.0
+          region (Err Write) h.3,
+    )
     served_apart asked region (Err Read) h = (h.0, nothing_apart h.1)
     served_apart asked region (Err Memory) h = out_apart asked.log_taken asked region h
 
@@ -206,28 +285,39 @@ clash e = cc
 
 same_edge : (old new : EdgeFields) → new.region ≡ old.region → new.terms ≡ old.terms
     → new.sealed ≡ old.sealed → new ≡ old
-same_edge old new region terms sealed = λ i. record { region = region i; terms = terms i; sealed = sealed i }
+same_edge old new region terms sealed =
+    λ i. record { region = region i; terms = terms i; sealed = sealed i }
 
-module _ (asking : Asking) (old new : EdgeFields) (a n c w : List ℕ) (still : Type 0) (unchanged : still → n ≡ a) (terms : new.terms ≡ old.terms) where
+module _ (asking : Asking) (old new : EdgeFields) (a n c w : List ℕ) (still : Type 0)
+    (unchanged : still → n ≡ a) (terms : new.terms ≡ old.terms) where
   abbrev Decided : Result (Option (Served × Taken)) Fault → Type 0
-  Decided result = (reply : List ℕ) × (logged : List ℕ) × (w ≡ c ++ reply) × (n ≡ a ++ logged) × FrontDecides asking old result reply logged new
+  Decided result = (reply : List ℕ) × (logged : List ℕ) × (w ≡ c ++ reply) × (n ≡ a ++ logged)
+      × FrontDecides asking old result reply logged new
 
   abbrev Fronts : Result (Option (Served × Taken)) Fault → Type 0
-  Fronts result = IsFrontServed (asked_of asking old) asking.bytes asking.over (record { before = old.region; after = new.region }) (memory a n) still (memory c w) new.sealed result
+  Fronts result = IsFrontServed (asked_of asking old) asking.bytes asking.over
+      (record { before = old.region; after = new.region }) (memory a n) still
+      (memory c w) new.sealed result
 
   abbrev By : Result Served Fault → Type 0
-  By end = IsServedBy (asked_of asking old) asking.bytes asking.over (record { before = old.region; after = new.region }) (memory a n) still (memory c w) new.sealed end
+  By end = IsServedBy (asked_of asking old) asking.bytes asking.over
+      (record { before = old.region; after = new.region }) (memory a n) still
+      (memory c w) new.sealed end
 
   both : (end : Result Served Fault) → By end → Behind c w × Behind a n
-  both end h = served_behind a n c w still new.sealed (asked_by (asked_of asking old) asking.bytes []) (record { before = old.region; after = new.region }) end (h [] (λ _. refl))
+  both end h = served_behind a n c w still new.sealed
+      (asked_by (asked_of asking old) asking.bytes [])
+      (record { before = old.region; after = new.region }) end (h [] (λ _. refl))
 
   decided : (end : Result Served Fault) → old.sealed ≡ false → (h : By end)
       → IsDecided asking old end (both end h).0.0 (both end h).1.0 new
   decided end unsealed h =
       let b = both end h in
       record {
-        served = λ _ tail follows. served_apart a n c w still new.sealed b.1.0 b.0.0 b.1.1 b.0.1 (λ s. same_apart a n b.1.0 b.1.1 (unchanged s))
-            (asked_by (asked_of asking old) asking.bytes tail) (record { before = old.region; after = new.region }) end (h tail follows);
+        served = λ _ tail follows. served_apart a n c w still new.sealed b.1.0 b.0.0 b.1.1 b.0.1
+            (λ s. same_apart a n b.1.0 b.1.1 (unchanged s))
+            (asked_by (asked_of asking old) asking.bytes tail)
+            (record { before = old.region; after = new.region }) end (h tail follows);
         shut = λ sealed. absurd (clash (sym sealed ∙ unsealed));
         terms = terms;
       }
@@ -242,7 +332,16 @@ module _ (asking : Asking) (old new : EdgeFields) (a n c w : List ℕ) (still : 
     (unsealed, h.0, same_edge old new h.1.0 terms (h.1.1.2 ∙ sym unsealed), refl, refl),
   )
   unsealed_front (Ok (Some end)) unsealed h =
-      let b = both (Ok end.0) h.1 in (b.0.0, b.1.0, b.0.1, b.1.1, ((λ _. h.0, λ sealed. absurd (clash (sym sealed ∙ unsealed))), decided (Ok end.0) unsealed h.1))
+      let b = both (Ok end.0) h.1 in (
+        b.0.0,
+        b.1.0,
+        b.0.1,
+        b.1.1,
+        (
+          (λ _. h.0, λ sealed. absurd (clash (sym sealed ∙ unsealed))),
+          decided (Ok end.0) unsealed h.1,
+        ),
+      )
   unsealed_front (Err fault) unsealed h =
       let b = both (Err fault) h in (b.0.0, b.1.0, b.0.1, b.1.1, decided (Err fault) unsealed h)
 
@@ -253,7 +352,12 @@ module _ (asking : Asking) (old new : EdgeFields) (a n c w : List ℕ) (still : 
       let b = away_behind a n c w still new.sealed end h in
       record {
         served = λ unsealed. absurd (clash (sym shut ∙ unsealed));
-        shut = λ _. (same.0, refl, inl (away_apart a n c w still new.sealed [] b.0 (unchanged same.1 ∙ sym (append-nil a)) b.1 (λ _. refl) end h));
+        shut = λ _. (
+          same.0,
+          refl,
+          inl (away_apart a n c w still new.sealed [] b.0 (unchanged same.1 ∙ sym (append-nil a))
+              b.1 (λ _. refl) end h),
+        );
         terms = terms;
       }
 
@@ -261,8 +365,16 @@ module _ (asking : Asking) (old new : EdgeFields) (a n c w : List ℕ) (still : 
       → (new ≡ old) × still → IsFrontTurnedAway asking.bytes (memory c w) result → Decided result
   shut_front (Ok None) shut same h = absurd h
   shut_front (Ok (Some end)) shut same h =
-      let b = away_behind a n c w still new.sealed (Ok end.0) h.1 in
-      (b.0, [], b.1, unchanged same.1 ∙ sym (append-nil a), ((λ unsealed. absurd (clash (sym shut ∙ unsealed)), λ _. h.0), away (Ok end.0) shut same h.1))
+      let b = away_behind a n c w still new.sealed (Ok end.0) h.1 in (
+        b.0,
+        [],
+        b.1,
+        unchanged same.1 ∙ sym (append-nil a),
+        (
+          (λ unsealed. absurd (clash (sym shut ∙ unsealed)), λ _. h.0),
+          away (Ok end.0) shut same h.1,
+        ),
+      )
   shut_front (Err fault) shut same h =
       let b = away_behind a n c w still new.sealed (Err fault) h in
       (b.0, [], b.1, unchanged same.1 ∙ sym (append-nil a), away (Err fault) shut same h)

@@ -35,7 +35,8 @@ use Rattle.tokend.specs.Growing.{Grows}
 -- ---- stores
 
 same_store : (P Q : StoreFields) → Q ≡ P → StoreBelow P Q
-same_store P Q same = subst (StoreBelow P) (sym same) (record { slots = slots_itself P.slots; horizon = omega (arith) })
+same_store P Q same = subst (StoreBelow P) (sym same)
+    (record { slots = slots_itself P.slots; horizon = omega (arith) })
 
 with_fact_above : (P : StoreFields) (d : Dot) (b : Body) → map.get P.slots d ≡ None
     → StoreBelow P (with_fact P d b)
@@ -43,14 +44,17 @@ with_fact_above P d b free = record { slots = above; horizon = omega (arith) }
   where
     above : SlotsBelow P.slots (map.insert P.slots d (Held b))
     above q = by_dot (λ o. SlotBelow (map.get P.slots q) o) P.slots d (Held b) q
-        (λ same. subst (λ o. SlotBelow o (Some (Held b))) (sym (ap (map.get P.slots) same ∙ free)) tt)
+        (λ same. subst (λ o. SlotBelow o (Some (Held b))) (sym (ap (map.get P.slots) same ∙ free))
+        tt)
         (below_itself (map.get P.slots q))
 
 -- a store is below itself with its horizon raised, and with items that agree with what it knows
 with_items_above : (P : StoreFields) (horizon : Option ℕ) (items : Items) → AgreesWith P.slots items
     → StoreBelow P (items_taken (raised P horizon) items)
-with_items_above P None items agree = record { slots = fit_below P.slots items agree; horizon = omega (arith) }
-with_items_above P (Some moment) items agree = record { slots = fit_below P.slots items agree; horizon = later P.horizon moment }
+with_items_above P None items agree =
+    record { slots = fit_below P.slots items agree; horizon = omega (arith) }
+with_items_above P (Some moment) items agree =
+    record { slots = fit_below P.slots items agree; horizon = later P.horizon moment }
   where
     later : (m n : ℕ) → m ≤ max m n
     later m n = omega (arith)
@@ -58,7 +62,8 @@ with_items_above P (Some moment) items agree = record { slots = fit_below P.slot
 -- ---- regions
 
 pub grows_same : (old new : RegionFields) → new ≡ old → Grows old new
-grows_same old new same = subst (Grows old) (sym same) (record { number = refl; settings = refl; facts = same_store old.facts old.facts refl })
+grows_same old new same = subst (Grows old) (sym same)
+    (record { number = refl; settings = refl; facts = same_store old.facts old.facts refl })
 
 pub grows_twice : (old mid new : RegionFields) → Grows old mid → Grows mid new → Grows old new
 grows_twice old mid new h k = record {
@@ -73,17 +78,26 @@ grows_twice old mid new h k = record {
 -- the fact that a region makes, if any, is at a dot that it doesn't know
 pub made_grows : (old new : RegionFields) (fact : Option (Dot × Body)) → Gains old fact new
     → IfSome fact (IsNextFact old) → Grows old new
-made_grows old new None gains next = record { number = gains.number; settings = gains.settings; facts = same_store old.facts new.facts gains.facts }
+made_grows old new None gains next = record {
+  number = gains.number;
+  settings = gains.settings;
+  facts = same_store old.facts new.facts gains.facts;
+}
 made_grows old new (Some f) gains next = record {
   number = gains.number;
   settings = gains.settings;
-  facts = subst (StoreBelow old.facts) (sym gains.facts) (with_fact_above old.facts f.0 f.1 (next_unknown old f next));
+  facts = subst (StoreBelow old.facts) (sym gains.facts)
+      (with_fact_above old.facts f.0 f.1 (next_unknown old f next));
 }
 
 -- a bundle that is taken in, refused or cut short
 pub taken_grows : (old new : RegionFields) (bytes : List ℕ) (taken : Result ℕ TakeError)
     → TakesBundle old bytes taken new → Grows old new
-taken_grows old new bytes taken h = record { number = h.number; settings = h.settings; facts = by_bundle (whole bundle bytes) taken h.takes }
+taken_grows old new bytes taken h = record {
+  number = h.number;
+  settings = h.settings;
+  facts = by_bundle (whole bundle bytes) taken h.takes;
+}
   where
     kept : new.facts ≡ old.facts → StoreBelow old.facts new.facts
     kept same = same_store old.facts new.facts same
@@ -91,7 +105,8 @@ taken_grows old new bytes taken h = record { number = h.number; settings = h.set
     joined : (b : BundleFields) (items : Items) → AgreesWith old.facts.slots items
         → new.facts ≡ items_taken (raised old.facts b.horizon) items
         → StoreBelow old.facts new.facts
-    joined b items agree is = subst (StoreBelow old.facts) (sym is) (with_items_above old.facts b.horizon items agree)
+    joined b items agree is =
+        subst (StoreBelow old.facts) (sym is) (with_items_above old.facts b.horizon items agree)
 
     by_bundle : (o : Option BundleFields) (t : Result ℕ TakeError)
         → TakesIn old.facts (next_in (place_in old)) o t new.facts → StoreBelow old.facts new.facts
@@ -104,11 +119,13 @@ taken_grows old new bytes taken h = record { number = h.number; settings = h.set
     by_bundle (Some b) (Err refusal.Conflict) k = kept k.2
     by_bundle (Some b) (Err refusal.Malformed) k = absurd k
     by_bundle (Some b) (Err refusal.Memory) (inl k) = kept k
-    by_bundle (Some b) (Err refusal.Memory) (inr k) = joined b (take k.2.0 b.items) (fit_first old.facts.slots k.2.0 b.items k.1) k.2.1
+    by_bundle (Some b) (Err refusal.Memory) (inr k) =
+        joined b (take k.2.0 b.items) (fit_first old.facts.slots k.2.0 b.items k.1) k.2.1
     by_bundle (Some b) (Ok n) k = joined b b.items k.1 k.2.0
 
 -- a pushed bundle that the edge refuses, or that goes to the region
-pub pushed_grows : (terms : TermsFields) (now : ℕ) (old new : RegionFields) (bytes : List ℕ) (taken : Result ℕ PushError)
+pub pushed_grows : (terms : TermsFields) (now : ℕ) (old new : RegionFields) (bytes : List ℕ)
+    (taken : Result ℕ PushError)
     → Pushes terms now old bytes taken new → Grows old new
 pushed_grows terms now old new bytes taken h = by (refused terms now (whole bundle bytes)) taken h
   where

@@ -350,7 +350,7 @@ module _ (before after : Option (List ℕ)) (old new : RegionFields) (asked : As
 decision_stays_by : (again : Option Repetition) (words : List ℕ) (old : EdgeFields) (end : Ending) (logged : List ℕ) (new : EdgeFields)
     → IsDecisionBy again words true old end logged new
     → old.sealed ≡ true → new.sealed ≡ true
-decision_stays_by None words old end logged new h e = ap (λ (x : EdgeFields). x.sealed) (h.4.shut e).0 ∙ e
+decision_stays_by None words old end logged new h e = ap (λ (x : EdgeFields). x.sealed) (h.3.shut e).0 ∙ e
 decision_stays_by (Some it) words old end logged new h e = ap (λ (x : EdgeFields). x.sealed) h.0 ∙ e
 
 decision_stays : (words : List ℕ) (old : EdgeFields) (end : Ending) (logged : List ℕ) (new : EdgeFields)
@@ -384,10 +384,10 @@ decision_adds_by : (again : Option Repetition) (words : List ℕ) (old : EdgeFie
 decision_adds_by (Some it) words old end logged new h open_old open_new =
     still end.end (Some []) (Some logged) old.region new.region (keeps_nothing (Some []) (Some logged) h.1) (ap (λ (x : EdgeFields). x.region) h.0)
 decision_adds_by None words old end logged new h open_old open_new =
-    let asking : Asking = record { words = words; log_taken = true; reach = end.reach; now = h.0; bytes = h.1; over = h.2 } in
-    let asked : Asked = asked_by (asked_of asking old) h.1 [] in
-    served (Some []) (Some logged) old.region new.region asked refl (logged ≡ []) (gains h.3) end.end
-    (subst (λ b. IsServed asked (record { before = old.region; after = new.region }) (gains logged) (logged ≡ []) (gains h.3) b end.end) open_new (h.4.served open_old [] (λ _. refl)))
+    let asking : Asking = record { words = words; log_taken = true; reach = end.reach; now = end.now; bytes = h.0; over = h.1 } in
+    let asked : Asked = asked_by (asked_of asking old) h.0 [] in
+    served (Some []) (Some logged) old.region new.region asked refl (logged ≡ []) (gains h.2) end.end
+    (subst (λ b. IsServed asked (record { before = old.region; after = new.region }) (gains logged) (logged ≡ []) (gains h.2) b end.end) open_new (h.3.served open_old [] (λ _. refl)))
 
 pub decision_adds : (words : List ℕ) (old : EdgeFields) (end : Ending) (logged : List ℕ) (new : EdgeFields)
     → IsDecision words true old end logged new

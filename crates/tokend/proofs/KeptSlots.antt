@@ -86,8 +86,10 @@ joined_stays : (o : Option Slot) (s : Slot) → o ≡ Some skipped
 joined_stays o s e = ap (λ p. Some (joined_slot p s)) e
 
 stays_joined : (B S : Slots) (i : Dot × Slot) → SkipsStay B S → SkipsStay B (joined S i)
-stays_joined B S i stays d at = by_dot (λ o. o ≡ Some skipped) S i.0 (joined_slot (map.get S i.0) i.1) d
-    (λ same. joined_stays (map.get S i.0) i.1 (stays i.0 (ap (map.get B) (sym same) ∙ at))) (stays d at)
+stays_joined B S i stays d at =
+    by_dot (λ o. o ≡ Some skipped) S i.0 (joined_slot (map.get S i.0) i.1) d
+    (λ same. joined_stays (map.get S i.0) i.1 (stays i.0 (ap (map.get B) (sym same) ∙ at)))
+    (stays d at)
 
 is_mark_of : (o : Option Slot) → is_skipped_slot o ≡ true → o ≡ Some skipped
 is_mark_of None e = absurd (cc)
@@ -107,23 +109,32 @@ pub from_items : (B S U : Slots) (items : Items) → SkipsStay B S
     → AllBelow U (filter (counts B) items) → (d : Dot)
     → IsFrom (map.get U d) (map.get S d) (map.get (with_slots S items) d)
 from_items B S U [] stays all d = inl refl
-from_items B S U (i ∷ more) stays all d = by (λ a. from_items B (joined S i) U more (stays_joined B S i stays) a d) (counts B i) refl all
+from_items B S U (i ∷ more) stays all d =
+    by (λ a. from_items B (joined S i) U more (stays_joined B S i stays) a d) (counts B i) refl all
   where
     step : IsFrom (map.get U i.0) (map.get S i.0) (Some (joined_slot (map.get S i.0) i.1))
         → IsFrom (map.get U d) (map.get S d) (map.get (joined S i) d)
-    step here = by_dot (λ o. IsFrom (map.get U d) (map.get S d) o) S i.0 (joined_slot (map.get S i.0) i.1) d
-        (λ same. subst (λ q. IsFrom (map.get U q) (map.get S q) (Some (joined_slot (map.get S i.0) i.1))) (sym same) here) (inl refl)
+    step here =
+        by_dot (λ o. IsFrom (map.get U d) (map.get S d) o) S i.0 (joined_slot (map.get S i.0) i.1) d
+        (λ same. subst (λ q.
+        IsFrom (map.get U q) (map.get S q) (Some (joined_slot (map.get S i.0) i.1)))
+        (sym same) here) (inl refl)
 
-    by : (AllBelow U (filter (counts B) more) → IsFrom (map.get U d) (map.get (joined S i) d) (map.get (with_slots (joined S i) more) d))
-        → (t : Bool) → counts B i ≡ t → AllBelow U (cond t (i ∷ filter (counts B) more) (filter (counts B) more))
+    by : (AllBelow U (filter (counts B) more)
+        → IsFrom (map.get U d) (map.get (joined S i) d) (map.get (with_slots (joined S i) more) d))
+        → (t : Bool) → counts B i ≡ t
+        → AllBelow U (cond t (i ∷ filter (counts B) more) (filter (counts B) more))
         → IsFrom (map.get U d) (map.get S d) (map.get (with_slots (joined S i) more) d)
     by after true e all =
-        from_twice (map.get U d) (map.get S d) (map.get (joined S i) d) (map.get (with_slots (joined S i) more) d)
+        from_twice (map.get U d) (map.get S d) (map.get (joined S i) d)
+        (map.get (with_slots (joined S i) more) d)
         (step (joined_from (map.get U i.0) (map.get S i.0) i.1 all.0)) (after all.1)
     by after false e all =
         let here : Some (joined_slot (map.get S i.0) i.1) ≡ map.get S i.0 =
-        joined_stays (map.get S i.0) i.1 (stays i.0 (dropped_is B i e)) ∙ sym (stays i.0 (dropped_is B i e)) in
-        from_twice (map.get U d) (map.get S d) (map.get (joined S i) d) (map.get (with_slots (joined S i) more) d)
+        joined_stays (map.get S i.0) i.1 (stays i.0 (dropped_is B i e))
+        ∙ sym (stays i.0 (dropped_is B i e)) in
+        from_twice (map.get U d) (map.get S d) (map.get (joined S i) d)
+        (map.get (with_slots (joined S i) more) d)
         (step (inl here)) (after all)
 
 -- each slot is as it was, or below what is above all items
@@ -131,9 +142,12 @@ pub items_from : (U S : Slots) (items : Items) → AllBelow U items → (d : Dot
     → IsFrom (map.get U d) (map.get S d) (map.get (with_slots S items) d)
 items_from U S [] all d = inl refl
 items_from U S (i ∷ more) all d =
-    from_twice (map.get U d) (map.get S d) (map.get (joined S i) d) (map.get (with_slots (joined S i) more) d)
+    from_twice (map.get U d) (map.get S d) (map.get (joined S i) d)
+    (map.get (with_slots (joined S i) more) d)
     (by_dot (λ o. IsFrom (map.get U d) (map.get S d) o) S i.0 (joined_slot (map.get S i.0) i.1) d
-    (λ same. subst (λ q. IsFrom (map.get U q) (map.get S q) (Some (joined_slot (map.get S i.0) i.1))) (sym same) (joined_from (map.get U i.0) (map.get S i.0) i.1 all.0)) (inl refl))
+    (λ same. subst (λ q.
+    IsFrom (map.get U q) (map.get S q) (Some (joined_slot (map.get S i.0) i.1))) (sym same)
+    (joined_from (map.get U i.0) (map.get S i.0) i.1 all.0)) (inl refl))
     (items_from U (joined S i) more all.1 d)
 
 -- the first items of a list that are kept are among those that are
@@ -170,7 +184,8 @@ same_items S T (i ∷ more) same none d =
     let each = neither (changes_slot (map.get S i.0) i.1) (changes_slots S more) none in
     same_items S (joined T i) more
     (λ q. by_dot (λ o. o ≡ map.get S q) T i.0 (joined_slot (map.get T i.0) i.1) q
-    (λ at. ap (λ o. Some (joined_slot o i.1)) (same i.0) ∙ unchanged_slot (map.get S i.0) i.1 each.0 ∙ ap (map.get S) (sym at)) (same q))
+    (λ at. ap (λ o. Some (joined_slot o i.1)) (same i.0) ∙ unchanged_slot (map.get S i.0) i.1 each.0
+    ∙ ap (map.get S) (sym at)) (same q))
     each.1 d
 
 -- items that change nothing leave each slot
@@ -226,7 +241,8 @@ fits_lower L S (i ∷ more) below fit = by (fits_lower L S more below fit.1) (co
   where
     by : AllFit L (filter (counts S) more) → (t : Bool) → counts S i ≡ t
         → AllFit L (cond t (i ∷ filter (counts S) more) (filter (counts S) more))
-    by after true e = (fit_lower (map.get L i.0) (map.get S i.0) i.1 (below i.0) fit.0 (kept_drop S i e), after)
+    by after true e =
+        (fit_lower (map.get L i.0) (map.get S i.0) i.1 (below i.0) fit.0 (kept_drop S i e), after)
     by after false e = after
 
 both_joined : (l s : Option Slot) (x : Slot) → SlotBelow l s → SlotAgrees s (Some x)
@@ -272,18 +288,21 @@ pub items_lower : (p : Dot × Slot → Bool) (L S : Slots) (items : Items) → D
     → SlotsBelow (with_slots L (filter p items)) (with_slots S items)
 items_lower p L S [] differ below fit = below
 items_lower p L S (i ∷ more) differ below fit =
-    by (items_lower p (joined L i) (joined S i) more differ.1 both later) (items_lower p L (joined S i) more differ.1 above later) (p i)
+    by (items_lower p (joined L i) (joined S i) more differ.1 both later)
+    (items_lower p L (joined S i) more differ.1 above later) (p i)
   where
     later : AllFit (joined S i) more
     later = fits_after S i.0 (joined_slot (map.get S i.0) i.1) more differ.0 fit.1
 
     above : SlotsBelow L (joined S i)
     above q = by_dot (λ o. SlotBelow (map.get L q) o) S i.0 (joined_slot (map.get S i.0) i.1) q
-        (λ same. subst (λ d. SlotBelow (map.get L d) (Some (joined_slot (map.get S i.0) i.1))) (sym same)
+        (λ same. subst (λ d. SlotBelow (map.get L d) (Some (joined_slot (map.get S i.0) i.1)))
+        (sym same)
         (one_joined (map.get L i.0) (map.get S i.0) i.1 (below i.0) fit.0)) (below q)
 
     both : SlotsBelow (joined L i) (joined S i)
-    both q = by_dot (λ o. SlotBelow o (map.get (joined S i) q)) L i.0 (joined_slot (map.get L i.0) i.1) q
+    both q =
+        by_dot (λ o. SlotBelow o (map.get (joined S i) q)) L i.0 (joined_slot (map.get L i.0) i.1) q
         (λ same. subst (λ o. SlotBelow (Some (joined_slot (map.get L i.0) i.1)) o)
         (sym (ap (map.get (joined S i)) same ∙ get_here S i.0 (joined_slot (map.get S i.0) i.1)))
         (both_joined (map.get L i.0) (map.get S i.0) i.1 (below i.0) fit.0))
@@ -291,7 +310,9 @@ items_lower p L S (i ∷ more) differ below fit =
 
     by : SlotsBelow (with_slots (joined L i) (filter p more)) (with_slots (joined S i) more)
         → SlotsBelow (with_slots L (filter p more)) (with_slots (joined S i) more)
-        → (t : Bool) → SlotsBelow (with_slots L (cond t (i ∷ filter p more) (filter p more))) (with_slots (joined S i) more)
+        → (t : Bool)
+        → SlotsBelow (with_slots L (cond t (i ∷ filter p more) (filter p more)))
+        (with_slots (joined S i) more)
     by taken left true = taken
     by taken left false = left
 
@@ -303,14 +324,22 @@ items_below S (i ∷ more) v a =
     let T = joined S i in
     let fit = fits_after S i.0 (joined_slot (map.get S i.0) i.1) more v.0 a.1 in
     let here : SlotBelow (Some i.1) (map.get T i.0) =
-    subst (λ o. SlotBelow (Some i.1) o) (sym (get_here S i.0 (joined_slot (map.get S i.0) i.1))) (join_right (map.get S i.0) i.1 a.0) in
-    (below_trans (Some i.1) (map.get T i.0) (map.get (with_slots T more) i.0) here (fit_below T more fit i.0), items_below T more v.1 fit)
+    subst (λ o. SlotBelow (Some i.1) o) (sym (get_here S i.0 (joined_slot (map.get S i.0) i.1)))
+    (join_right (map.get S i.0) i.1 a.0) in (
+      below_trans (Some i.1) (map.get T i.0) (map.get (with_slots T more) i.0) here
+          (fit_below T more fit i.0),
+      items_below T more v.1 fit,
+    )
 
 -- items below slots are below what is above these
 pub below_more : (S T : Slots) (items : Items) → SlotsBelow S T → AllBelow S items
     → AllBelow T items
 below_more S T [] h all = tt
-below_more S T (i ∷ more) h all = (below_trans (Some i.1) (map.get S i.0) (map.get T i.0) all.0 (h i.0), below_more S T more h all.1)
+below_more S T (i ∷ more) h all = (
+  below_trans (Some i.1) (map.get S i.0) (map.get T i.0) all.0
+      (h i.0),
+  below_more S T more h all.1,
+)
 
 -- of items below slots, those that pass a test are
 pub below_some : (U : Slots) (p : Dot × Slot → Bool) (items : Items) → AllBelow U items

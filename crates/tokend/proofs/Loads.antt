@@ -38,12 +38,14 @@ bundles_more (a ∷ more) b all fits = (all.0, bundles_more more b all.1 fits)
 each_more : (old mid new : RegionFields) (bundles : List BundleFields) (b : BundleFields)
     → TakesEach old bundles mid → ((n : ℕ) × TakesAs mid b (Ok n) new)
     → TakesEach old (bundles ++ b ∷ []) new
-each_more old mid new [] b same takes = (new, subst (λ (r : RegionFields). (n : ℕ) × TakesAs r b (Ok n) new) same takes, refl)
+each_more old mid new [] b same takes =
+    (new, subst (λ (r : RegionFields). (n : ℕ) × TakesAs r b (Ok n) new) same takes, refl)
 each_more old mid new (a ∷ more) b h takes = (h.0, h.1, each_more h.0 mid new more b h.2 takes)
 
 pub front_more : (old mid new : RegionFields) (log rest more : List ℕ) (b : BundleFields)
     → TakesFront old log rest mid → bundle.Fits b
-    → rest ≡ bundle_bytes b ++ more → ((n : ℕ) × TakesAs mid b (Ok n) new) → TakesFront old log more new
+    → rest ≡ bundle_bytes b ++ more → ((n : ℕ) × TakesAs mid b (Ok n) new)
+    → TakesFront old log more new
 front_more old mid new log rest more b front fits parts takes = record {
   bundles = front.bundles ++ b ∷ [];
   fit = bundles_more front.bundles b front.fit fits;
@@ -57,15 +59,19 @@ front_more old mid new log rest more b front fits parts takes = record {
 -- the bundles taken in, if the region is unchanged since
 pub front_kept : (old mid new : RegionFields) (log rest : List ℕ) → TakesFront old log rest mid
     → new ≡ mid → TakesFront old log rest new
-front_kept old mid new log rest front same = subst (λ (r : RegionFields). TakesFront old log rest r) (sym same) front
+front_kept old mid new log rest front same =
+    subst (λ (r : RegionFields). TakesFront old log rest r) (sym same) front
 
 -- a front that is malformed is no bundle
 malformed_front : (rest : List ℕ) (result : Result (BundleFields × ℕ) FrontError)
     → result ≡ Err front.Malformed
     → ((e : FrontError) → walk rest ≡ Err e → result ≡ Err e)
-    → ((b : BundleFields) (more : List ℕ) → bundle.Fits b → rest ≡ bundle_bytes b ++ more → IsFrontOf result b) → IsNoBundle rest
-malformed_front rest result is walked only =
-    (λ cut. other (ap error_of (sym is ∙ walked front.Cut cut)), λ b begins. absurd (subst (λ r. IsFrontOf r b) is (only b begins.1.0 begins.0 begins.1.1)))
+    → ((b : BundleFields) (more : List ℕ) → bundle.Fits b → rest ≡ bundle_bytes b ++ more
+    → IsFrontOf result b) → IsNoBundle rest
+malformed_front rest result is walked only = (
+  λ cut. other (ap error_of (sym is ∙ walked front.Cut cut)),
+  λ b begins. absurd (subst (λ r. IsFrontOf r b) is (only b begins.1.0 begins.0 begins.1.1)),
+)
   where
     error_of : Result (BundleFields × ℕ) FrontError → FrontError
     error_of (Ok x) = front.Cut
@@ -92,15 +98,19 @@ pub parts_taken : (rest : List ℕ) (n : ℕ) (more : List ℕ) (b : BundleField
     → take n rest ≡ bundle_bytes b → more ≡ drop n rest
     → rest ≡ bundle_bytes b ++ more
 parts_taken rest n more b spells is =
-    sym (take-append-drop n rest) ∙ ap (λ l. l ++ drop n rest) spells ∙ ap (λ l. bundle_bytes b ++ l) (sym is)
+    sym (take-append-drop n rest) ∙ ap (λ l. l ++ drop n rest) spells
+    ∙ ap (λ l. bundle_bytes b ++ l) (sym is)
 
 -- a region with equal number, settings and facts is equal
 same_region : (old new : RegionFields) → new.number ≡ old.number → new.settings ≡ old.settings
     → new.facts ≡ old.facts → new ≡ old
-same_region old new number settings facts = λ i. record { number = number i; settings = settings i; facts = facts i }
+same_region old new number settings facts =
+    λ i. record { number = number i; settings = settings i; facts = facts i }
 
-pub take_one : (offset : ℕ) (old new : RegionFields) (rest : List ℕ) (x : BundleFields × ℕ) (result : Result ℕ TakeError)
-    → new.number ≡ old.number → new.settings ≡ old.settings → x.1 ≤ length rest → bundle.Fits x.0 → take x.1 rest ≡ bundle_bytes x.0
+pub take_one : (offset : ℕ) (old new : RegionFields) (rest : List ℕ) (x : BundleFields × ℕ)
+    (result : Result ℕ TakeError)
+    → new.number ≡ old.number → new.settings ≡ old.settings → x.1 ≤ length rest → bundle.Fits x.0
+    → take x.1 rest ≡ bundle_bytes x.0
     → TakesIn old.facts (next_in (place_in old)) (Some x.0) result new.facts
     → TakesOne offset old rest (loaded offset x.1 result) new
 take_one offset old new rest x result number settings within fits spells takes = of result takes
@@ -114,7 +124,16 @@ take_one offset old new rest x result number settings within fits spells takes =
     of : (result : Result ℕ TakeError)
         → TakesIn old.facts (next_in (place_in old)) (Some x.0) result new.facts
         → TakesOne offset old rest (loaded offset x.1 result) new
-    of (Ok m) t = (some_bytes rest x.1 x.0 spells, (x.0, fits, within, spells, (m, record { number = number; settings = settings; takes = t })))
+    of (Ok m) t = (
+      some_bytes rest x.1 x.0 spells,
+      (
+        x.0,
+        fits,
+        within,
+        spells,
+        (m, record { number = number; settings = settings; takes = t }),
+      ),
+    )
     of (Err refusal.Memory) (inl e) = inl (same e)
     of (Err refusal.Memory) (inr t) = inr (
       x.0,
@@ -134,19 +153,27 @@ fails e = Err e
 -- the outcome for a front that can't be read
 pub unread_front : (offset : ℕ) (region : RegionFields) (rest : List ℕ) (e : FrontError)
     → ((f : FrontError) → walk rest ≡ Err f → fails e ≡ fails f)
-    → ((b : BundleFields) (more : List ℕ) → bundle.Fits b → rest ≡ bundle_bytes b ++ more → IsFrontOf (fails e) b)
-    → (fails e ≡ fails front.Cut → IsCut rest) → TakesOne offset region rest (front_end offset e) region
+    → ((b : BundleFields) (more : List ℕ) → bundle.Fits b → rest ≡ bundle_bytes b ++ more
+    → IsFrontOf (fails e) b)
+    → (fails e ≡ fails front.Cut → IsCut rest)
+    → TakesOne offset region rest (front_end offset e) region
 unread_front offset region rest front.Cut walked only cut = (cut refl, refl)
-unread_front offset region rest front.Malformed walked only cut = (malformed_front rest (Err front.Malformed) refl walked only, refl, refl)
+unread_front offset region rest front.Malformed walked only cut =
+    (malformed_front rest (Err front.Malformed) refl walked only, refl, refl)
 unread_front offset region rest front.Memory walked only cut = inl refl
 
 -- a fault that ends the loading of the rest ends that of the log
 pub load_fault : (old mid new : RegionFields) (log rest : List ℕ) (fault : LoadFault)
     → TakesFront old log rest mid
     → TakesOne (length log - length rest) mid rest (Err fault) new → Loads old log (Err fault) new
-load_fault old mid new log rest (Malformed at) front h = (rest, front_kept old mid new log rest front h.2, h.0, h.1)
-load_fault old mid new log rest (Refused at) front h =
-    (rest, front_kept old mid new log rest front h.2, subst (λ (r : RegionFields). IsRefused r rest) (sym h.2) h.0, h.1)
+load_fault old mid new log rest (Malformed at) front h =
+    (rest, front_kept old mid new log rest front h.2, h.0, h.1)
+load_fault old mid new log rest (Refused at) front h = (
+  rest,
+  front_kept old mid new log rest front h.2,
+  subst (λ (r : RegionFields). IsRefused r rest) (sym h.2) h.0,
+  h.1,
+)
 load_fault old mid new log rest Memory front h = (rest, mid, front, h)
 load_fault old mid new log rest Read front h = absurd h
 

@@ -49,7 +49,8 @@ no_end b more rest fits e (inl none) = no_bytes (sym none ∙ e)
   where
     no_bytes : [] ≡ bundle_bytes b ++ more → ⊥
     no_bytes e = absurd (cc)
-no_end b more rest fits e (inr cut) = not_cut more (sym (walk_bundle b more fits) ∙ sym (ap walk e) ∙ cut)
+no_end b more rest fits e (inr cut) =
+    not_cut more (sym (walk_bundle b more fits) ∙ sym (ap walk e) ∙ cut)
 
 -- the bundles at the front are the first of all bundles, and behind them are the others
 pub record Parted (xs ys : List BundleFields) (rest cut : List ℕ) : Type 0 where
@@ -62,12 +63,20 @@ pub parted : (xs ys : List BundleFields) (rest cut : List ℕ) → AreBundles xs
     → IsTorn cut → log_bytes xs ++ rest ≡ log_bytes ys ++ cut → Parted xs ys rest cut
 parted [] ys rest cut fx fy torn e = record { more = ys; fit = fy; all = refl; left = e }
 parted (x ∷ xs) [] rest cut fx fy torn e =
-    absurd (no_end x (log_bytes xs ++ rest) cut fx.0 (sym e ∙ append_assoc (bundle_bytes x) (log_bytes xs) rest) torn)
+    absurd (no_end x (log_bytes xs ++ rest) cut fx.0
+    (sym e ∙ append_assoc (bundle_bytes x) (log_bytes xs) rest) torn)
 parted (x ∷ xs) (y ∷ ys) rest cut fx fy torn e =
-    let first = prefix_free bundle bundle_exact x y (log_bytes xs ++ rest) (log_bytes ys ++ cut) fx.0 fy.0
-    (sym (append_assoc (bundle_bytes x) (log_bytes xs) rest) ∙ e ∙ append_assoc (bundle_bytes y) (log_bytes ys) cut) in
+    let first =
+    prefix_free bundle bundle_exact x y (log_bytes xs ++ rest) (log_bytes ys ++ cut) fx.0 fy.0
+    (sym (append_assoc (bundle_bytes x) (log_bytes xs) rest) ∙ e
+    ∙ append_assoc (bundle_bytes y) (log_bytes ys) cut) in
     let tail = parted xs ys rest cut fx.1 fy.1 torn first.1 in
-    record { more = tail.more; fit = tail.fit; all = ap (λ b. b ∷ ys) (sym first.0) ∙ ap (λ l. x ∷ l) tail.all; left = tail.left }
+    record {
+      more = tail.more;
+      fit = tail.fit;
+      all = ap (λ b. b ∷ ys) (sym first.0) ∙ ap (λ l. x ∷ l) tail.all;
+      left = tail.left;
+    }
 
 -- bytes are the bundles of one list alone
 pub one_list : (bytes : List ℕ) (xs ys : List BundleFields) → AreLogged bytes xs
@@ -80,7 +89,8 @@ one_list bytes xs ys a b =
         → a.rest ≡ log_bytes more ++ b.rest → ys ≡ xs
     of [] fit all left = all ∙ append-nil xs
     of (m ∷ more) fit all left =
-        absurd (no_end m (log_bytes more ++ b.rest) a.rest fit.0 (left ∙ append_assoc (bundle_bytes m) (log_bytes more) b.rest) a.torn)
+        absurd (no_end m (log_bytes more ++ b.rest) a.rest fit.0
+        (left ∙ append_assoc (bundle_bytes m) (log_bytes more) b.rest) a.torn)
 
 -- ---- what taking bundles in leaves
 
@@ -119,26 +129,32 @@ itself n k = omega (arith)
 pub taken_horizon : (P Q : StoreFields) (horizon : Option ℕ) (items : Items)
     → Q ≡ items_taken (raised P horizon) items
     → IsNotLater horizon Q.horizon × (P.horizon ≤ Q.horizon)
-taken_horizon P Q None items is = (tt, subst (λ n. P.horizon ≤ n) (sym (ap (λ (R : StoreFields). R.horizon) is)) (omega (arith)))
+taken_horizon P Q None items is =
+    (tt, subst (λ n. P.horizon ≤ n) (sym (ap (λ (R : StoreFields). R.horizon) is)) (omega (arith)))
 taken_horizon P Q (Some moment) items is = (
-  subst (λ n. moment ≤ n) (sym (ap (λ (R : StoreFields). R.horizon) is)) (at_least moment P.horizon),
-  subst (λ n. P.horizon ≤ n) (sym (ap (λ (R : StoreFields). R.horizon) is)) (no_earlier moment P.horizon),
+  subst (λ n. moment ≤ n) (sym (ap (λ (R : StoreFields). R.horizon) is))
+      (at_least moment P.horizon),
+  subst (λ n. P.horizon ≤ n) (sym (ap (λ (R : StoreFields). R.horizon) is))
+      (no_earlier moment P.horizon),
 )
 
 -- the horizon of a store with items isn't later than the old one, or than what is no earlier than
 -- that of their bundle
 pub horizon_from : (P Q : StoreFields) (horizon : Option ℕ) (items : Items) (u : ℕ)
     → Q ≡ items_taken (raised P horizon) items → IsNotLater horizon u → Q.horizon ≤ max P.horizon u
-horizon_from P Q None items u is low = subst (λ n. n ≤ max P.horizon u) (sym (ap (λ (R : StoreFields). R.horizon) is)) (itself P.horizon u)
+horizon_from P Q None items u is low = subst (λ n. n ≤ max P.horizon u)
+    (sym (ap (λ (R : StoreFields). R.horizon) is)) (itself P.horizon u)
 horizon_from P Q (Some moment) items u is low =
-    subst (λ n. n ≤ max P.horizon u) (sym (ap (λ (R : StoreFields). R.horizon) is)) (no_later moment P.horizon u low)
+    subst (λ n. n ≤ max P.horizon u) (sym (ap (λ (R : StoreFields). R.horizon) is))
+    (no_later moment P.horizon u low)
 
 pub later_more : (h : Option ℕ) (m n : ℕ) → m ≤ n → IsNotLater h m → IsNotLater h n
 later_more None m n le h = tt
 later_more (Some moment) m n le h = omega (arith, le, h)
 
 -- bundles that were taken in are below what is known then, as is what was known before
-pub record IsAbove (old : RegionFields) (bundles : List BundleFields) (new : RegionFields) : Type 0 where
+pub record IsAbove (old : RegionFields) (bundles : List BundleFields)
+    (new : RegionFields) : Type 0 where
   pub slots : SlotsBelow old.facts.slots new.facts.slots
   pub each : EachBelow new.facts.slots bundles
   pub late : NoneLater bundles new.facts.horizon
@@ -147,7 +163,8 @@ pub record IsAbove (old : RegionFields) (bundles : List BundleFields) (new : Reg
 pub each_below : (old : RegionFields) (bundles : List BundleFields) (new : RegionFields)
     → AreBundles bundles → TakesEach old bundles new → IsAbove old bundles new
 each_below old [] new fit same = record {
-  slots = subst (λ r. SlotsBelow old.facts.slots r.facts.slots) (sym same) (slots_itself old.facts.slots);
+  slots = subst (λ r. SlotsBelow old.facts.slots r.facts.slots) (sym same)
+      (slots_itself old.facts.slots);
   each = tt;
   late = tt;
   horizon = subst (λ r. old.facts.horizon ≤ r.facts.horizon) (sym same) (omega (arith));
@@ -157,12 +174,16 @@ each_below old (b ∷ more) new fit h =
     let agree = h.1.1.takes.1 in
     let is = taken_slots old.facts h.0.facts b.horizon b.items h.1.1.takes.2.0 in
     let late = taken_horizon old.facts h.0.facts b.horizon b.items h.1.1.takes.2.0 in
-    let grown : SlotsBelow old.facts.slots h.0.facts.slots = subst (SlotsBelow old.facts.slots) (sym is) (fit_below old.facts.slots b.items agree) in
-    let below : AllBelow h.0.facts.slots b.items = subst (λ S. AllBelow S b.items) (sym is) (items_below old.facts.slots b.items (fits_differ b fit.0) agree) in
+    let grown : SlotsBelow old.facts.slots h.0.facts.slots =
+    subst (SlotsBelow old.facts.slots) (sym is) (fit_below old.facts.slots b.items agree) in
+    let below : AllBelow h.0.facts.slots b.items =
+    subst (λ S. AllBelow S b.items) (sym is)
+    (items_below old.facts.slots b.items (fits_differ b fit.0) agree) in
     record {
       slots = slots_trans old.facts.slots h.0.facts.slots new.facts.slots grown rest.slots;
       each = (below_more h.0.facts.slots new.facts.slots b.items rest.slots below, rest.each);
-      late = (later_more b.horizon h.0.facts.horizon new.facts.horizon rest.horizon late.0, rest.late);
+      late =
+          (later_more b.horizon h.0.facts.horizon new.facts.horizon rest.horizon late.0, rest.late);
       horizon = omega (arith, late.1, rest.horizon);
     }
 
@@ -172,8 +193,10 @@ pub each_from : (old : RegionFields) (bundles : List BundleFields) (new : Region
     → IsFrom (map.get U d) (map.get old.facts.slots d) (map.get new.facts.slots d)
 each_from old [] new U same each d = inl (ap (λ (r : RegionFields). map.get r.facts.slots d) same)
 each_from old (b ∷ more) new U h each d =
-    from_twice (map.get U d) (map.get old.facts.slots d) (map.get h.0.facts.slots d) (map.get new.facts.slots d)
-    (subst (λ S. IsFrom (map.get U d) (map.get old.facts.slots d) (map.get S d)) (sym (taken_slots old.facts h.0.facts b.horizon b.items h.1.1.takes.2.0))
+    from_twice (map.get U d) (map.get old.facts.slots d) (map.get h.0.facts.slots d)
+    (map.get new.facts.slots d)
+    (subst (λ S. IsFrom (map.get U d) (map.get old.facts.slots d) (map.get S d))
+    (sym (taken_slots old.facts h.0.facts b.horizon b.items h.1.1.takes.2.0))
     (items_from U old.facts.slots b.items each.0 d)) (each_from h.0 more new U h.2 each.1 d)
 
 -- ---- lists of bundles
@@ -192,13 +215,15 @@ below_among U (x ∷ xs) all h each = (below_in U x all h.0 each, below_among U 
 later_in : (horizon : ℕ) (b : BundleFields) (all : List BundleFields) → IsIn b all
     → NoneLater all horizon → IsNotLater b.horizon horizon
 later_in horizon b [] h late = absurd h
-later_in horizon b (x ∷ xs) (inl is) late = subst (λ (y : BundleFields). IsNotLater y.horizon horizon) is late.0
+later_in horizon b (x ∷ xs) (inl is) late =
+    subst (λ (y : BundleFields). IsNotLater y.horizon horizon) is late.0
 later_in horizon b (x ∷ xs) (inr more) late = later_in horizon b xs more late.1
 
 pub later_among : (horizon : ℕ) (xs all : List BundleFields) → AreAmong xs all
     → NoneLater all horizon → NoneLater xs horizon
 later_among horizon [] all h late = tt
-later_among horizon (x ∷ xs) all h late = (later_in horizon x all h.0 late, later_among horizon xs all h.1 late)
+later_among horizon (x ∷ xs) all h late =
+    (later_in horizon x all h.0 late, later_among horizon xs all h.1 late)
 
 pub each_more : (S T : Slots) (bundles : List BundleFields) → SlotsBelow S T → EachBelow S bundles
     → EachBelow T bundles

@@ -81,7 +81,8 @@ without_choices rows (inr (inr (inr (inr none)))) service h =
 pub without_log : (rows : List Row) (flag : Bool) (log : Option (List ℕ))
     → HasFlag rows (codes "log-taken") flag → flag ≡ true
     → first_of (codes "log") rows ≡ log → log ≡ None → IsNoFiles rows
-without_log rows flag log given is text none files h = no_log files.log (h.logged (h.log_taken ∙ sym given ∙ is)) (sym (text ∙ none) ∙ h.log)
+without_log rows flag log given is text none files h =
+    no_log files.log (h.logged (h.log_taken ∙ sym given ∙ is)) (sym (text ∙ none) ∙ h.log)
   where
     no_log : {A : Type 0} (l : Option (String A)) → IsSome l → None ≡ option_map string_bytes l → ⊥
     no_log None some e = cc
@@ -90,10 +91,12 @@ without_log rows flag log given is text none files h = no_log files.log (h.logge
 -- parts are wanted without a log
 pub unlogged_parts : {A : Type 0} (rows : List Row) (part : Option ℕ) (log : Option (String A))
     → IfSome part (HasNumber rows (codes "log-part") least_part greatest_part)
-    → is_some part ≡ true → first_of (codes "log") rows ≡ option_map string_bytes log → is_some log ≡ false → IsNoFiles rows
+    → is_some part ≡ true → first_of (codes "log") rows ≡ option_map string_bytes log
+    → is_some log ≡ false → IsNoFiles rows
 unlogged_parts rows None log has given text none files h = absurd (cc)
 unlogged_parts rows (Some n) (Some file) has given text none files h = absurd (cc)
-unlogged_parts rows (Some n) None has given text none files h = no_part files.log_part h.unparted h.parted
+unlogged_parts rows (Some n) None has given text none files h =
+    no_part files.log_part h.unparted h.parted
   where
     no_log : {A : Type 0} (l : Option (String A)) → IsSome l → None ≡ option_map string_bytes l → ⊥
     no_log None some e = cc
@@ -108,7 +111,8 @@ unlogged_parts rows (Some n) None has given text none files h = no_part files.lo
 -- bundles taken in are to be logged, and there is no log
 pub unlogged_taken : {A : Type 0} (rows : List Row) (flag : Bool) (log : Option (String A))
     → HasFlag rows (codes "log-taken") flag → flag ≡ true
-    → first_of (codes "log") rows ≡ option_map string_bytes log → is_some log ≡ false → IsNoFiles rows
+    → first_of (codes "log") rows ≡ option_map string_bytes log → is_some log ≡ false
+    → IsNoFiles rows
 unlogged_taken rows flag None given is text none = without_log rows flag None given is text refl
 unlogged_taken rows flag (Some file) given is text none = absurd (cc)
 
@@ -116,6 +120,7 @@ unlogged_taken rows flag (Some file) given is text none = absurd (cc)
 pub wants_parts : (rows : List Row) (part : Bool)
     → false ≡ is_given (first_of (codes "log-taken") rows)
     → part ≡ is_some (first_of (codes "log-part") rows) → part ≡ wants_log rows
-wants_parts rows part given is = is ∙ ap (λ b. b || is_some (first_of (codes "log-part") rows)) given
+wants_parts rows part given is =
+    is ∙ ap (λ b. b || is_some (first_of (codes "log-part") rows)) given
 
 -- the subcommand wants a log, and its log is the one found

@@ -15,15 +15,20 @@ use Rattle.tk_world.specs.WorldStands.{RegionFor, IsStanding}
 -- the facts that a region holds are within the set
 facts_below : (w : WorldFields) (standing : IsStanding w) (r : ℕ)
     → IsSubset (held_facts (store_in w r)) standing.0
-facts_below w standing r = below (map.get w.regions r) (map.get standing.1.regions r) (standing.2.regions r)
+facts_below w standing r =
+    below (map.get w.regions r) (map.get standing.1.regions r) (standing.2.regions r)
   where
     below : (o : Option StoreFields) (k : Option Kept) → RegionFor standing.0 o k
         → IsSubset (held_facts (unwrap_or o empty_store)) standing.0
-    below None None x d b h = absurd (none_is_not_some b (sym (get_held empty_store.slots d ∙ ap held_slot (map.get-empty dot_cmp d)) ∙ h))
+    below None None x d b h = absurd
+        (none_is_not_some b
+        (sym (get_held empty_store.slots d ∙ ap held_slot (map.get-empty dot_cmp d)) ∙ h))
     below None (Some k) x d b h = absurd x
     below (Some P) None x d b h = absurd x
     below (Some P) (Some k) x d b h = held_made P standing.0 k.facts x.0 d b h
 
 pub all_agree : (w : WorldFields) → IsStanding w → (q r : ℕ)
     → Agree (held_facts (store_in w q)) (held_facts (store_in w r))
-all_agree w standing q r d b c here there = some_injective b c (sym (facts_below w standing q d b here) ∙ facts_below w standing r d c there)
+all_agree w standing q r d b c here there =
+    some_injective b c
+    (sym (facts_below w standing q d b here) ∙ facts_below w standing r d c there)

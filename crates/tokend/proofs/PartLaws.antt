@@ -12,4 +12,5 @@ turned None file all next is empty = tt
 turned (Some xs) None all next is empty = tt
 turned (Some xs) (Some ys) all next is empty =
     subst (λ a. Keeps (Some (xs ++ ys)) (joined a next)) (sym is)
-    (subst (λ n. Keeps (Some (xs ++ ys)) (joined (Some (xs ++ ys)) n)) (sym empty) (append-nil (xs ++ ys)))
+    (subst (λ n. Keeps (Some (xs ++ ys)) (joined (Some (xs ++ ys)) n)) (sym empty)
+    (append-nil (xs ++ ys)))

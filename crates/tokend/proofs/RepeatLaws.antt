@@ -15,6 +15,7 @@ use Rattle.tk_ledger.specs.Bodies.{is_same_dot}
 use Rattle.tk_edge.specs.declared.edge.Served.{Served}
 use Rattle.tk_edge.specs.declared.edge.Served.TheVariants.{Done, Nothing}
 use Rattle.tk_edge.specs.declared.front.Taken.{Taken}
+use Rattle.tk_edge.specs.declared.path.Path.{Path}
 use Rattle.tk_edge.specs.declared.reach.Reach.{Reach}
 use Rattle.tk_edge.specs.declared.tell.Fault.{Fault}
 use Rattle.tk_grant.specs.Repeat.{is_again}
@@ -46,12 +47,16 @@ and_second false b h = absurd (wrong h)
 pub recent_by : (seconds now : ℕ) (parent : Dot) (request : RequestFields) (it : Refreshed)
     → is_repeat seconds now parent request it ≡ true → is_recent seconds now it ≡ true
 recent_by seconds now parent request it h =
-    and_first (is_recent seconds now it) (is_again it.request request) (and_second (is_same_dot it.parent parent) (is_recent seconds now it && is_again it.request request) h)
+    and_first (is_recent seconds now it) (is_again it.request request)
+    (and_second (is_same_dot it.parent parent)
+    (is_recent seconds now it && is_again it.request request) h)
 
 pub again_by : (seconds now : ℕ) (parent : Dot) (request : RequestFields) (it : Refreshed)
     → is_repeat seconds now parent request it ≡ true → is_again it.request request ≡ true
 again_by seconds now parent request it h =
-    and_second (is_recent seconds now it) (is_again it.request request) (and_second (is_same_dot it.parent parent) (is_recent seconds now it && is_again it.request request) h)
+    and_second (is_recent seconds now it) (is_again it.request request)
+    (and_second (is_same_dot it.parent parent)
+    (is_recent seconds now it && is_again it.request request) h)
 
 -- a connection stays behind a reply that is given again only if its request lets it
 pub stays_taken : (keeps : Bool) (taken : Taken) (outcome : Outcome)
@@ -95,7 +100,8 @@ among_more (Some x) k l h it (inr rest) = inr (h it rest)
 granted_more : (k l : List Refreshed) (ends : Endings) → AreAmong k l
     → AreAmong (all_granted k ends) (all_granted l ends)
 granted_more k l [] h = h
-granted_more k l (e ∷ es) h = granted_more (with_granted e.granted k) (with_granted e.granted l) es (among_more e.granted k l h)
+granted_more k l (e ∷ es) h = granted_more (with_granted e.granted k) (with_granted e.granted l) es
+    (among_more e.granted k l h)
 
 granted_both : (k : List Refreshed) (xs ys : Endings)
     → all_granted k (xs ++ ys) ≡ all_granted (all_granted k xs) ys
@@ -109,7 +115,8 @@ in_drop x (y ∷ ys) is = inr is
 in_room : (x : Refreshed) (k : List Refreshed) → IsIn x (with_room k) → IsIn x k
 in_room x k is = elim (cases_Bool (nat_lt (length k) most_kept)) [
   | inl few ↦ subst (IsIn x) (cond-true (nat_lt (length k) most_kept) k (drop 1 k) few) is
-  | inr many ↦ in_drop x k (subst (IsIn x) (cond-false (nat_lt (length k) most_kept) k (drop 1 k) many) is)
+  | inr many ↦
+      in_drop x k (subst (IsIn x) (cond-false (nat_lt (length k) most_kept) k (drop 1 k) many) is)
 ]
 
 in_behind : (x it : Refreshed) (k : List Refreshed) → IsIn x (k ++ it ∷ []) → IsIn x (it ∷ k)
@@ -146,8 +153,12 @@ found_parts p (x ∷ xs) it h = elim (cases_Bool (p x)) [
 pub forgets : (seconds now : ℕ) (k : List Refreshed) → AreAmong (forgotten seconds now k) k
 forgets seconds now [] it is = is
 forgets seconds now (x ∷ xs) it is = elim (cases_Bool (is_recent seconds now x)) [
-  | inl holds ↦ subst (IsIn it) (cond-true (is_recent seconds now x) (x ∷ xs) (forgotten seconds now xs) holds) is
-  | inr fails ↦ inr (forgets seconds now xs it (subst (IsIn it) (cond-false (is_recent seconds now x) (x ∷ xs) (forgotten seconds now xs) fails) is))
+  | inl holds ↦ subst (IsIn it)
+      (cond-true (is_recent seconds now x) (x ∷ xs) (forgotten seconds now xs) holds) is
+  | inr fails ↦ inr
+      (forgets seconds now xs it
+      (subst (IsIn it)
+      (cond-false (is_recent seconds now x) (x ∷ xs) (forgotten seconds now xs) fails) is))
 ]
 
 -- the oldest one goes, if it wasn't granted lately
@@ -156,7 +167,8 @@ pub forgotten_first : (seconds now : ℕ) (x : Refreshed) (k : List Refreshed)
     → forgotten seconds now (drop 1 k) ≡ forgotten seconds now k
 forgotten_first seconds now x [] at some old = absurd (omega (arith, some))
 forgotten_first seconds now x (y ∷ ys) at some old =
-    sym (cond-false (is_recent seconds now y) (y ∷ ys) (forgotten seconds now ys) (sym (ap (is_recent seconds now) at) ∙ old))
+    sym (cond-false (is_recent seconds now y) (y ∷ ys) (forgotten seconds now ys)
+    (sym (ap (is_recent seconds now) at) ∙ old))
 
 -- none goes, if the oldest one was granted lately
 pub forgotten_none : (seconds now : ℕ) (x : Refreshed) (k : List Refreshed)
@@ -164,7 +176,8 @@ pub forgotten_none : (seconds now : ℕ) (x : Refreshed) (k : List Refreshed)
     → forgotten seconds now k ≡ k
 forgotten_none seconds now x [] at some lately = absurd (omega (arith, some))
 forgotten_none seconds now x (y ∷ ys) at some lately =
-    cond-true (is_recent seconds now y) (y ∷ ys) (forgotten seconds now ys) (sym (ap (is_recent seconds now) at) ∙ lately)
+    cond-true (is_recent seconds now y) (y ∷ ys) (forgotten seconds now ys)
+    (sym (ap (is_recent seconds now) at) ∙ lately)
 
 pub forgotten_empty : (seconds now : ℕ) (k : List Refreshed) → length k ≡ 0
     → forgotten seconds now k ≡ k
@@ -181,22 +194,38 @@ may_more seconds k l (Some it) h m = (m.0, h it.refreshed m.1, m.2)
 repeats_more : (seconds : ℕ) (k l : List Refreshed) (ends : Endings) → AreAmong k l
     → AreRepeats seconds k ends → AreRepeats seconds l ends
 repeats_more seconds k l [] h r = r
-repeats_more seconds k l (e ∷ es) h r =
-    (may_more seconds k l e.again h r.0, repeats_more seconds (with_granted e.granted k) (with_granted e.granted l) es (among_more e.granted k l h) r.1)
+repeats_more seconds k l (e ∷ es) h r = (
+  may_more seconds k l e.again h r.0,
+  repeats_more seconds (with_granted e.granted k) (with_granted e.granted l) es
+      (among_more e.granted k l h) r.1,
+)
 
 repeats_both : (seconds : ℕ) (k m : List Refreshed) (xs ys : Endings)
     → AreAmong m (all_granted k xs) → AreRepeats seconds k xs → AreRepeats seconds m ys
     → AreRepeats seconds k (xs ++ ys)
 repeats_both seconds k m [] ys among x y = repeats_more seconds m k ys among y
-repeats_both seconds k m (e ∷ es) ys among x y = (x.0, repeats_both seconds (with_granted e.granted k) m es ys among x.1 y)
+repeats_both seconds k m (e ∷ es) ys among x y =
+    (x.0, repeats_both seconds (with_granted e.granted k) m es ys among x.1 y)
 
 pub none_repeated : (repeats : RepeatsFields) → AreRepeated repeats [] repeats
 none_repeated repeats = record { seconds = refl; each = tt; kept = λ _ is. is }
 
-pub one_granted : (end : Result Served Fault) (stays : Bool) (reach : Reach) (granted : Option Refreshed) (repeats : RepeatsFields)
-    → AreRepeated repeats (record { end = end; stays = stays; reach = reach; granted = granted; again = None } ∷ []) (kept_by granted repeats)
-one_granted end stays reach None repeats = record { seconds = refl; each = (tt, tt); kept = λ _ is. is }
-one_granted end stays reach (Some it) repeats = record {
+pub one_granted : (end : Result Served Fault) (stays : Bool) (reach : Reach) (path : Option Path)
+    (now : ℕ) (granted : Option Refreshed) (repeats : RepeatsFields)
+    → AreRepeated repeats
+    (record {
+      end = end;
+      stays = stays;
+      reach = reach;
+      path = path;
+      now = now;
+      granted = granted;
+      again = None;
+    }
+    ∷ []) (kept_by granted repeats)
+one_granted end stays reach path now None repeats =
+    record { seconds = refl; each = (tt, tt); kept = λ _ is. is }
+one_granted end stays reach path now (Some it) repeats = record {
   seconds = refl;
   each = (tt, tt);
   kept = λ x is. in_kept x it repeats.kept (in_behind x it (with_room repeats.kept) is);
@@ -206,6 +235,8 @@ pub repeated_both : (old mid new : RepeatsFields) (xs ys : Endings) → AreRepea
     → AreRepeated mid ys new → AreRepeated old (xs ++ ys) new
 repeated_both old mid new xs ys h k = record {
   seconds = k.seconds ∙ h.seconds;
-  each = repeats_both old.seconds old.kept mid.kept xs ys h.kept h.each (subst (λ s. AreRepeats s mid.kept ys) h.seconds k.each);
-  kept = λ it is. subst (IsIn it) (sym (granted_both old.kept xs ys)) (granted_more mid.kept (all_granted old.kept xs) ys h.kept it (k.kept it is));
+  each = repeats_both old.seconds old.kept mid.kept xs ys h.kept h.each
+      (subst (λ s. AreRepeats s mid.kept ys) h.seconds k.each);
+  kept = λ it is. subst (IsIn it) (sym (granted_both old.kept xs ys))
+      (granted_more mid.kept (all_granted old.kept xs) ys h.kept it (k.kept it is));
 }

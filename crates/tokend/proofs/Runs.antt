@@ -48,25 +48,33 @@ script_run : (mode : Mode) (input : Option (List ℕ)) (events : List Event) (ou
     → IfSome input (λ script. IsScript mode.longest script events) → mode.Runs events outcomes
     → IfSome input (λ script. IsScriptRun mode script (lines_text events outcomes))
 script_run mode None events outcomes given run = tt
-script_run mode (Some script) events outcomes given run = record { events = events; outcomes = outcomes; given = given; run = run; printed = refl }
+script_run mode (Some script) events outcomes given run =
+    record { events = events; outcomes = outcomes; given = given; run = run; printed = refl }
 
 -- the lines of a script that was read were written
-pub script_printed : {T : Type 0} (mode : Mode) (input : Option (List ℕ)) (events : List Event) (outcomes : List Outcome) (old new : Option (List ℕ)) (r : Result T Fault)
-    → IfSome input (λ script. IsScript mode.longest script events) → mode.Runs events outcomes → OnOk r (Appends old new (lines_text events outcomes))
+pub script_printed : {T : Type 0} (mode : Mode) (input : Option (List ℕ)) (events : List Event)
+    (outcomes : List Outcome) (old new : Option (List ℕ)) (r : Result T Fault)
+    → IfSome input (λ script. IsScript mode.longest script events) → mode.Runs events outcomes
+    → OnOk r (Appends old new (lines_text events outcomes))
     → OnOk r (PrintsScript mode input old new)
-script_printed mode input events outcomes old new (Ok x) given run appended = (lines_text events outcomes, script_run mode input events outcomes given run, appended)
+script_printed mode input events outcomes old new (Ok x) given run appended =
+    (lines_text events outcomes, script_run mode input events outcomes given run, appended)
 script_printed mode input events outcomes old new (Err fault) given run appended = tt
 
 -- a beginning of the lines of a script was written, if the output failed
-pub script_begun : {T : Type 0} (mode : Mode) (input : Option (List ℕ)) (events : List Event) (outcomes : List Outcome) (old new : Option (List ℕ)) (r : Result T Fault)
-    → IfSome input (λ script. IsScript mode.longest script events) → mode.Runs events outcomes → IfErr r (λ fault. (fault ≡ Output) × AppendsFront old new (lines_text events outcomes))
+pub script_begun : {T : Type 0} (mode : Mode) (input : Option (List ℕ)) (events : List Event)
+    (outcomes : List Outcome) (old new : Option (List ℕ)) (r : Result T Fault)
+    → IfSome input (λ script. IsScript mode.longest script events) → mode.Runs events outcomes
+    → IfErr r (λ fault. (fault ≡ Output) × AppendsFront old new (lines_text events outcomes))
     → IfErr r (λ fault. LeavesScript mode input fault old new)
 script_begun mode input events outcomes old new (Ok x) given run begun = tt
 script_begun mode input events outcomes old new (Err fault) given run begun =
-    subst (λ f. LeavesScript mode input f old new) (sym begun.0) (lines_text events outcomes, script_run mode input events outcomes given run, begun.1)
+    subst (λ f. LeavesScript mode input f old new) (sym begun.0)
+    (lines_text events outcomes, script_run mode input events outcomes given run, begun.1)
 
 -- a fault of a script is one of the input, whose bytes it is if these are known
-pub read_fault : {T : Type 0} (longest : Option ℕ) (input : Option (List ℕ)) (script : List ℕ) (r : Result T Fault)
+pub read_fault : {T : Type 0} (longest : Option ℕ) (input : Option (List ℕ)) (script : List ℕ)
+    (r : Result T Fault)
     → length script ≤ greatest_length → IfSome input (λ bytes. script ≡ bytes)
     → IfErr r (IsFaultOf longest script) → IfErr r (IsReadFault longest input)
 read_fault longest input script (Ok x) short whole h = tt
@@ -76,7 +84,8 @@ read_fault longest input script (Err fault) short whole h = of fault h
         → IfSome known (λ bytes. script ≡ bytes)
         → IfSome known (λ bytes. (length bytes ≤ greatest_length) × IsFirstBad longest bytes number)
     first number bad None same = tt
-    first number bad (Some bytes) same = subst (λ s. (length s ≤ greatest_length) × IsFirstBad longest s number) same (short, bad)
+    first number bad (Some bytes) same =
+        subst (λ s. (length s ≤ greatest_length) × IsFirstBad longest s number) same (short, bad)
 
     of : (fault : Fault) → IsFaultOf longest script fault → IsReadFault longest input fault
     of Memory h = tt
@@ -132,8 +141,10 @@ task_fault words input ScriptTooLong h = h
 task_fault words input (BadLine number) h = h
 task_fault words input (Facts why) h = h
 
-pub faults_of_task : {T : Type 0} (words : List Text) (input : Option (List ℕ)) (P : Fault → Type 0) (r : Result T Fault)
-    → ((fault : Fault) → P fault → FailsToServe words fault ⊎ FailsToRun words input fault) → IfErr r P → IfErr r (IsFaultFor words input)
+pub faults_of_task : {T : Type 0} (words : List Text) (input : Option (List ℕ)) (P : Fault → Type 0)
+    (r : Result T Fault)
+    → ((fault : Fault) → P fault → FailsToServe words fault ⊎ FailsToRun words input fault)
+    → IfErr r P → IfErr r (IsFaultFor words input)
 faults_of_task words input P (Ok x) f h = tt
 faults_of_task words input P (Err fault) f h = task_fault words input fault (f fault h)
 
@@ -157,56 +168,72 @@ begun_less A B (BadLine number) old new f h = h
 begun_less A B Memory old new f h = h
 begun_less A B (Facts why) old new f h = f h
 
-pub left_by_task : {T : Type 0} (kept : List ℕ → Option (List ℕ)) (words : List Text) (input old new : Option (List ℕ)) (A : Type 0) (r : Result T Fault)
-    → (A → (fault : Fault) → BeginsLines words input fault old new ⊎ (BeginsToServe kept words old new ⊎ AsksToShow words))
+pub left_by_task : {T : Type 0} (kept : List ℕ → Option (List ℕ)) (words : List Text)
+    (input old new : Option (List ℕ)) (A : Type 0) (r : Result T Fault)
+    → (A → (fault : Fault)
+    → BeginsLines words input fault old new ⊎ (BeginsToServe kept words old new ⊎ AsksToShow words))
     → IfErr r (λ fault. LeavesBegun A fault old new)
     → IfErr r (λ fault. Leaves kept words input fault old new)
 left_by_task kept words input old new A (Ok x) f h = tt
-left_by_task kept words input old new A (Err fault) f h = begun_less A _ fault old new (λ a. f a fault) h
+left_by_task kept words input old new A (Err fault) f h =
+    begun_less A _ fault old new (λ a. f a fault) h
 
 -- what a fault of facts leaves is what the program's leaves
-pub left_by_facts : {T : Type 0} (kept : List ℕ → Option (List ℕ)) (words : List Text) (input old new : Option (List ℕ)) (sources : Sources) (r : Result T Fault)
+pub left_by_facts : {T : Type 0} (kept : List ℕ → Option (List ℕ)) (words : List Text)
+    (input old new : Option (List ℕ)) (sources : Sources) (r : Result T Fault)
     → Asks words (PrintFacts sources)
-    → IfErr r (λ fault. LeavesBegun (BeginsFacts sources input fault old new) fault old new) → IfErr r (λ fault. Leaves kept words input fault old new)
+    → IfErr r (λ fault. LeavesBegun (BeginsFacts sources input fault old new) fault old new)
+    → IfErr r (λ fault. Leaves kept words input fault old new)
 left_by_facts kept words input old new sources (Ok x) asks h = tt
 left_by_facts kept words input old new sources (Err fault) asks h =
-    begun_less (BeginsFacts sources input fault old new) _ fault old new (λ begun. inl (inr (inr (inl (sources, asks, begun))))) h
+    begun_less (BeginsFacts sources input fault old new) _ fault old new
+    (λ begun. inl (inr (inr (inl (sources, asks, begun))))) h
 
 -- what a fault of a check leaves is what the program's leaves
-pub left_by_check : {T : Type 0} (kept : List ℕ → Option (List ℕ)) (words : List Text) (input old new : Option (List ℕ)) (check : CheckValue) (r : Result T Fault)
+pub left_by_check : {T : Type 0} (kept : List ℕ → Option (List ℕ)) (words : List Text)
+    (input old new : Option (List ℕ)) (check : CheckValue) (r : Result T Fault)
     → Asks words (Check check)
-    → IfErr r (λ fault. LeavesBegun (BeginsCheck check input fault old new) fault old new) → IfErr r (λ fault. Leaves kept words input fault old new)
+    → IfErr r (λ fault. LeavesBegun (BeginsCheck check input fault old new) fault old new)
+    → IfErr r (λ fault. Leaves kept words input fault old new)
 left_by_check kept words input old new check (Ok x) asks h = tt
 left_by_check kept words input old new check (Err fault) asks h =
-    begun_less (BeginsCheck check input fault old new) _ fault old new (λ begun. inl (inr (inr (inr (check, asks, begun))))) h
+    begun_less (BeginsCheck check input fault old new) _ fault old new
+    (λ begun. inl (inr (inr (inr (check, asks, begun))))) h
 
 -- ---- what a run without a fault has done
 
-module _ {L : Type 0} (kept : List ℕ → Option (List ℕ)) (holds : L → Option (List ℕ)) (opens : Option ℕ → List ℕ → L → Type 0) (words : List Text) (input : Option (List ℕ)) (output : Change) where
+module _ {L : Type 0} (kept : List ℕ → Option (List ℕ)) (holds : L → Option (List ℕ))
+    (opens : Option ℕ → List ℕ → L → Type 0) (words : List Text) (input : Option (List ℕ))
+    (output : Change) where
   -- the facts that were printed are the program's lines
   pub facts_done : {T : Type 0} (faults : Writing) (sources : Sources) (r : Result T Fault)
       → Asks words (PrintFacts sources)
-      → OnOk r (PrintsFacts sources input output faults) → OnOk r (IsDone kept holds opens words input output faults)
+      → OnOk r (PrintsFacts sources input output faults)
+      → OnOk r (IsDone kept holds opens words input output faults)
   facts_done faults sources (Ok x) asks h = inl (inl (sources, asks, h))
   facts_done faults sources (Err fault) asks h = tt
 
   -- the line of a check is the program's
   pub check_done : {T : Type 0} (faults : Writing) (check : CheckValue) (r : Result T Fault)
       → Asks words (Check check)
-      → OnOk r (ChecksFacts check input output faults) → OnOk r (IsDone kept holds opens words input output faults)
+      → OnOk r (ChecksFacts check input output faults)
+      → OnOk r (IsDone kept holds opens words input output faults)
   check_done faults check (Ok x) asks h = inl (inr (check, asks, h))
   check_done faults check (Err fault) asks h = tt
 
   -- the lines that a script's run printed are the program's
   pub script_done : {T : Type 0} (writer : Writer) (P : Type 0) (r : Result T Fault)
-      → (P → PrintsLines words input output) → OnOk r P → OnOk r (IsDone kept holds opens words input output (record { before = writer; after = writer }))
+      → (P → PrintsLines words input output) → OnOk r P
+      → OnOk r
+      (IsDone kept holds opens words input output (record { before = writer; after = writer }))
   script_done writer P (Ok x) f h = inr (inr (inl (f h), refl))
   script_done writer P (Err fault) f h = tt
 
   -- a service that has run is the program's end, whatever faults its connections had
   pub service_done : {T : Type 0} (faults : Writing) (service : Service) (r : Result T Fault)
       → Asks words (Serve service)
-      → OnOk r (IsServiceRun kept holds (opens service.files.log_part) service output faults) → OnOk r (IsDone kept holds opens words input output faults)
+      → OnOk r (IsServiceRun kept holds (opens service.files.log_part) service output faults)
+      → OnOk r (IsDone kept holds opens words input output faults)
   service_done faults service (Ok x) asks h = inr (inl (service, asks, h))
   service_done faults service (Err fault) asks h = tt
 
@@ -234,19 +261,31 @@ no_status Output e = absurd (cc)
 
 -- how a run ends: with its status, and with the line of its fault
 abbrev pub Ends : {E T : Type 0} → (E → Writer) → Result T Fault → ℕ → E → E → Type 0
-Ends view ran status old new = MatchResult ran (λ _. (status ≡ 0) × (new ≡ old)) (λ fault. (status ≡ status_of fault) × ReportsFault fault (view old) (view new))
+Ends view ran status old new = MatchResult ran (λ _. (status ≡ 0) × (new ≡ old))
+    (λ fault. (status ≡ status_of fault) × ReportsFault fault (view old) (view new))
 
 -- what a run without a fault has done, if nothing is written afterwards
-pub ended_well : {E T : Type 0} (view : E → Writer) (P : E → Type 0) (ran : Result T Fault) (status : ℕ) (mid new : E)
+pub ended_well : {E T : Type 0} (view : E → Writer) (P : E → Type 0) (ran : Result T Fault)
+    (status : ℕ) (mid new : E)
     → Ends view ran status mid new → OnOk ran (P mid) → status ≡ 0 → P new
 ended_well view P (Ok x) status mid new ends h e = subst P (sym ends.1) h
 ended_well view P (Err fault) status mid new ends h e = absurd (no_status fault (sym ends.0 ∙ e))
 
-module _ (kept : List ℕ → Option (List ℕ)) (words : List Text) (input output output_new : Option (List ℕ)) where
-  pub ended_badly : {E T : Type 0} (view : E → Writer) (ran : Result T Fault) (status k : ℕ) (old mid new : E)
+module _ (kept : List ℕ → Option (List ℕ)) (words : List Text)
+    (input output output_new : Option (List ℕ)) where
+  pub ended_badly : {E T : Type 0} (view : E → Writer) (ran : Result T Fault) (status k : ℕ)
+      (old mid new : E)
       → Ends view ran status mid new → IfErr ran (IsFaultFor words input)
-      → IfErr ran (λ fault. Leaves kept words input fault output output_new) → OnErr ran (mid ≡ old) → status ≡ k → 0 < k
-      → (fault : Fault) × (status_of fault ≡ k) × IsFaultFor words input fault × Leaves kept words input fault output output_new × ReportsFault fault (view old) (view new)
-  ended_badly view (Ok x) status k old mid new ends faults left silent e some = absurd (omega (arith, ends.0, e, some))
-  ended_badly view (Err fault) status k old mid new ends faults left silent e some =
-      (fault, sym ends.0 ∙ e, faults, left, subst (λ m. ReportsFault fault (view m) (view new)) silent ends.1)
+      → IfErr ran (λ fault. Leaves kept words input fault output output_new) → OnErr ran (mid ≡ old)
+      → status ≡ k → 0 < k
+      → (fault : Fault) × (status_of fault ≡ k) × IsFaultFor words input fault
+      × Leaves kept words input fault output output_new × ReportsFault fault (view old) (view new)
+  ended_badly view (Ok x) status k old mid new ends faults left silent e some =
+      absurd (omega (arith, ends.0, e, some))
+  ended_badly view (Err fault) status k old mid new ends faults left silent e some = (
+    fault,
+    sym ends.0 ∙ e,
+    faults,
+    left,
+    subst (λ m. ReportsFault fault (view m) (view new)) silent ends.1,
+  )

@@ -25,8 +25,11 @@ pub told_pushed : (lines : List (List ℕ)) (events : List Event) (line : List �
     → AreEvents lines events → is_told line ≡ true → IsEventLine line event
     → AreEvents (lines ++ line ∷ []) (events ++ event ∷ [])
 told_pushed lines events line event all told one =
-    let grown : filter is_told (lines ++ line ∷ []) ≡ filter is_told lines ++ line ∷ [] = filter-append is_told lines (line ∷ []) ∙ ap (λ b. filter is_told lines ++ cond b (line ∷ []) []) told in
-    subst (λ ls. AllZip IsEventLine ls (events ++ event ∷ [])) (sym grown) (all_zip_pushed IsEventLine (filter is_told lines) events line event all one)
+    let grown : filter is_told (lines ++ line ∷ []) ≡ filter is_told lines ++ line ∷ [] =
+    filter-append is_told lines (line ∷ [])
+    ∙ ap (λ b. filter is_told lines ++ cond b (line ∷ []) []) told in
+    subst (λ ls. AllZip IsEventLine ls (events ++ event ∷ [])) (sym grown)
+    (all_zip_pushed IsEventLine (filter is_told lines) events line event all one)
 
 -- ---- which lines should be events
 
@@ -56,22 +59,28 @@ both_maps (i ∷ items) = ap (λ t. i.1.now ∷ t) (both_maps items)
 
 pub all_lines : (ls : List (List ℕ)) (items : List Item) → map numbered items ≡ enumerate_from 0 ls
     → lines_in items ≡ ls
-all_lines ls items all = sym (both_maps items) ∙ ap (map (λ (p : ℕ × List ℕ). p.1)) all ∙ unnumbered 0 ls
+all_lines ls items all =
+    sym (both_maps items) ∙ ap (map (λ (p : ℕ × List ℕ). p.1)) all ∙ unnumbered 0 ls
 
 first_lines : (ls : List (List ℕ)) (items : List Item) (n : ℕ)
     → map numbered items ≡ take n (enumerate_from 0 ls) → lines_in items ≡ take n ls
 first_lines ls items n some =
-    sym (both_maps items) ∙ ap (map (λ (p : ℕ × List ℕ). p.1)) some ∙ sym (take-map (λ (p : ℕ × List ℕ). p.1) n (enumerate_from 0 ls)) ∙ ap (take n) (unnumbered 0 ls)
+    sym (both_maps items) ∙ ap (map (λ (p : ℕ × List ℕ). p.1)) some
+    ∙ sym (take-map (λ (p : ℕ × List ℕ). p.1) n (enumerate_from 0 ls))
+    ∙ ap (take n) (unnumbered 0 ls)
 
 cut_at : (ls : List (List ℕ)) (i : ℕ) (d : List ℕ) → i < length ls
     → take i ls ++ get_or ls i d ∷ drop (i + 1) ls ≡ ls
 cut_at ls i d lt = grind (arith, common_steps)
 
 -- the line after those that have their events is the first bad one, if it is bad
-pub first_bad : (longest : Option ℕ) (script : List ℕ) (items : List Item) (item : Item) (events : List Event)
+pub first_bad : (longest : Option ℕ) (script : List ℕ) (items : List Item) (item : Item)
+    (events : List Event)
     → map numbered items ≡ take (length items) (enumerate_from 0 (lines_of script))
-    → (length items < length (enumerate_from 0 (lines_of script))) × (numbered item ≡ get_or (enumerate_from 0 (lines_of script)) (length items) (numbered item))
-    → AreEvents (lines_in items) events → is_told item.1.now ≡ true → IsBadLine longest item.1.now → IsFirstBad longest script (item.0 + 1)
+    → (length items < length (enumerate_from 0 (lines_of script)))
+    × (numbered item ≡ get_or (enumerate_from 0 (lines_of script)) (length items) (numbered item))
+    → AreEvents (lines_in items) events → is_told item.1.now ≡ true → IsBadLine longest item.1.now
+    → IsFirstBad longest script (item.0 + 1)
 first_bad longest script items item events some turn earlier told bad =
     let ls = lines_of script in
     let n = length items in
@@ -84,7 +93,9 @@ first_bad longest script items item events some turn earlier told bad =
       line = item.1.now;
       after = drop (n + 1) ls;
       events = events;
-      stands = sym (ap (λ front. front ++ item.1.now ∷ drop (n + 1) ls) (first_lines ls items n some) ∙ ap (λ l. take n ls ++ l ∷ drop (n + 1) ls) line ∙ cut_at ls n item.1.now there);
+      stands = sym (ap (λ front. front ++ item.1.now ∷ drop (n + 1) ls)
+          (first_lines ls items n some)
+          ∙ ap (λ l. take n ls ++ l ∷ drop (n + 1) ls) line ∙ cut_at ls n item.1.now there);
       counted = omega (arith, place, length-map items (λ (i : Item). i.1.now));
       earlier = earlier;
       told = told;
@@ -98,4 +109,5 @@ pub grown_told : (items : List Item) (item : Item) (events grown : List Event) (
     → IsEventLine item.1.now event → AreEvents (lines_in (items ++ item ∷ [])) grown
 grown_told items item events grown event pushed all told one =
     subst (λ ls. AreEvents ls grown) (sym (map_push (λ (i : Item). i.1.now) items item))
-    (subst (AreEvents (lines_in items ++ item.1.now ∷ [])) (sym pushed) (told_pushed (lines_in items) events item.1.now event all told one))
+    (subst (AreEvents (lines_in items ++ item.1.now ∷ [])) (sym pushed)
+    (told_pushed (lines_in items) events item.1.now event all told one))

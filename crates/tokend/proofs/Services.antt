@@ -94,37 +94,77 @@ bind_left opening at ScriptTooLong output h = absurd h
 bind_left opening at (Facts why) output h = absurd h
 bind_left opening at (BadLine number) output h = absurd h
 
-module _ {L : Type 0} (kept : List ℕ → Option (List ℕ)) (holds : L → Option (List ℕ)) (opens : List ℕ → L → Type 0) where
+module _ {L : Type 0} (kept : List ℕ → Option (List ℕ)) (holds : L → Option (List ℕ))
+    (opens : List ℕ → L → Type 0) where
   -- connections that were served without a log
-  pub without_log : {A T : Type 0} (name : Option (String A)) (words : ChaCha) (requests : Option ℕ) (keeps : Bool) (repeat : ℕ) (has_inner log_taken : Bool) (s : Course) (r : Result T Fault)
+  pub without_log : {A T : Type 0} (name : Option (String A)) (words : ChaCha) (requests : Option ℕ)
+      (keeps : Bool) (repeat : ℕ) (has_inner log_taken : Bool) (s : Course) (r : Result T Fault)
       → name ≡ None
-      → OnOk r (ServesWith words requests keeps repeat has_inner log_taken s (record { before = None; after = None })) → OnOk r (ServesLogged holds opens name words requests keeps repeat has_inner log_taken s)
+      → OnOk r
+      (ServesWith words requests keeps repeat has_inner log_taken s
+      (record { before = None; after = None }))
+      → OnOk r (ServesLogged holds opens name words requests keeps repeat has_inner log_taken s)
   without_log None words requests keeps repeat has_inner log_taken s (Ok x) none h = h
-  without_log (Some name) words requests keeps repeat has_inner log_taken s (Ok x) none h = absurd (cc)
+  without_log (Some name) words requests keeps repeat has_inner log_taken s (Ok x) none h =
+      absurd (cc)
   without_log name words requests keeps repeat has_inner log_taken s (Err fault) none h = tt
 
-  pub has_opened : {T : Type 0} (service : Service) (dropped : ℕ) (start : EdgeFields) (words : ChaCha) (pruned : Option ℕ) (region : RegionFields) (end : EdgeFields) (output : Change) (faults : Writing) (r : Result T Fault)
-      → PrunesOld service.files.prune start.region (Ok pruned) region → OnOk r (Announces (record { dropped = dropped; pruned = pruned }) service.at output.before output.after)
-      → OnOk r (ServesLogged holds opens service.files.log words service.limits.requests (keeps_in service.limits.keep) (unwrap_or service.limits.repeat 0) (is_some service.at.inner) service.files.log_taken (record { start = with_region start region; end = end; faults = faults; prunes = is_some service.limits.prune_margin }))
+  pub has_opened : {T : Type 0} (service : Service) (dropped : ℕ) (start : EdgeFields)
+      (words : ChaCha) (pruned : Option ℕ) (region : RegionFields) (end : EdgeFields)
+      (output : Change) (faults : Writing) (r : Result T Fault)
+      → PrunesOld service.files.prune start.region (Ok pruned) region
+      → OnOk r
+      (Announces (record { dropped = dropped; pruned = pruned }) service.at output.before
+      output.after)
+      → OnOk r
+      (ServesLogged holds opens service.files.log words service.limits.requests
+      (keeps_in service.limits.keep) (unwrap_or service.limits.repeat 0) (is_some service.at.inner)
+      service.files.log_taken
+      (record {
+        start = with_region start region;
+        end = end;
+        faults = faults;
+        prunes = is_some service.limits.prune_margin;
+      }))
       → OnOk r (HasOpened holds opens service dropped start words output faults)
-  has_opened service dropped start words pruned region end output faults (Ok x) prunes announced served =
-      record { pruned = pruned; region = region; prunes = prunes; announced = announced; end = end; served = served }
-  has_opened service dropped start words pruned region end output faults (Err fault) prunes announced served = tt
+  has_opened service dropped start words pruned region end output faults
+      (Ok x) prunes announced served =
+      record {
+        pruned = pruned;
+        region = region;
+        prunes = prunes;
+        announced = announced;
+        end = end;
+        served = served;
+      }
+  has_opened service dropped start words pruned region end output faults
+      (Err fault) prunes announced served = tt
 
-  pub has_run : {T : Type 0} (service : Service) (start : EdgeFields) (words : ChaCha) (dropped : ℕ) (region : RegionFields) (output : Change) (faults : Writing) (r : Result T Fault)
-      → LoadsOld kept service.files.load start.region (Ok dropped) region → OnOk r (HasOpened holds opens service dropped (with_region start region) words output faults)
+  pub has_run : {T : Type 0} (service : Service) (start : EdgeFields) (words : ChaCha) (dropped : ℕ)
+      (region : RegionFields) (output : Change) (faults : Writing) (r : Result T Fault)
+      → LoadsOld kept service.files.load start.region (Ok dropped) region
+      → OnOk r
+      (HasOpened holds opens service dropped (with_region start region) words output faults)
       → OnOk r (HasRun kept holds opens service start words output faults)
-  has_run service start words dropped region output faults (Ok x) loaded opened = record { dropped = dropped; region = region; loaded = loaded; opened = opened }
+  has_run service start words dropped region output faults (Ok x) loaded opened =
+      record { dropped = dropped; region = region; loaded = loaded; opened = opened }
   has_run service start words dropped region output faults (Err fault) loaded opened = tt
 
-  pub service_run : {T : Type 0} (service : Service) (edge : EdgeFields) (words : ChaCha) (output : Change) (faults : Writing) (r : Result T Fault)
-      → IsStart service edge words → OnOk r (HasRun kept holds opens service edge words output faults) → OnOk r (IsServiceRun kept holds opens service output faults)
-  service_run service edge words output faults (Ok x) start h = record { edge = edge; words = words; start = start; run = h }
+  pub service_run : {T : Type 0} (service : Service) (edge : EdgeFields) (words : ChaCha)
+      (output : Change) (faults : Writing) (r : Result T Fault)
+      → IsStart service edge words
+      → OnOk r (HasRun kept holds opens service edge words output faults)
+      → OnOk r (IsServiceRun kept holds opens service output faults)
+  service_run service edge words output faults (Ok x) start h =
+      record { edge = edge; words = words; start = start; run = h }
   service_run service edge words output faults (Err fault) start h = tt
 
 -- what a fault leaves of the output, by what was dropped of the old log
-pub opening_left : {T : Type 0} (kept : List ℕ → Option (List ℕ)) (service : Service) (start region : RegionFields) (dropped : ℕ) (old new : Option (List ℕ)) (r : Result T Fault)
-    → LoadsOld kept service.files.load start (Ok dropped) region → IfErr r (λ fault. LeavesOpening service dropped fault old new)
+pub opening_left : {T : Type 0} (kept : List ℕ → Option (List ℕ)) (service : Service)
+    (start region : RegionFields) (dropped : ℕ) (old new : Option (List ℕ)) (r : Result T Fault)
+    → LoadsOld kept service.files.load start (Ok dropped) region
+    → IfErr r (λ fault. LeavesOpening service dropped fault old new)
     → IfErr r (λ fault. LeavesService kept service start fault old new)
 opening_left kept service start region dropped old new (Ok x) loaded h = tt
-opening_left kept service start region dropped old new (Err fault) loaded h = begun_less _ _ fault old new (λ begun. (dropped, region, loaded, begun)) h
+opening_left kept service start region dropped old new (Err fault) loaded h =
+    begun_less _ _ fault old new (λ begun. (dropped, region, loaded, begun)) h

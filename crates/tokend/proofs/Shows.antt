@@ -30,7 +30,9 @@ Shows kind = (kind ≡ DisplayHelp) ⊎ (kind ≡ DisplayVersion)
 -- the program's fault: the text could not be shown, or there was no text to show
 abbrev Refuses : Error → Option (List ℕ) → Option (List ℕ) → Fault → Type 0
 Refuses error old new fault = ((fault ≡ Output) × Shows (kind_of error))
-    ⊎ (((fault ≡ Memory) ⊎ ((fault ≡ Words error) × (kind_of error ≢ OutOfMemory) × IsNoShow (kind_of error))) × Keeps old new)
+    ⊎ (((fault ≡ Memory)
+    ⊎ ((fault ≡ Words error) × (kind_of error ≢ OutOfMemory) × IsNoShow (kind_of error)))
+    × Keeps old new)
 
 -- the kind of arguments that name no task is neither help nor the version
 abbrev IsMissing : ErrorKind → Type 0
@@ -44,18 +46,22 @@ missing_else false false k e = inr (inr (sym e))
 
 no_missing : (words : List Text) (k : ErrorKind) → (IsMissing k → ⊥)
     → missing_kind (subcommand_of tokend_app words) ≡ k → ⊥
-no_missing words k not_missing e = not_missing (missing_else (lacks_option (subcommand_of tokend_app words)) (misnames_word (subcommand_of tokend_app words)) k e)
+no_missing words k not_missing e = not_missing
+    (missing_else (lacks_option (subcommand_of tokend_app words))
+    (misnames_word (subcommand_of tokend_app words)) k e)
 
 among : (words : List Text) (kind k : ErrorKind) → Ends words kind → kind ≡ k
     → (k ≡ OutOfMemory → ⊥) → (IsMissing k → ⊥) → IsAmong k (fault_of tokend_app words)
 among words kind k (inl memory) e not_memory not_missing = absurd (not_memory (sym e ∙ memory))
-among words kind k (inr (inl found)) e not_memory not_missing = subst (λ q. IsAmong q (fault_of tokend_app words)) e found
+among words kind k (inr (inl found)) e not_memory not_missing =
+    subst (λ q. IsAmong q (fault_of tokend_app words)) e found
 among words kind k (inr (inr missing)) e not_memory not_missing =
     absurd (no_missing words k not_missing (sym missing.0 ∙ e))
 
 asks_to_show : (words : List Text) (kind : ErrorKind) → Ends words kind → Shows kind
     → AsksToShow words
-asks_to_show words kind ends (inl help) = inl (among words kind DisplayHelp ends help not_memory not_missing)
+asks_to_show words kind ends (inl help) =
+    inl (among words kind DisplayHelp ends help not_memory not_missing)
   where
     not_memory : DisplayHelp ≡ OutOfMemory → ⊥
     not_memory e = absurd (cc)
@@ -64,7 +70,8 @@ asks_to_show words kind ends (inl help) = inl (among words kind DisplayHelp ends
     not_missing (inl e) = absurd (cc)
     not_missing (inr (inl e)) = absurd (cc)
     not_missing (inr (inr e)) = absurd (cc)
-asks_to_show words kind ends (inr version) = inr (among words kind DisplayVersion ends version not_memory not_missing)
+asks_to_show words kind ends (inr version) =
+    inr (among words kind DisplayVersion ends version not_memory not_missing)
   where
     not_memory : DisplayVersion ≡ OutOfMemory → ⊥
     not_memory e = absurd (cc)
@@ -74,35 +81,46 @@ asks_to_show words kind ends (inr version) = inr (among words kind DisplayVersio
     not_missing (inr (inl e)) = absurd (cc)
     not_missing (inr (inr e)) = absurd (cc)
 
-pub shown_done : {L T : Type 0} (kept : List ℕ → Option (List ℕ)) (holds : L → Option (List ℕ)) (opens : Option ℕ → List ℕ → L → Type 0) (words : List Text) (kind : ErrorKind) (r : Result T Fault)
-    (input : Option (List ℕ)) (output : Change) (writer : Writer) → Ends words kind → OnOk r (Shows kind)
-    → OnOk r (IsDone kept holds opens words input output (record { before = writer; after = writer }))
-shown_done kept holds opens words kind (Ok x) input output writer ends shows = inr (inr (inr (asks_to_show words kind ends shows), refl))
+pub shown_done : {L T : Type 0} (kept : List ℕ → Option (List ℕ)) (holds : L → Option (List ℕ))
+    (opens : Option ℕ → List ℕ → L → Type 0) (words : List Text) (kind : ErrorKind)
+    (r : Result T Fault)
+    (input : Option (List ℕ)) (output : Change) (writer : Writer) → Ends words kind
+    → OnOk r (Shows kind)
+    → OnOk r
+    (IsDone kept holds opens words input output (record { before = writer; after = writer }))
+shown_done kept holds opens words kind (Ok x) input output writer ends shows =
+    inr (inr (inr (asks_to_show words kind ends shows), refl))
 shown_done kept holds opens words kind (Err fault) input output writer ends shows = tt
 
-pub refused_fault : {T : Type 0} (words : List Text) (error : Error) (r : Result T Fault) (input old new : Option (List ℕ))
+pub refused_fault : {T : Type 0} (words : List Text) (error : Error) (r : Result T Fault)
+    (input old new : Option (List ℕ))
     → Ends words (kind_of error)
     → IfErr r (Refuses error old new) → IfErr r (IsFaultFor words input)
 refused_fault words error (Ok x) input old new ends h = tt
-refused_fault words error (Err fault) input old new ends (inl h) = subst (IsFaultFor words input) (sym h.0) tt
+refused_fault words error (Err fault) input old new ends (inl h) =
+    subst (IsFaultFor words input) (sym h.0) tt
 refused_fault words error (Err fault) input old new ends (inr h) = of ends h.0
   where
     of : Ends words (kind_of error)
-        → (fault ≡ Memory) ⊎ ((fault ≡ Words error) × (kind_of error ≢ OutOfMemory) × IsNoShow (kind_of error))
+        → (fault ≡ Memory)
+        ⊎ ((fault ≡ Words error) × (kind_of error ≢ OutOfMemory) × IsNoShow (kind_of error))
         → IsFaultFor words input fault
     of ends (inl memory) = subst (IsFaultFor words input) (sym memory) tt
     of (inl memory) (inr told) = absurd (told.1 memory)
     of (inr refusal) (inr told) = subst (IsFaultFor words input) (sym told.0) (refusal, told.2)
 
-pub refused_left : {T : Type 0} (kept : List ℕ → Option (List ℕ)) (words : List Text) (error : Error) (r : Result T Fault) (input old new : Option (List ℕ))
+pub refused_left : {T : Type 0} (kept : List ℕ → Option (List ℕ)) (words : List Text)
+    (error : Error) (r : Result T Fault) (input old new : Option (List ℕ))
     → Ends words (kind_of error)
     → IfErr r (Refuses error old new) → IfErr r (λ fault. Leaves kept words input fault old new)
 refused_left kept words error (Ok x) input old new ends h = tt
 refused_left kept words error (Err fault) input old new ends (inl h) =
-    subst (λ f. Leaves kept words input f old new) (sym h.0) (inr (inr (asks_to_show words (kind_of error) ends h.1)))
+    subst (λ f. Leaves kept words input f old new) (sym h.0)
+    (inr (inr (asks_to_show words (kind_of error) ends h.1)))
 refused_left kept words error (Err fault) input old new ends (inr h) = of h.0
   where
-    of : (fault ≡ Memory) ⊎ ((fault ≡ Words error) × (kind_of error ≢ OutOfMemory) × IsNoShow (kind_of error))
+    of : (fault ≡ Memory)
+        ⊎ ((fault ≡ Words error) × (kind_of error ≢ OutOfMemory) × IsNoShow (kind_of error))
         → Leaves kept words input fault old new
     of (inl memory) = subst (λ f. Leaves kept words input f old new) (sym memory) h.1
     of (inr told) = subst (λ f. Leaves kept words input f old new) (sym told.0) h.1

@@ -62,28 +62,38 @@ abbrev IsPassing : StoreFields → Dot → Type 0
 IsPassing P d = (b : Body) × (map.get P.slots d ≡ Some (Held b)) × (is_passing b ≡ true)
 
 goes_passing : (P : StoreFields) (d : Dot) → Goes P d → IsPassing P d
-goes_passing P d (inl may) =
-    (may.fact, held_at (map.get P.slots d) may.fact (sym (get_held P.slots d) ∙ may.here), passing_kept d may.fact may.token may.kept)
-goes_passing P d (inr named) =
-    (named.fact, held_at (map.get P.slots d) named.fact (sym (get_held P.slots d) ∙ named.here), passing_named named.fact named.named named.names)
+goes_passing P d (inl may) = (
+  may.fact,
+  held_at (map.get P.slots d) may.fact (sym (get_held P.slots d) ∙ may.here),
+  passing_kept d may.fact may.token may.kept,
+)
+goes_passing P d (inr named) = (
+  named.fact,
+  held_at (map.get P.slots d) named.fact (sym (get_held P.slots d) ∙ named.here),
+  passing_named named.fact named.named named.names,
+)
 
 -- a store is below itself with a fact skipped that may be
 skipped_above : (P : StoreFields) (d : Dot) → IsPassing P d
     → SlotsBelow P.slots (with_skipped P d).slots
 skipped_above P d passing q = by_dot (λ o. SlotBelow (map.get P.slots q) o) P.slots d Skipped q
-    (λ same. subst (λ o. SlotBelow o (Some Skipped)) (sym (ap (map.get P.slots) same ∙ passing.1)) passing.2)
+    (λ same. subst (λ o. SlotBelow o (Some Skipped)) (sym (ap (map.get P.slots) same ∙ passing.1))
+    passing.2)
     (below_itself (map.get P.slots q))
 
 steps_above : (P : StoreFields) (ds : List Dot) (Q : StoreFields) → Steps P ds Q → StoreBelow P Q
-steps_above P [] Q same = subst (StoreBelow P) (sym same) (record { slots = slots_itself P.slots; horizon = omega (arith) })
+steps_above P [] Q same = subst (StoreBelow P) (sym same)
+    (record { slots = slots_itself P.slots; horizon = omega (arith) })
 steps_above P (d ∷ ds) Q h =
     let rest = steps_above (with_skipped P d) ds Q h.1 in
     record {
-      slots = slots_trans P.slots (with_skipped P d).slots Q.slots (skipped_above P d (goes_passing P d h.0)) rest.slots;
+      slots = slots_trans P.slots (with_skipped P d).slots Q.slots
+          (skipped_above P d (goes_passing P d h.0)) rest.slots;
       horizon = rest.horizon;
     }
 
-pub slice_above : (P : StoreFields) (moment : ℕ) (after : Option Dot) (count : ℕ) (slice : Slice) (Q : StoreFields)
+pub slice_above : (P : StoreFields) (moment : ℕ) (after : Option Dot) (count : ℕ) (slice : Slice)
+    (Q : StoreFields)
     → PrunesSome P moment after count slice Q → StoreBelow P Q
 slice_above P moment after count slice Q h =
     let up = steps_above (with_horizon P moment) h.went.dots Q h.went.steps in
@@ -102,20 +112,25 @@ steps_leave P (x ∷ xs) Q h d = of (steps_leave (with_skipped P x) xs Q h.1 d)
     passing = goes_passing P x h.0
 
     known : d ≡ x → map.get P.slots d ≡ None → ⊥
-    known same none = none_is_some (Held passing.0) (sym none ∙ ap (map.get P.slots) same ∙ passing.1)
+    known same none =
+        none_is_some (Held passing.0) (sym none ∙ ap (map.get P.slots) same ∙ passing.1)
 
     step : Leaves (map.get P.slots d) (map.get (with_skipped P x).slots d)
-    step = by_dot (λ o. Leaves (map.get P.slots d) o) P.slots x Skipped d (λ same. inr (refl, known same)) (inl refl)
+    step = by_dot (λ o. Leaves (map.get P.slots d) o) P.slots x Skipped d
+        (λ same. inr (refl, known same)) (inl refl)
 
     before : (map.get (with_skipped P x).slots d ≡ None → ⊥) → map.get P.slots d ≡ None → ⊥
-    before = by_dot (λ o. (o ≡ None → ⊥) → map.get P.slots d ≡ None → ⊥) P.slots x Skipped d (λ same some. known same) (λ some. some)
+    before = by_dot (λ o. (o ≡ None → ⊥) → map.get P.slots d ≡ None → ⊥) P.slots x Skipped d
+        (λ same some. known same) (λ some. some)
 
     of : Leaves (map.get (with_skipped P x).slots d) (map.get Q.slots d)
         → Leaves (map.get P.slots d) (map.get Q.slots d)
     of (inl same) = subst (Leaves (map.get P.slots d)) (sym same) step
     of (inr gone) = inr (gone.0, before gone.1)
 
-pub slice_leaves : (P : StoreFields) (moment : ℕ) (after : Option Dot) (count : ℕ) (slice : Slice) (Q : StoreFields)
+pub slice_leaves : (P : StoreFields) (moment : ℕ) (after : Option Dot) (count : ℕ) (slice : Slice)
+    (Q : StoreFields)
     → PrunesSome P moment after count slice Q
     → (d : Dot) → Leaves (map.get P.slots d) (map.get Q.slots d)
-slice_leaves P moment after count slice Q h = steps_leave (with_horizon P moment) h.went.dots Q h.went.steps
+slice_leaves P moment after count slice Q h =
+    steps_leave (with_horizon P moment) h.went.dots Q h.went.steps

@@ -38,30 +38,51 @@ known_as asked bytes = record {
   words = asked.words;
 }
 
-pub served_bytes : (asked : Asked) (bytes : List ℕ) (region : Step) (still : Type 0) (writer : Change) (sealed : Bool) (end : Result Served Fault)
-    → IsServedBy asked bytes true region unlogged still writer sealed end → IsServed (known_as asked bytes) region unlogged ⊤ writer sealed end
+pub served_bytes : (asked : Asked) (bytes : List ℕ) (region : Step) (still : Type 0)
+    (writer : Change) (sealed : Bool) (end : Result Served Fault)
+    → IsServedBy asked bytes true region unlogged still writer sealed end
+    → IsServed (known_as asked bytes) region unlogged ⊤ writer sealed end
 served_bytes asked bytes region still writer sealed end h =
     served_less still ⊤ (known_as asked bytes) region unlogged writer sealed end (λ _. tt)
-    (subst (λ l. IsServed (known_as asked l) region unlogged still writer sealed end) (append-nil bytes) (h [] (λ _. refl)))
+    (subst (λ l. IsServed (known_as asked l) region unlogged still writer sealed end)
+    (append-nil bytes) (h [] (λ _. refl)))
 
 -- the connection as its edge sees it
 abbrev asked_at : ℕ → List ℕ → EdgeFields → Asked
-asked_at now words old = record { reach = plain Admin; terms = old.terms; log_taken = false; known = None; now = now; words = words }
+asked_at now words old = record {
+  reach = plain Admin;
+  terms = old.terms;
+  log_taken = false;
+  known = None;
+  now = now;
+  words = words;
+}
 
-module _ (now : ℕ) (words bytes : List ℕ) (old new : EdgeFields) (still : Type 0) (writer : Change) (result : Result (Option (Served × Taken)) Fault)
-    (h : old.sealed ≡ false → IsFrontServed (asked_at now words old) bytes true (record { before = old.region; after = new.region }) unlogged still writer new.sealed result)
+module _ (now : ℕ) (words bytes : List ℕ) (old new : EdgeFields) (still : Type 0) (writer : Change)
+    (result : Result (Option (Served × Taken)) Fault)
+    (h : old.sealed ≡ false
+    → IsFrontServed (asked_at now words old) bytes true
+    (record { before = old.region; after = new.region }) unlogged still writer new.sealed result)
     (shut : old.sealed ≡ true → new ≡ old) (terms : new.terms ≡ old.terms) where
   abbrev Fronts : Result (Option (Served × Taken)) Fault → Type 0
-  Fronts r = IsFrontServed (asked_at now words old) bytes true (record { before = old.region; after = new.region }) unlogged still writer new.sealed r
+  Fronts r = IsFrontServed (asked_at now words old) bytes true
+      (record { before = old.region; after = new.region }) unlogged still writer new.sealed r
 
   clash : true ≡ false → ⊥
   clash e = absurd (cc)
 
   connection : (end : Result Served Fault)
-      → (old.sealed ≡ false → IsServedBy (asked_at now words old) bytes true (record { before = old.region; after = new.region }) unlogged still writer new.sealed end)
+      → (old.sealed ≡ false
+      → IsServedBy (asked_at now words old) bytes true
+      (record { before = old.region; after = new.region }) unlogged still writer new.sealed end)
       → IsConnection now words bytes old new end
   connection end by = record {
-    served = λ unsealed. (writer, served_bytes (asked_at now words old) bytes (record { before = old.region; after = new.region }) still writer new.sealed end (by unsealed));
+    served = λ unsealed. (
+      writer,
+      served_bytes (asked_at now words old) bytes
+          (record { before = old.region; after = new.region }) still writer new.sealed end
+          (by unsealed),
+    );
     shut = shut;
     terms = terms;
   }
@@ -82,14 +103,17 @@ module _ (now : ℕ) (words bytes : List ℕ) (old new : EdgeFields) (still : Ty
 module _ (asked : AskedFields) (old new : EdgeFields) (unsealed : old.sealed ≡ false) where
   -- the answer to some request that isn't empty, of which this holds, was made
   abbrev pub IsMade : (AnswerFields → Type 0) → Type 0
-  IsMade P = (heard : Arrival) × (heard ≢ Silence) × P (answer_at old.terms old.region asked.now asked.words heard) × Makes old asked heard new
+  IsMade P = (heard : Arrival) × (heard ≢ Silence)
+      × P (answer_at old.terms old.region asked.now asked.words heard) × Makes old asked heard new
 
   -- what arrives at an edge that exchanges no facts is heard, and its answer was made
   made : (P : AnswerFields → Type 0) (known : Option (List ℕ)) (came : Arrival)
       → Arrives (plain Admin) known came → came ≢ Silence → (answer : AnswerFields)
-      → Answers old.terms old.region asked.now asked.words came (Ok answer) new.region → P answer → new.sealed ≡ false → new.terms ≡ old.terms → IsMade P
+      → Answers old.terms old.region asked.now asked.words came (Ok answer) new.region → P answer
+      → new.sealed ≡ false → new.terms ≡ old.terms → IsMade P
   made P known came may spoke answer answers holds sealed ahead =
-      let by = answers_alone old.terms old.region asked.now asked.words came (Ok answer) new.region may.0 answers in (
+      let by = answers_alone old.terms old.region asked.now asked.words came
+      (Ok answer) new.region may.0 answers in (
         came,
         spoke,
         subst P by.0 holds,
@@ -101,4 +125,5 @@ module _ (asked : AskedFields) (old new : EdgeFields) (unsealed : old.sealed ≡
       → IsMade (λ answer. status ≡ answer.status)
   connection_answers bytes status h =
       let a = (h.served unsealed).1 in
-      made (λ answer. status ≡ answer.status) (Some bytes) a.0 a.1 a.2 a.3.0 a.3.1 a.3.2.0 a.3.2.3 h.terms
+      made (λ answer. status ≡ answer.status) (Some bytes) a.0 a.1 a.2 a.3.0 a.3.1 a.3.2.0 a.3.2.3
+      h.terms

@@ -29,7 +29,8 @@ rose a b is = by (nat_lt a greatest_count) refl
 
 -- what pieces that were written, or not, come to
 pub say_writes : {A E : Type 0} (r : Result A E) (old new : Writer) (text : List ℕ)
-    → Prints r old.bytes new.bytes text → CountsFailure r old.failed new.failed → Writes old new text
+    → Prints r old.bytes new.bytes text → CountsFailure r old.failed new.failed
+    → Writes old new text
 say_writes (Ok x) old new text prints counts = inl (prints, counts)
 say_writes (Err e) old new text prints counts = inr (prints, rose old.failed new.failed counts)
 
@@ -41,13 +42,17 @@ one_less : (n : ℕ) → suc n - 1 ≡ n
 one_less n = omega arith
 
 -- the first piece was written, then the rest
-pub pieces_then : {A E : Type 0} (r : Result A E) (old mid new : Option (List ℕ)) (pieces : List (Bor (List ℕ))) (other : Bor (List ℕ))
+pub pieces_then : {A E : Type 0} (r : Result A E) (old mid new : Option (List ℕ))
+    (pieces : List (Bor (List ℕ))) (other : Bor (List ℕ))
     → 1 ≤ length pieces
-    → Appends old mid (get_or pieces 0 other).now → Prints r mid new (joined_text (take (length pieces - 1) (drop 1 pieces))) → Prints r old new (joined_text pieces)
+    → Appends old mid (get_or pieces 0 other).now
+    → Prints r mid new (joined_text (take (length pieces - 1) (drop 1 pieces)))
+    → Prints r old new (joined_text pieces)
 pieces_then r old mid new [] other some done prints = absurd (omega (arith, some))
 pieces_then r old mid new (piece ∷ pieces) other some done prints =
     prints_then old mid new piece.now (joined_text pieces) r done
-    (subst (λ ps. Prints r mid new (joined_text ps)) (ap (λ n. take n pieces) (one_less (length pieces)) ∙ take_all pieces) prints)
+    (subst (λ ps. Prints r mid new (joined_text ps))
+    (ap (λ n. take n pieces) (one_less (length pieces)) ∙ take_all pieces) prints)
 
 -- nothing was written, then some bytes
 pub after_none : (old mid new : Option (List ℕ)) (bytes : List ℕ) → Keeps old mid

@@ -13,6 +13,7 @@ use Rattle.tk_turn.specs.Requests.{AreDecided, Request}
 use Rattle.tk_turn.specs.Turns.{AreDecidedAt, MayDecide, LogChange, State}
 use Rattle.tk_turn.specs.Turns as turn
 use Rattle.tk_edge.specs.declared.edge.Served.{Served}
+use Rattle.tk_edge.specs.declared.path.Path.{Path}
 use Rattle.tk_edge.specs.declared.reach.Reach.{Reach}
 use Rattle.tk_edge.specs.declared.tell.Fault.{Fault}
 use Rattle.tk_edge.specs.declared.tell.Fault.TheVariants.{Log}
@@ -114,11 +115,11 @@ went_both old mid new logged more h k =
           (subst (λ l. l ++ k.ends ≡ []) (sym one.0) two.0, two.1 ∙ one.1);
     }
 
-one_told : (end : Result Served Fault) (stays : Bool) (reach : Reach) (granted : Option Refreshed) (again : Option Repetition) (before after : Writer)
+one_told : (end : Result Served Fault) (stays : Bool) (reach : Reach) (path : Option Path) (now : ℕ) (granted : Option Refreshed) (again : Option Repetition) (before after : Writer)
     → ReportsOf (fault_of end) before after
-    → AreReported (record { end = end; stays = stays; reach = reach; granted = granted; again = again } ∷ []) before after
-one_told (Ok served) stays reach granted again before after h = (before, refl, h)
-one_told (Err fault) stays reach granted again before after h = (after, h, refl)
+    → AreReported (record { end = end; stays = stays; reach = reach; path = path; now = now; granted = granted; again = again } ∷ []) before after
+one_told (Ok served) stays reach path now granted again before after h = (before, refl, h)
+one_told (Err fault) stays reach path now granted again before after h = (after, h, refl)
 
 one_ended : (stays : Bool) → stays ≡ false → ended_if stays + 0 ≡ 1
 one_ended stays off = ap (λ b. ended_if b + 0) off
@@ -126,12 +127,12 @@ one_ended stays off = ap (λ b. ended_if b + 0) off
 went_end : (old : Server) (bytes : List ℕ) (over : Bool) (outcome : Outcome) (replied logged : List ℕ) (new : Server)
     → Ends old bytes over outcome replied logged new → Went old logged new
 went_end old bytes over outcome replied logged new h = record {
-  ends = record { end = h.end; stays = goes_on outcome; reach = reach_by old.edge.terms old.has_inner old.is_inner; granted = h.granted; again = None } ∷ [];
+  ends = record { end = h.end; stays = goes_on outcome; reach = reach_by old.edge.terms old.has_inner old.is_inner; path = h.path; now = old.now; granted = h.granted; again = None } ∷ [];
   decided = (
     new.edge,
     logged,
     [],
-    (old.now, bytes, over, h.reply, h.decided, may_stay old.keeps h.end (asking_of old bytes over) old.edge outcome h.is_outcome, h.is_granted),
+    (bytes, over, h.reply, h.decided, may_stay old.keeps h.end (asking_of old bytes over) old.edge outcome h.is_outcome, h.is_granted, h.is_named),
     sym (append-nil logged),
     (refl, refl),
   );
@@ -139,13 +140,13 @@ went_end old bytes over outcome replied logged new h = record {
   counted = omega (arith, h.counted, ap (λ s. s.left) h.moved);
   closes = λ off. one_ended (goes_on outcome) (none_stays old.keeps h.end (asking_of old bytes over) old.edge outcome h.is_outcome off);
   keeps = ap (λ s. s.keeps) h.moved;
-  repeats = subst (AreRepeated old.repeats _) (sym (ap (λ (s : Server). s.repeats) h.moved)) (one_granted h.end (goes_on outcome) (reach_by old.edge.terms old.has_inner old.is_inner) h.granted old.repeats);
+  repeats = subst (AreRepeated old.repeats _) (sym (ap (λ (s : Server). s.repeats) h.moved)) (one_granted h.end (goes_on outcome) (reach_by old.edge.terms old.has_inner old.is_inner) h.path old.now h.granted old.repeats);
   reaches = (may_reach old.has_inner old.is_inner, tt);
   has_inner = ap (λ s. s.has_inner) h.moved;
   margin = ap (λ s. s.pruning.margin) h.moved;
   counts = ap (λ s. s.tally.counts) h.moved;
   log_taken = ap (λ s. s.log_taken) h.moved;
-  lines = λ told before after t. one_told h.end (goes_on outcome) (reach_by old.edge.terms old.has_inner old.is_inner) h.granted None before after (subst (λ o. ReportsOf o before after) (ap (λ s. s.fault) h.moved) t);
+  lines = λ told before after t. one_told h.end (goes_on outcome) (reach_by old.edge.terms old.has_inner old.is_inner) h.path old.now h.granted None before after (subst (λ o. ReportsOf o before after) (ap (λ s. s.fault) h.moved) t);
   stuck = λ s. absurd (s h.told);
 }
 
@@ -154,7 +155,7 @@ went_again : (old : Server) (bytes : List ℕ) (over : Bool) (outcome : Outcome)
     → Repeats old bytes over outcome replied logged new → Went old logged new
 went_again old bytes over outcome replied logged new h =
     let it : Repetition = record { refreshed = h.it; now = old.now } in
-    let end : Ending = record { end = Ok (Done code.Ok); stays = goes_on outcome; reach = reach_by old.edge.terms old.has_inner old.is_inner; granted = None; again = Some it } in
+    let end : Ending = record { end = Ok (Done code.Ok); stays = goes_on outcome; reach = reach_by old.edge.terms old.has_inner old.is_inner; path = h.taken.path; now = old.now; granted = None; again = Some it } in
     let found = found_parts (is_repeat old.repeats.seconds old.now h.repeated.refresh.parent h.repeated.refresh.request) old.repeats.kept h.it h.found in
     record {
       ends = end ∷ [];
@@ -162,7 +163,7 @@ went_again old bytes over outcome replied logged new h =
         new.edge,
         logged,
         [],
-        (ap (λ (s : Server). s.edge) h.moved, h.unlogged, refl, refl, (bytes, over, h.taken, h.reply, h.repeated, stays_taken old.keeps h.taken outcome h.is_outcome)),
+        (ap (λ (s : Server). s.edge) h.moved, h.unlogged, refl, refl, refl, (bytes, over, h.taken, h.reply, h.repeated, stays_taken old.keeps h.taken outcome h.is_outcome, refl)),
         sym (append-nil logged),
         (refl, refl),
       );

@@ -72,7 +72,7 @@ decisions_both words log_taken old (x ∷ xs) first mid ys rest new h k = (
 
 pub counted_both : (xs ys : Endings) (counts : Counts) → all_counted (xs ++ ys) counts ≡ all_counted ys (all_counted xs counts)
 counted_both [] ys counts = refl
-counted_both (x ∷ xs) ys counts = counted_both xs ys (with_end x.end x.reach.paths counts)
+counted_both (x ∷ xs) ys counts = counted_both xs ys (with_end x.end x.reach.paths x.path x.now counts)
 
 pub connections_both : (xs ys : Endings) → connections_in (xs ++ ys) ≡ connections_in xs + connections_in ys
 connections_both [] ys = omega arith
@@ -156,11 +156,11 @@ goes_both old mid new h k =
     }
 
 -- a connection ended unread: the server has the words behind, one connection less, and counts it
-pub goes_unread : (fault : Fault) (old : Server) (words : ChaCha) (left : ℕ) (counts : Counts) (log : Option (List ℕ)) (before after : Writer) → IsUnread fault → counts ≡ with_end (Err fault) All old.tally.counts → words ≡ past_six old.words → old.left ≡ left + 1
+pub goes_unread : (fault : Fault) (old : Server) (words : ChaCha) (left : ℕ) (counts : Counts) (log : Option (List ℕ)) (before after : Writer) → IsUnread fault → counts ≡ with_end (Err fault) All None old.now old.tally.counts → words ≡ past_six old.words → old.left ≡ left + 1
     → Writes before after (connection_fault fault)
     → Goes (record { server = old; log = log; faults = before }) (record { server = record old { words = words; left = left; tally = record old.tally { counts = counts } }; log = log; faults = after })
 goes_unread fault old words left counts log before after is more drawn counted told = record {
-  turns = (record { end = Err fault; stays = false; reach = plain All; granted = None; again = None } ∷ []) ∷ [];
+  turns = (record { end = Err fault; stays = false; reach = plain All; path = None; now = old.now; granted = None; again = None } ∷ []) ∷ [];
   served =
       let then : Running = record { edge = old.edge; log = log; faults = after; prunes = is_some old.pruning.margin } in (
         then,
@@ -169,7 +169,7 @@ goes_unread fault old words left counts log before after is more drawn counted t
           edge = old.edge;
           records = [];
           told = after;
-          decided = (old.edge, [], [], unread (six old.words) old.log_taken old.edge fault is, refl, (refl, refl));
+          decided = (old.edge, [], [], unread (six old.words) old.log_taken old.edge fault old.now is, refl, (refl, refl));
           lines = (after, told, refl);
           log = inl (record { log = Appends-nil log; edge = refl; faults = refl; prunes = refl });
         },
@@ -194,7 +194,7 @@ goes_unread fault old words left counts log before after is more drawn counted t
 pub goes_parted : (old : Server) (words : ChaCha) (left : ℕ) (log : Option (List ℕ)) (faults : Writer) → words ≡ past_six old.words → old.left ≡ left + 1
     → Goes (record { server = old; log = log; faults = faults }) (record { server = record old { words = words; left = left }; log = log; faults = faults })
 goes_parted old words left log faults drawn counted = record {
-  turns = (record { end = Ok Nothing; stays = false; reach = plain All; granted = None; again = None } ∷ []) ∷ [];
+  turns = (record { end = Ok Nothing; stays = false; reach = plain All; path = None; now = 0; granted = None; again = None } ∷ []) ∷ [];
   served =
       let then : Running = record { edge = old.edge; log = log; faults = faults; prunes = is_some old.pruning.margin } in (
         then,

@@ -8,9 +8,11 @@ use Rattle.clap.specs.declared.parser.matches.Found.{Found}
 use Rattle.clap.proofs.WalkLemmas.{one_text-rows}
 use Rattle.tokend.specs.CommandLine.{IsDecimal, ReadsNumber, HasNumber}
 
-pub number_read : {E : Type 0} (gives : List ℕ → Result ℕ E → Type 0) (f : Found) (id : List ℕ) (r : Option ℕ)
+pub number_read : {E : Type 0} (gives : List ℕ → Result ℕ E → Type 0) (f : Found) (id : List ℕ)
+    (r : Option ℕ)
     → ((t : List ℕ) (n : ℕ) → gives t (Ok n) → IsDecimal t n)
-    → (one_text f id ≡ None → r ≡ None) → ((t : List ℕ) → one_text f id ≡ Some t → ReadsOne gives t r)
+    → (one_text f id ≡ None → r ≡ None)
+    → ((t : List ℕ) → one_text f id ≡ Some t → ReadsOne gives t r)
     → IfSome r (ReadsNumber (rows_of f) id)
 number_read gives f id r digits none value =
     elim (one_text f id) as (λ o. one_text f id ≡ o → IfSome r (ReadsNumber (rows_of f) id)) [
@@ -27,7 +29,8 @@ number_read gives f id r digits none value =
     present None t e h = tt
     present (Some n) t e h = (t, sym (one_text-rows f id) ∙ e, digits t n h)
 
-pub number_unread : {E : Type 0} (gives : List ℕ → Result ℕ E → Type 0) (f : Found) (id : List ℕ) (r : Option ℕ)
+pub number_unread : {E : Type 0} (gives : List ℕ → Result ℕ E → Type 0) (f : Found) (id : List ℕ)
+    (r : Option ℕ)
     → ((t : List ℕ) (e : E) (n : ℕ) → gives t (Err e) → n < 2 ^ 64 → ¬ (IsDecimal t n))
     → ((t : List ℕ) → one_text f id ≡ Some t → ReadsOne gives t r)
     → IfNone r ((n : ℕ) → n < 2 ^ 64 → ¬ (ReadsNumber (rows_of f) id n))
@@ -39,6 +42,7 @@ number_unread gives f id None digits value = λ n lt h.
 -- no number between the ends is under the id, if no number is
 pub none_between : (rows : List Row) (id : List ℕ) (least greatest : ℕ) (r : Option ℕ)
     → greatest < 2 ^ 64
-    → ((n : ℕ) → n < 2 ^ 64 → ¬ (ReadsNumber rows id n)) → IfNone r ((n : ℕ) → ¬ (HasNumber rows id least greatest n))
+    → ((n : ℕ) → n < 2 ^ 64 → ¬ (ReadsNumber rows id n))
+    → IfNone r ((n : ℕ) → ¬ (HasNumber rows id least greatest n))
 none_between rows id least greatest (Some x) fits none = tt
 none_between rows id least greatest None fits none = λ n h. none n (omega (h.2, fits, arith)) h.0

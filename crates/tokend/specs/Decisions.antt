@@ -1,6 +1,7 @@
 -- What a server decides of the bytes that have come over its connections (own).
 --   IsDecided      what is decided of these bytes, at a moment
 --   Ending         how a request ended, whether its connection stays open, and what it reached
+--   IsNamed        the path that a request is counted under
 --   IsDecision     what is decided of some bytes that have come, and the record of it
 --   FrontDecides   what serving the front of bytes decides
 --   paths_by       which paths the requests of a socket reach
@@ -27,6 +28,7 @@ use Rattle.tk_edge.specs.declared.reach.PathSet.{PathSet}
 use Rattle.tk_edge.specs.declared.reach.PathSet.TheVariants.{All, Clients}
 use Rattle.tk_edge.specs.declared.edge.Served.TheVariants.{Nothing, Done}
 use Rattle.tk_edge.specs.declared.front.Taken.{Taken}
+use Rattle.tk_edge.specs.declared.path.Path.{Path}
 use Rattle.tk_edge.specs.declared.tell.Fault.{Fault}
 use Rattle.tk_edge.specs.declared.tell.Fault.TheVariants.{Read, Memory}
 use Rattle.tk_message.specs.Place.{next_in}
@@ -92,14 +94,18 @@ abbrev pub IsTaken : Asking → EdgeFields → Taken → Type 0
 IsTaken asking old taken =
     (old.sealed ≡ false
     → (came : Arrival) × HasCome asking.reach asking.bytes asking.over came taken)
-    × (old.sealed ≡ true → taken ≡ record { size = length asking.bytes; stays = false })
+    × (old.sealed ≡ true
+    → taken ≡ record { size = length asking.bytes; stays = false; path = None })
 
--- How a request ended, whether its connection stays open behind the reply, which paths it reached,
--- the refresh that was granted by it, if one is kept, and the one that it repeated, if it did.
+-- How a request ended, whether its connection stays open behind the reply, which paths it reached
+-- and which one it named, when that was, the refresh that was granted by it, if one is kept, and
+-- the one that it repeated, if it did.
 pub record Ending : Type 0 where
   pub end : Result Served Fault
   pub stays : Bool
   pub reach : Reach
+  pub path : Option Path
+  pub now : ℕ
   pub granted : Option Refreshed
   pub again : Option Repetition
 
@@ -107,6 +113,12 @@ pub record Ending : Type 0 where
 abbrev pub MayStay : Asking → EdgeFields → Bool → Type 0
 MayStay asking old false = ⊤
 MayStay asking old true = (taken : Taken) × IsTaken asking old taken × (taken.stays ≡ true)
+
+-- a reply is counted under the path that its request names; a sealed edge reads none
+abbrev pub IsNamed : Asking → EdgeFields → Result Served Fault → Option Path → Type 0
+IsNamed asking old (Ok (Done status)) path =
+    (taken : Taken) × IsTaken asking old taken × (path ≡ taken.path)
+IsNamed asking old end path = ⊤
 
 -- the refresh that is kept of a request is one that came, and was granted (RFC 6749, 5.1)
 abbrev pub MayGrant : Asking → EdgeFields → Result Served Fault → Option Refreshed → Type 0
@@ -117,33 +129,35 @@ MayGrant asking old end (Some it) =
     × (it ≡ granted_at refresh asking.now (next_in (place_in old.region)) asking.words)
     × (end ≡ Ok (Done code.Ok))
 
--- what is asked at a moment by the bytes that have come, of a request that ended so
-abbrev pub asking_as : List ℕ → Bool → Ending → ℕ → List ℕ → Bool → Asking
-asking_as words log_taken ending now bytes over = record {
+-- what is asked by the bytes that have come, of a request that ended so
+abbrev pub asking_as : List ℕ → Bool → Ending → List ℕ → Bool → Asking
+asking_as words log_taken ending bytes over = record {
   words = words;
   log_taken = log_taken;
   reach = ending.reach;
-  now = now;
+  now = ending.now;
   bytes = bytes;
   over = over;
 }
 
--- what is decided of some bytes that have come, at some moment, with its record; whether the
--- connection may stay, and the refresh that is kept of it
+-- what is decided of some bytes that have come, with its record; whether the connection may stay,
+-- the refresh that is kept of it, and the path that it is counted under
 abbrev pub IsDecisionOf : List ℕ → Bool → EdgeFields → Ending → List ℕ → EdgeFields → Type 0
 IsDecisionOf words log_taken old ending logged new =
-    (now : ℕ) × (bytes : List ℕ) × (over : Bool) × (reply : List ℕ)
-    × IsDecided (asking_as words log_taken ending now bytes over) old ending.end reply logged new
-    × MayStay (asking_as words log_taken ending now bytes over) old ending.stays
-    × MayGrant (asking_as words log_taken ending now bytes over) old ending.end ending.granted
+    (bytes : List ℕ) × (over : Bool) × (reply : List ℕ)
+    × IsDecided (asking_as words log_taken ending bytes over) old ending.end reply logged new
+    × MayStay (asking_as words log_taken ending bytes over) old ending.stays
+    × MayGrant (asking_as words log_taken ending bytes over) old ending.end ending.granted
+    × IsNamed (asking_as words log_taken ending bytes over) old ending.end ending.path
 
 -- a refresh is repeated: it gets its reply again, nothing is logged, and the edge is unchanged
 abbrev pub IsRepetition : Repetition → EdgeFields → Ending → List ℕ → EdgeFields → Type 0
 IsRepetition it old ending logged new =
     (new ≡ old) × (logged ≡ []) × (ending.end ≡ Ok (Done code.Ok)) × (ending.granted ≡ None)
+    × (ending.now ≡ it.now)
     × ((bytes : List ℕ) × (over : Bool) × (taken : Taken) × (reply : List ℕ)
     × IsRepeated ending.reach bytes over old it taken reply
-    × (ending.stays ≡ true → taken.stays ≡ true))
+    × (ending.stays ≡ true → taken.stays ≡ true) × (ending.path ≡ taken.path))
 
 -- what is decided of some bytes, by what they repeat
 abbrev pub IsDecisionBy : Option Repetition → List ℕ → Bool → EdgeFields → Ending → List ℕ
@@ -218,22 +232,23 @@ kept_by (Some it) repeats = kept_with it repeats
 abbrev pub paths_by : Bool → Bool → PathSet
 paths_by has_inner is_inner = if has_inner && not is_inner then Clients else All
 
--- what a server has counted, with one more request that ended so
-abbrev pub tally_with : Server → Result Served Fault → Tally
-tally_with old end = record old.tally {
-  counts = with_end end (paths_by old.has_inner old.is_inner) old.tally.counts;
+-- what a server has counted, with one more request that ended so and names this path
+abbrev pub tally_with : Server → Result Served Fault → Option Path → Tally
+tally_with old end path = record old.tally {
+  counts = with_end end (paths_by old.has_inner old.is_inner) path old.now old.tally.counts;
 }
 
--- a server after a request with this end, and this refresh that is kept of it: this many
--- connections are left, the request is counted, and the next one has the next words
-abbrev pub moved_on : Server → Result Served Fault → EdgeFields → Option Refreshed → ℕ → Server
-moved_on old end edge granted left = record old {
+-- a server after a request with this end, which names this path, and this refresh that is kept of
+-- it: this many connections are left, the request is counted, and the next one has the next words
+abbrev pub moved_on : Server → Result Served Fault → Option Path → EdgeFields → Option Refreshed
+    → ℕ → Server
+moved_on old end path edge granted left = record old {
   edge = edge;
   words = past_six old.words;
   left = left;
   fault = fault_of end;
   repeats = kept_by granted old.repeats;
-  tally = tally_with old end;
+  tally = tally_with old end path;
 }
 
 -- what the requests of a socket reach, with the notices that the terms give
@@ -262,9 +277,11 @@ pub record Ends (old : Server) (bytes : List ℕ) (over : Bool) (outcome : Outco
   pub is_sent : IsSent (goes_on outcome) end reply replied
   pub granted : Option Refreshed
   pub is_granted : MayGrant (asking_of old bytes over) old.edge end granted
+  pub path : Option Path
+  pub is_named : IsNamed (asking_of old bytes over) old.edge end path
   pub left : ℕ
   pub counted : old.left ≡ left + ended_if (goes_on outcome)
-  pub moved : new ≡ moved_on old end new.edge granted left
+  pub moved : new ≡ moved_on old end path new.edge granted left
 
 -- a server decides nothing: no request is whole, no connection is left to be served, or a fault
 -- isn't reported yet
@@ -294,7 +311,7 @@ pub record Repeats (old : Server) (bytes : List ℕ) (over : Bool) (outcome : Ou
   pub unlogged : logged ≡ []
   pub left : ℕ
   pub counted : old.left ≡ left + ended_if (goes_on outcome)
-  pub moved : new ≡ moved_on old (Ok (Done code.Ok)) old.edge None left
+  pub moved : new ≡ moved_on old (Ok (Done code.Ok)) taken.path old.edge None left
 
 -- what a server decides of the bytes of a connection
 abbrev pub Decides : Server → List ℕ → Bool → Outcome → List ℕ → List ℕ → Server → Type 0

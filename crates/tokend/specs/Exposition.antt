@@ -1,40 +1,17 @@
 -- The text of the metrics, in the text format of Prometheus, version 0.0.4 (own).
---   reply_sample       the sample of the replies of some paths, with statuses of a class
---   path_samples       the samples of the replies of some paths
---   requests_text      the replies
 --   faults_text        the faults
 --   connections_text   the connections
 --   facts_text         the facts of the region
 --   horizon_text       its horizon
---   region_text        both
+--   push_text          its last push
+--   region_text        the facts, the horizon, and the last push
 --   exposition         the whole text
 use Rattle.std.specs.Prelude.{ℕ, List, [], ◌∷◌, codes, decimal}
 use Rattle.std.specs.List.{concat}
+use Rattle.std.specs.Option.{unwrap_or}
 use Rattle.tokend.specs.Counting.{sum_of}
+use Rattle.tokend.specs.RepliesText.{requests_text}
 use Rattle.tokend.specs.declared.exposition.Figures.{Figures}
-use Rattle.tokend.specs.declared.metrics.Counts.{Counts}
-use Rattle.tokend.specs.declared.metrics.Replies.{Replies}
-
--- the sample of the replies to requests of these paths, with statuses of a class
-abbrev pub reply_sample : List ℕ → List ℕ → ℕ → List ℕ
-reply_sample paths class count = concat (
-    codes "tokend_requests_total{paths=\"" ∷ paths ∷ codes "\",code=\"" ∷ class ∷ codes "\"} "
-    ∷ decimal count ∷ codes "\n" ∷ [])
-
--- the samples of the replies to requests of these paths
-abbrev pub path_samples : List ℕ → Replies → List ℕ
-path_samples paths r = concat (
-    reply_sample paths (codes "2xx") r.done ∷ reply_sample paths (codes "3xx") r.redirected
-    ∷ reply_sample paths (codes "4xx") r.refused ∷ reply_sample paths (codes "5xx") r.unavailable
-    ∷ [])
-
--- the replies, with the samples of all paths
-unfoldable pub requests_text : Counts → List ℕ
-requests_text counts = concat (
-    codes "# HELP tokend_requests_total Replies to requests, by what their socket reaches.\n"
-    ∷ codes "# TYPE tokend_requests_total counter\n"
-    ∷ path_samples (codes "clients") counts.clients
-    ∷ path_samples (codes "all") counts.all ∷ [])
 
 -- the faults, with the samples of each kind; a reply that can't be written ran out of memory, or
 -- its client didn't take it
@@ -73,9 +50,17 @@ horizon_text f = concat (
     ∷ codes "# TYPE tokend_horizon_timestamp_seconds gauge\ntokend_horizon_timestamp_seconds "
     ∷ decimal f.horizon ∷ codes "\n" ∷ [])
 
--- the region's facts, and its horizon
+-- when a push was last taken in, or 0
+unfoldable pub push_text : Figures → List ℕ
+push_text f = concat (
+    codes "# HELP tokend_last_push_timestamp_seconds When a push was last taken in, or 0.\n"
+    ∷ codes "# TYPE tokend_last_push_timestamp_seconds gauge\n"
+    ∷ codes "tokend_last_push_timestamp_seconds " ∷ decimal (unwrap_or f.counts.pushed 0)
+    ∷ codes "\n" ∷ [])
+
+-- the region's facts, its horizon, and its last push
 unfoldable pub region_text : Figures → List ℕ
-region_text f = concat (facts_text f ∷ horizon_text f ∷ [])
+region_text f = concat (facts_text f ∷ horizon_text f ∷ push_text f ∷ [])
 
 -- the whole text
 abbrev pub exposition : Figures → List ℕ

@@ -20,6 +20,7 @@
 --   Decisions     Decides, what a server decides of the bytes that have come
 --   Repeating     IsAsked, what a request asks if refreshes may be repeated
 --   Pruning       IsPruned, what a server prunes behind a turn
+--   RepliesText   requests_text, the text of the replies
 --   Exposition    exposition, the text of the metrics
 --   Turns         AreTurns, what turns do to an edge, its log and the lines about faults
 --   Showing       shown_by, a server that makes that text anew
@@ -51,6 +52,7 @@ pub mod Loading
 pub mod Starting
 pub mod Serving
 pub mod Repeats
+pub mod RepliesText
 pub mod Counting
 pub mod Decisions
 pub mod Repeating

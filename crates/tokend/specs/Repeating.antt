@@ -108,7 +108,7 @@ IsCome reach bytes over refresh = (taken : Taken) × IsRefresh reach bytes over 
 abbrev pub FallsShort : Server → Outcome → Server → Type 0
 FallsShort old outcome new =
     (outcome ≡ Ended) × ((left : ℕ) × (old.left ≡ left + 1)
-    × (new ≡ moved_on old (Err Memory) old.edge None left))
+    × (new ≡ moved_on old (Err Memory) None old.edge None left))
 
 -- a server gives a reply again, behind other replies, as it is sent
 pub record IsGiven (old : Server) (taken : Taken) (reply : List ℕ) (outcome : Outcome)
@@ -119,7 +119,7 @@ pub record IsGiven (old : Server) (taken : Taken) (reply : List ℕ) (outcome : 
   pub behind : after ≡ before ++ sent
   pub left : ℕ
   pub counted : old.left ≡ left + ended_if (goes_on outcome)
-  pub moved : new ≡ moved_on old (Ok (Done code.Ok)) old.edge None left
+  pub moved : new ≡ moved_on old (Ok (Done code.Ok)) taken.path old.edge None left
 
 -- a server gives a reply again, or memory is short for it
 abbrev pub GivesAgain : Server → Taken → List ℕ → Outcome → List ℕ → List ℕ → Server → Type 0

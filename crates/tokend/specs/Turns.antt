@@ -126,7 +126,8 @@ past_each words (end ∷ ends) = past_each (past_six words) ends
 -- the counts with these requests
 abbrev pub all_counted : Endings → Counts → Counts
 all_counted [] counts = counts
-all_counted (end ∷ ends) counts = all_counted ends (with_end end.end end.reach.paths counts)
+all_counted (end ∷ ends) counts =
+    all_counted ends (with_end end.end end.reach.paths end.path end.now counts)
 
 -- requests are decided, one after the other, each with the next six random words; their records are
 -- one behind the other

@@ -1,6 +1,6 @@
 //! The text of the metrics: `exposition` makes it of `Figures`.
 
-use crate::metrics::{Counts, Replies};
+use crate::metrics::Counts;
 
 /// What the text of the metrics shows.
 #[derive(Clone, Copy)]
@@ -24,6 +24,7 @@ pub(crate) struct Figures {
 ghost use Rattle.std.specs.Prelude.{◌≡◌, IfOk};
 ghost use Rattle.tokend.specs.Exposition as spec;
 
+use crate::replies_text::requests_text;
 use itoa::Buffer;
 use std::alloc::{AllocError, Global};
 use tk_put::joined;
@@ -33,73 +34,20 @@ use tk_put::joined;
 /// # Errors
 ///
 /// `AllocError` if memory runs out.
-pub(crate) fn exposition(alloc: Global, figures: Figures) -> Result<Vec<u8>, AllocError>
-    ensures { IfOk result (λ text. text.items ≡ spec.exposition figures) }
+pub(crate) fn exposition(alloc: Global, figures: &Figures) -> Result<Vec<u8>, AllocError>
+    ensures { IfOk result (λ text. text.items ≡ spec.exposition figures.now) }
 {
-    let requests = requests_text(alloc, figures.counts)?;
+    let requests = requests_text(alloc, &figures.counts)?;
     let faults = faults_text(alloc, figures)?;
     let connections = connections_text(alloc, figures)?;
     let region = region_text(alloc, figures)?;
     joined(alloc, &[&requests, &faults, &connections, &region])
 }
 
-// Returns the text of the replies.
-#[tactic(auto, unfolding(crate::specs::Exposition::requests_text))]
-fn requests_text(alloc: Global, counts: Counts) -> Result<Vec<u8>, AllocError>
-    ensures { IfOk result (λ text. text.items ≡ spec.requests_text counts) }
-{
-    let clients = path_samples(alloc, b"clients", counts.clients)?;
-    let all = path_samples(alloc, b"all", counts.all)?;
-    joined(
-        alloc,
-        &[
-            b"# HELP tokend_requests_total Replies to requests, by what their socket reaches.\n",
-            b"# TYPE tokend_requests_total counter\n",
-            &clients,
-            &all,
-        ],
-    )
-}
-
-// Returns the samples of the replies to requests of these paths.
-fn path_samples(alloc: Global, paths: &[u8], replies: Replies) -> Result<Vec<u8>, AllocError>
-    ensures { IfOk result (λ text. text.items ≡ spec.path_samples paths.now replies) }
-{
-    let done = reply_sample(alloc, paths, b"2xx", replies.done)?;
-    let redirected = reply_sample(alloc, paths, b"3xx", replies.redirected)?;
-    let refused = reply_sample(alloc, paths, b"4xx", replies.refused)?;
-    let unavailable = reply_sample(alloc, paths, b"5xx", replies.unavailable)?;
-    joined(alloc, &[&done, &redirected, &refused, &unavailable])
-}
-
-// Returns the sample of the replies to requests of these paths, with statuses of a class.
-fn reply_sample(
-    alloc: Global,
-    paths: &[u8],
-    class: &[u8],
-    count: u64,
-) -> Result<Vec<u8>, AllocError>
-    ensures { IfOk result (λ text. text.items ≡ spec.reply_sample paths.now class.now count) }
-{
-    let mut number = Buffer::new();
-    joined(
-        alloc,
-        &[
-            b"tokend_requests_total{paths=\"",
-            paths,
-            b"\",code=\"",
-            class,
-            b"\"} ",
-            number.format(count).as_bytes(),
-            b"\n",
-        ],
-    )
-}
-
 // Returns the text of the faults.
 #[tactic(auto, unfolding(crate::specs::Exposition::faults_text))]
-fn faults_text(alloc: Global, figures: Figures) -> Result<Vec<u8>, AllocError>
-    ensures { IfOk result (λ text. text.items ≡ spec.faults_text figures) }
+fn faults_text(alloc: Global, figures: &Figures) -> Result<Vec<u8>, AllocError>
+    ensures { IfOk result (λ text. text.items ≡ spec.faults_text figures.now) }
 {
     let (mut short, mut unread, mut unsent) = (Buffer::new(), Buffer::new(), Buffer::new());
     let lost = figures.counts.unwritten.saturating_add(figures.untaken);
@@ -121,8 +69,8 @@ fn faults_text(alloc: Global, figures: Figures) -> Result<Vec<u8>, AllocError>
 
 // Returns the text of the connections.
 #[tactic(auto, unfolding(crate::specs::Exposition::connections_text))]
-fn connections_text(alloc: Global, figures: Figures) -> Result<Vec<u8>, AllocError>
-    ensures { IfOk result (λ text. text.items ≡ spec.connections_text figures) }
+fn connections_text(alloc: Global, figures: &Figures) -> Result<Vec<u8>, AllocError>
+    ensures { IfOk result (λ text. text.items ≡ spec.connections_text figures.now) }
 {
     let (mut ended, mut open) = (Buffer::new(), Buffer::new());
     joined(
@@ -141,18 +89,19 @@ fn connections_text(alloc: Global, figures: Figures) -> Result<Vec<u8>, AllocErr
 
 // Returns the text of the region.
 #[tactic(auto, unfolding(crate::specs::Exposition::region_text))]
-fn region_text(alloc: Global, figures: Figures) -> Result<Vec<u8>, AllocError>
-    ensures { IfOk result (λ text. text.items ≡ spec.region_text figures) }
+fn region_text(alloc: Global, figures: &Figures) -> Result<Vec<u8>, AllocError>
+    ensures { IfOk result (λ text. text.items ≡ spec.region_text figures.now) }
 {
     let facts = facts_text(alloc, figures)?;
     let horizon = horizon_text(alloc, figures)?;
-    joined(alloc, &[&facts, &horizon])
+    let push = push_text(alloc, figures)?;
+    joined(alloc, &[&facts, &horizon, &push])
 }
 
 // Returns the text of the region's facts.
 #[tactic(auto, unfolding(crate::specs::Exposition::facts_text))]
-fn facts_text(alloc: Global, figures: Figures) -> Result<Vec<u8>, AllocError>
-    ensures { IfOk result (λ text. text.items ≡ spec.facts_text figures) }
+fn facts_text(alloc: Global, figures: &Figures) -> Result<Vec<u8>, AllocError>
+    ensures { IfOk result (λ text. text.items ≡ spec.facts_text figures.now) }
 {
     let (mut facts, mut pruned) = (Buffer::new(), Buffer::new());
     joined(
@@ -171,8 +120,8 @@ fn facts_text(alloc: Global, figures: Figures) -> Result<Vec<u8>, AllocError>
 
 // Returns the text of the region's horizon.
 #[tactic(auto, unfolding(crate::specs::Exposition::horizon_text))]
-fn horizon_text(alloc: Global, figures: Figures) -> Result<Vec<u8>, AllocError>
-    ensures { IfOk result (λ text. text.items ≡ spec.horizon_text figures) }
+fn horizon_text(alloc: Global, figures: &Figures) -> Result<Vec<u8>, AllocError>
+    ensures { IfOk result (λ text. text.items ≡ spec.horizon_text figures.now) }
 {
     let mut horizon = Buffer::new();
     joined(
@@ -181,6 +130,25 @@ fn horizon_text(alloc: Global, figures: Figures) -> Result<Vec<u8>, AllocError>
             b"# HELP tokend_horizon_timestamp_seconds The region's horizon, since 1970.\n",
             b"# TYPE tokend_horizon_timestamp_seconds gauge\ntokend_horizon_timestamp_seconds ",
             horizon.format(figures.horizon).as_bytes(),
+            b"\n",
+        ],
+    )
+}
+
+// Returns the text of the last push that was taken in.
+#[tactic(auto, unfolding(crate::specs::Exposition::push_text))]
+fn push_text(alloc: Global, figures: &Figures) -> Result<Vec<u8>, AllocError>
+    ensures { IfOk result (λ text. text.items ≡ spec.push_text figures.now) }
+{
+    let mut pushed = Buffer::new();
+    let moment = figures.counts.pushed.unwrap_or(0);
+    joined(
+        alloc,
+        &[
+            b"# HELP tokend_last_push_timestamp_seconds When a push was last taken in, or 0.\n",
+            b"# TYPE tokend_last_push_timestamp_seconds gauge\n",
+            b"tokend_last_push_timestamp_seconds ",
+            pushed.format(moment).as_bytes(),
             b"\n",
         ],
     )

@@ -58,6 +58,7 @@ mod ranges;
 mod records;
 mod repeating;
 mod repeats;
+mod replies_text;
 mod script;
 mod serve;
 mod server;

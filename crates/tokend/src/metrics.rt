@@ -2,17 +2,70 @@
 //!
 //! A count that has reached the greatest `u64` stays there.
 
-/// How many replies there were, by the class of their status (RFC 9110, 15).
+/// How many replies of each status there were (RFC 9110, 15).
+#[derive(Clone, Copy)]
+pub(crate) struct Statuses {
+    /// 200 OK.
+    pub ok: u64,
+    /// 201 Created.
+    pub created: u64,
+    /// 302 Found.
+    pub found: u64,
+    /// 400 Bad Request.
+    pub bad_request: u64,
+    /// 401 Unauthorized.
+    pub unauthorized: u64,
+    /// 404 Not Found.
+    pub not_found: u64,
+    /// 405 Method Not Allowed.
+    pub not_allowed: u64,
+    /// 409 Conflict.
+    pub conflict: u64,
+    /// 411 Length Required.
+    pub no_length: u64,
+    /// 413 Content Too Large.
+    pub too_large: u64,
+    /// 503 Service Unavailable.
+    pub unavailable: u64,
+}
+
+/// The replies to requests, by the path that each request names.
 #[derive(Clone, Copy)]
 pub(crate) struct Replies {
-    /// 2xx: the request was granted.
-    pub done: u64,
-    /// 3xx: a browser was sent on.
-    pub redirected: u64,
-    /// 4xx: the request was refused.
-    pub refused: u64,
-    /// 5xx: the server couldn't serve.
-    pub unavailable: u64,
+    /// `/authorize`.
+    pub authorize: Statuses,
+    /// `/token`.
+    pub token: Statuses,
+    /// `/introspect`.
+    pub introspect: Statuses,
+    /// `/revoke`.
+    pub revoke: Statuses,
+    /// `/admin/client`.
+    pub client: Statuses,
+    /// `/admin/clients`.
+    pub clients: Statuses,
+    /// `/admin/retire`.
+    pub retire: Statuses,
+    /// `/admin/consent`.
+    pub consent: Statuses,
+    /// `/admin/withdraw`.
+    pub withdraw: Statuses,
+    /// `/admin/signout`.
+    pub sign_out: Statuses,
+    /// `/sync/vector`.
+    pub vector: Statuses,
+    /// `/sync/pull`.
+    pub pull: Statuses,
+    /// `/sync/push`.
+    pub push: Statuses,
+    /// `/.well-known/oauth-authorization-server`.
+    pub metadata: Statuses,
+    /// `/health`.
+    pub health: Statuses,
+    /// `/metrics`.
+    pub metrics: Statuses,
+    /// A path that isn't reached, or a request without a head.
+    pub unknown: Statuses,
 }
 
 /// How many requests ended in each way.
@@ -22,6 +75,8 @@ pub(crate) struct Counts {
     pub clients: Replies,
     /// Replies over a socket that reaches all paths.
     pub all: Replies,
+    /// When the last push was taken in and replied to, in seconds since 1970.
+    pub pushed: Option<u64>,
     /// Connections that ended before a request was whole, or weren't accepted.
     pub unread: u64,
     /// Connections that ended because memory ran out.
@@ -49,47 +104,109 @@ ghost use Rattle.std.specs.Prelude.{◌≡◌, Ok};
 ghost use Rattle.tk_edge.specs.declared.edge.Served.TheVariants.{Done};
 ghost use Rattle.tokend.specs.Counting as spec;
 
-use tk_edge::{Fault as EdgeFault, PathSet, Served};
+use tk_edge::{Fault as EdgeFault, Notice, Path, PathSet, Served};
+use tk_handle::Moment;
 use tk_message::StatusCode;
 
 /// No reply.
-const NO_REPLIES: Replies = Replies {
-    done: 0,
-    redirected: 0,
-    refused: 0,
+const NO_STATUSES: Statuses = Statuses {
+    ok: 0,
+    created: 0,
+    found: 0,
+    bad_request: 0,
+    unauthorized: 0,
+    not_found: 0,
+    not_allowed: 0,
+    conflict: 0,
+    no_length: 0,
+    too_large: 0,
     unavailable: 0,
 };
 
-impl Replies {
+/// No reply to a request of any path.
+const NO_REPLIES: Replies = Replies {
+    authorize: NO_STATUSES,
+    token: NO_STATUSES,
+    introspect: NO_STATUSES,
+    revoke: NO_STATUSES,
+    client: NO_STATUSES,
+    clients: NO_STATUSES,
+    retire: NO_STATUSES,
+    consent: NO_STATUSES,
+    withdraw: NO_STATUSES,
+    sign_out: NO_STATUSES,
+    vector: NO_STATUSES,
+    pull: NO_STATUSES,
+    push: NO_STATUSES,
+    metadata: NO_STATUSES,
+    health: NO_STATUSES,
+    metrics: NO_STATUSES,
+    unknown: NO_STATUSES,
+};
+
+impl Statuses {
     /// Counts one more reply of this status.
     pub(crate) fn count(&mut self, status: StatusCode)
-        ensures { self.new ≡ spec.with_reply status self.old }
+        ensures { self.new ≡ spec.with_status status self.old }
     {
         match status {
-            StatusCode::Ok | StatusCode::Created => self.done = self.done.saturating_add(1),
-            StatusCode::Found => self.redirected = self.redirected.saturating_add(1),
-            StatusCode::BadRequest
-            | StatusCode::Unauthorized
-            | StatusCode::NotFound
-            | StatusCode::MethodNotAllowed
-            | StatusCode::Conflict
-            | StatusCode::LengthRequired
-            | StatusCode::ContentTooLarge => self.refused = self.refused.saturating_add(1),
-            StatusCode::ServiceUnavailable => {
-                self.unavailable = self.unavailable.saturating_add(1)
-            }
+            StatusCode::Ok => self.ok = self.ok.saturating_add(1),
+            StatusCode::Created => self.created = self.created.saturating_add(1),
+            StatusCode::Found => self.found = self.found.saturating_add(1),
+            StatusCode::BadRequest => self.bad_request = self.bad_request.saturating_add(1),
+            StatusCode::Unauthorized => self.unauthorized = self.unauthorized.saturating_add(1),
+            StatusCode::NotFound => self.not_found = self.not_found.saturating_add(1),
+            StatusCode::MethodNotAllowed => self.not_allowed = self.not_allowed.saturating_add(1),
+            StatusCode::Conflict => self.conflict = self.conflict.saturating_add(1),
+            StatusCode::LengthRequired => self.no_length = self.no_length.saturating_add(1),
+            StatusCode::ContentTooLarge => self.too_large = self.too_large.saturating_add(1),
+            StatusCode::ServiceUnavailable => self.unavailable = self.unavailable.saturating_add(1),
+        }
+    }
+}
+
+impl Replies {
+    /// Counts one more reply of this status, to a request that names this path.
+    pub(crate) fn count(&mut self, path: Option<Path>, status: StatusCode)
+        ensures { self.new ≡ spec.with_reply path status self.old }
+    {
+        match path {
+            Some(Path::Authorize) => self.authorize.count(status),
+            Some(Path::Token) => self.token.count(status),
+            Some(Path::Introspect) => self.introspect.count(status),
+            Some(Path::Revoke) => self.revoke.count(status),
+            Some(Path::Client) => self.client.count(status),
+            Some(Path::Clients) => self.clients.count(status),
+            Some(Path::Retire) => self.retire.count(status),
+            Some(Path::Consent) => self.consent.count(status),
+            Some(Path::Withdraw) => self.withdraw.count(status),
+            Some(Path::SignOut) => self.sign_out.count(status),
+            Some(Path::Vector) => self.vector.count(status),
+            Some(Path::Pull) => self.pull.count(status),
+            Some(Path::Push) => self.push.count(status),
+            Some(Path::Notice(Notice::Discovery)) => self.metadata.count(status),
+            Some(Path::Notice(Notice::Health)) => self.health.count(status),
+            Some(Path::Notice(Notice::Metrics)) => self.metrics.count(status),
+            None => self.unknown.count(status),
         }
     }
 }
 
 impl Counts {
-    /// Counts one more request, by how it ended and which paths its socket reaches.
-    pub(crate) fn count(&mut self, end: Result<Served, EdgeFault>, paths: PathSet)
-        ensures { self.new ≡ spec.with_end end paths self.old }
+    /// Counts one more request, by how it ended, which paths its socket reaches, which one it
+    /// names, and when.
+    pub(crate) fn count(
+        &mut self,
+        end: Result<Served, EdgeFault>,
+        paths: PathSet,
+        path: Option<Path>,
+        now: Moment,
+    )
+        ensures { self.new ≡ spec.with_end end paths path now self.old }
     {
         match end {
             Ok(Served::Nothing) => {}
-            Ok(Served::Done(status)) => self.count_reply(status, paths),
+            Ok(Served::Done(status)) => self.count_reply(status, paths, path, now),
             Err(EdgeFault::Read) => self.unread = self.unread.saturating_add(1),
             Err(EdgeFault::Memory) => self.short = self.short.saturating_add(1),
             Err(EdgeFault::Write) => self.unwritten = self.unwritten.saturating_add(1),
@@ -98,13 +215,24 @@ impl Counts {
     }
 
     // Counts one more reply.
-    fn count_reply(&mut self, status: StatusCode, paths: PathSet)
-        ensures { self.new ≡ spec.with_end (Ok (Done status)) paths self.old }
+    fn count_reply(&mut self, status: StatusCode, paths: PathSet, path: Option<Path>, now: Moment)
+        ensures { self.new ≡ spec.with_end (Ok (Done status)) paths path now self.old }
     {
+        self.pushed = last_push(status, path, now, self.pushed);
         match paths {
-            PathSet::Clients => self.clients.count(status),
-            PathSet::All | PathSet::Admin => self.all.count(status),
+            PathSet::Clients => self.clients.count(path, status),
+            PathSet::All | PathSet::Admin => self.all.count(path, status),
         }
+    }
+}
+
+// Returns when the last push was taken in, behind a reply: a push gets 200 if it is taken in.
+fn last_push(status: StatusCode, path: Option<Path>, now: Moment, last: Option<u64>) -> Option<u64>
+    ensures { result ≡ spec.last_push status path now last }
+{
+    match (status, path) {
+        (StatusCode::Ok, Some(Path::Push)) => Some(now.seconds()),
+        _ => last,
     }
 }
 
@@ -117,6 +245,7 @@ impl Tally {
             counts: Counts {
                 clients: NO_REPLIES,
                 all: NO_REPLIES,
+                pushed: None,
                 unread: 0,
                 short: 0,
                 unwritten: 0,

@@ -183,7 +183,7 @@ impl Server {
         let stays = outcome.goes_on();
         reply_over(stays, replies, mark);
         let next = past(&self.words);
-        self.move_on(next, Ok(Served::Done(StatusCode::Ok)), stays);
+        self.move_on(next, Ok(Served::Done(StatusCode::Ok)), taken.path, stays);
         outcome
     }
 
@@ -193,7 +193,7 @@ impl Server {
         ensures { spec.FallsShort self.old result self.new }
     {
         let next = past(&self.words);
-        self.move_on(next, Err(EdgeFault::Memory), false);
+        self.move_on(next, Err(EdgeFault::Memory), None, false);
         Outcome::Ended
     }
 

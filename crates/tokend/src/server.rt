@@ -54,7 +54,7 @@ use crate::draw::draw;
 use crate::losses::tell_fault;
 use crate::repeating::{Asked, Refresh};
 use std::mem::replace;
-use tk_edge::{Counted, PathSet, Served, Sink, Taken, keep_open};
+use tk_edge::{Counted, Path, PathSet, Served, Sink, Taken, keep_open};
 use tk_turn::{Outcome, Service};
 
 /// How many bytes a record has at most that aren't of its request.
@@ -221,12 +221,12 @@ impl Server {
                 let stays = outcome.goes_on();
                 reply_over(stays, replies, mark);
                 self.keep(refresh, served, dot, &words);
-                self.move_on(next, Ok(served), stays);
+                self.move_on(next, Ok(served), taken.path, stays);
                 outcome
             }
             Err(fault) => {
                 replies.truncate(mark);
-                self.move_on(next, Err(fault), false);
+                self.move_on(next, Err(fault), None, false);
                 Outcome::Ended
             }
         }
@@ -277,20 +277,26 @@ impl Server {
         served
     }
 
-    // Notes that a request has ended so, and counts it: the next one has the next words. `stays` is
-    // whether its connection stays open.
-    pub(crate) fn move_on(&mut self, next: ChaCha20Rng, end: Result<Served, EdgeFault>, stays: bool)
+    // Notes that a request has ended so, and counts it under the path that it names: the next one
+    // has the next words. `stays` is whether its connection stays open.
+    pub(crate) fn move_on(
+        &mut self,
+        next: ChaCha20Rng,
+        end: Result<Served, EdgeFault>,
+        path: Option<Path>,
+        stays: bool,
+    )
         requires { 0 < self.old.left }
         ensures { (left : ℕ) × (self.old.left ≡ left + ended_if stays)
             × (self.new ≡ record self.old {
               words = next;
               left = left;
               fault = fault_of end;
-              tally = tally_with self.old end;
+              tally = tally_with self.old end path;
             }) }
     {
         let (paths, fault) = (paths(self.has_inner, self.is_inner), fault_of(end));
-        self.tally.counts.count(end, paths);
+        self.tally.counts.count(end, paths, path, self.now);
         self.words = next;
         self.left -= ended_if(stays);
         self.fault = fault;
@@ -316,7 +322,9 @@ impl Server {
         if self.left > 0 {
             draw(&mut self.words);
             self.left -= 1;
-            self.tally.counts.count(Err(fault), PathSet::All);
+            self.tally
+                .counts
+                .count(Err(fault), PathSet::All, None, self.now);
             tell_fault(faults, fault);
         }
     }

@@ -41,7 +41,7 @@ impl Server {
         if !self.is_due(millis) {
             return Ok(());
         }
-        let text = exposition(self.alloc, self.figures(still_open))?;
+        let text = exposition(self.alloc, &self.figures(still_open))?;
         self.edge.set_metrics(Some(text));
         self.tally.shown = Some(millis);
         Ok(())

@@ -8,4 +8,5 @@ pub returns-in-Refused-clause-answers : goal.returns-in-Refused-clause-answers
 returns-in-Refused-clause-answers c = rw c.in-Refused.is (answers_nothing _ _ _ c.refuse.ensures)
 
 pub returns-in-Notice-clause-answers : goal.returns-in-Notice-clause-answers
-returns-in-Notice-clause-answers c = rw c.in-Notice.is (answers_nothing _ _ _ c.answer_notice.ensures)
+returns-in-Notice-clause-answers c =
+    rw c.in-Notice.is (answers_nothing _ _ _ c.answer_notice.ensures)

@@ -4,4 +4,6 @@ use Rattle.tk_edge.specs.Answers.{rendered}
 use Rattle.tk_edge.proofs.exchange.send_page.Goals as goal
 
 pub returns : goal.returns
-returns c = subst (λ (r : ReplyFields). IfOk c.answer_with.result (λ answer. answer ≡ rendered r None None)) c.in_ok-reply.ensures c.answer_with.ensures
+returns c = subst (λ (r : ReplyFields).
+    IfOk c.answer_with.result (λ answer. answer ≡ rendered r None None)) c.in_ok-reply.ensures
+    c.answer_with.ensures

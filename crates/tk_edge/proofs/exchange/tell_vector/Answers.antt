@@ -11,5 +11,6 @@ returns c =
       c.in_ok-vector.vector,
       c.in_ok-vector.ensures,
       c.in_ok-bytes.ensures.fits,
-      is ∙ ap (λ (r : ReplyFields). rendered r None None) (c.bytes_reply.ensures ∙ ap bytes_reply c.in_ok-bytes.ensures.spelled),
+      is ∙ ap (λ (r : ReplyFields). rendered r None None)
+          (c.bytes_reply.ensures ∙ ap bytes_reply c.in_ok-bytes.ensures.spelled),
     )) c.answer_with-2.ensures

@@ -4,4 +4,5 @@ use Rattle.tk_edge.specs.HeadFields.{IsField, values_named}
 use Rattle.tk_edge.proofs.field.value_named.Given as goal
 
 abbrev pub invariant-loop-header : goal.invariant-loop-header
-invariant-loop-header l = IsField l.found (values_named l.name (map (header_bytes l.buf) (take l.header-index l.headers)))
+invariant-loop-header l =
+    IsField l.found (values_named l.name (map (header_bytes l.buf) (take l.header-index l.headers)))

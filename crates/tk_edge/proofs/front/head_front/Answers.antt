@@ -1,22 +1,23 @@
 use Rattle.std.proofs.Common.{◌+◌, ◌++◌, ◌≤◌, length, map, drop, subst, sym, ◌∙◌, add-zero, arith}
-use Rattle.std.proofs.Common.{refl, rules}
+use Rattle.std.proofs.Common.{IfOk, refl, rules}
 use Rattle.std.proofs.lemmas.List.{take_rest}
 use Rattle.httparse.specs.Spans.{name_and_value}
 use Rattle.tk_edge.specs.Bounds.{body_limit, request_limit}
-use Rattle.tk_edge.specs.Fronts.{IsOneRequest}
+use Rattle.tk_edge.specs.Fronts.{IsOneRequest, NamesIn}
 use Rattle.tk_edge.specs.HeadFields.{AreFields}
 use Rattle.tk_edge.specs.Judged.{MayAsk}
 use Rattle.tk_edge.specs.declared.judge.Judged.TheVariants.{Body, Notice, Query, Vector}
 use Rattle.tk_edge.proofs.BoundLaws.{size_within}
 use Rattle.tk_edge.proofs.FrontLaws.{fewer_within, request_takes, rest_is_all, same_front, size_at}
-use Rattle.tk_edge.proofs.FrontLaws.{stays_at}
+use Rattle.tk_edge.proofs.FrontLaws.{named_at, names_come, stays_at}
 use Rattle.tk_edge.proofs.StreamLaws.{judged_same, judged_may}
 use Rattle.tk_edge.proofs.front.head_front.Goals as goal
 
 pub returns-in-Query-clause-takes : goal.returns-in-Query-clause-takes
 returns-in-Query-clause-takes c = λ h at.
     let pairs = map name_and_value h.fields in
-    let are : AreFields c.fields_of-fields.result pairs = rw at.fields at c.fields_of-fields.ensures in
+    let are : AreFields c.fields_of-fields.result pairs =
+    rw at.fields at c.fields_of-fields.ensures in
     let size = size_at c.args.reach h c.args.spans.len c.of-method.result.now c.of-target.result.now
     (Query c.in-Query.endpoint) at.len (c.of-method.ensures ∙ at.method)
     (c.of-target.ensures ∙ at.path) (sym c.in-Query.is ∙ c.judge-judged.ensures _ are) in
@@ -25,22 +26,39 @@ returns-in-Query-clause-takes c = λ h at.
     (c.of-method.ensures ∙ at.method) (c.of-target.ensures ∙ at.path) refl
     (c.judge-judged.ensures pairs are) (c.stays_by.ensures pairs are) in
     let one : IsOneRequest c.args.reach c.args.bytes.now
-    (record { size = c.args.spans.len; stays = c.stays_by.result }) =
-    (h, drop c.args.spans.len c.args.bytes.now, at.reads, sym (add-zero c.args.spans.len) ∙ size, stays) in
-    rw (c.whole_front.ensures) (request_takes c.args.reach c.args.bytes.now _ _ c.asked.result one (c.asked.ensures.came pairs are))
+    (record {
+      size = c.args.spans.len;
+      stays = c.stays_by.result;
+      path = c.path_named-path.result;
+    }) = (
+      h,
+      drop c.args.spans.len c.args.bytes.now,
+      at.reads,
+      sym (add-zero c.args.spans.len) ∙ size,
+      stays,
+    ) in
+    rw (c.whole_front.ensures)
+    (request_takes c.args.reach c.args.bytes.now _ _ c.asked.result one
+    (c.asked.ensures.came pairs are))
 
 pub returns-in-Vector-clause-takes : goal.returns-in-Vector-clause-takes
 returns-in-Vector-clause-takes c = λ h at.
     let pairs = map name_and_value h.fields in
-    let are : AreFields c.fields_of-fields.result pairs = rw at.fields at c.fields_of-fields.ensures in
+    let are : AreFields c.fields_of-fields.result pairs =
+    rw at.fields at c.fields_of-fields.ensures in
     let size = size_at c.args.reach h c.args.spans.len c.of-method.result.now c.of-target.result.now
     Vector at.len (c.of-method.ensures ∙ at.method) (c.of-target.ensures ∙ at.path)
     (sym c.in-Vector.is ∙ c.judge-judged.ensures _ are) in
     let stays = stays_at c.args.reach h c.args.spans.version c.of-method.result.now
     c.of-target.result.now pairs c.judge-judged.result c.stays_by.result at.version
     (c.of-method.ensures ∙ at.method) (c.of-target.ensures ∙ at.path) refl
-    (c.judge-judged.ensures pairs are) (c.stays_by.ensures pairs are) in
-    (h, drop c.args.spans.len c.args.bytes.now, at.reads, sym (add-zero c.args.spans.len) ∙ size, stays)
+    (c.judge-judged.ensures pairs are) (c.stays_by.ensures pairs are) in (
+      h,
+      drop c.args.spans.len c.args.bytes.now,
+      at.reads,
+      sym (add-zero c.args.spans.len) ∙ size,
+      stays,
+    )
 
 pub returns-in-Vector-clause-may : goal.returns-in-Vector-clause-may
 returns-in-Vector-clause-may c =
@@ -50,15 +68,22 @@ returns-in-Vector-clause-may c =
 pub returns-in-Notice-clause-takes : goal.returns-in-Notice-clause-takes
 returns-in-Notice-clause-takes c = λ h at.
     let pairs = map name_and_value h.fields in
-    let are : AreFields c.fields_of-fields.result pairs = rw at.fields at c.fields_of-fields.ensures in
+    let are : AreFields c.fields_of-fields.result pairs =
+    rw at.fields at c.fields_of-fields.ensures in
     let size = size_at c.args.reach h c.args.spans.len c.of-method.result.now c.of-target.result.now
-    (Notice c.in-Notice.notice) at.len (c.of-method.ensures ∙ at.method) (c.of-target.ensures ∙ at.path)
+    (Notice c.in-Notice.notice) at.len (c.of-method.ensures ∙ at.method)
+    (c.of-target.ensures ∙ at.path)
     (sym c.in-Notice.is ∙ c.judge-judged.ensures _ are) in
     let stays = stays_at c.args.reach h c.args.spans.version c.of-method.result.now
     c.of-target.result.now pairs c.judge-judged.result c.stays_by.result at.version
     (c.of-method.ensures ∙ at.method) (c.of-target.ensures ∙ at.path) refl
-    (c.judge-judged.ensures pairs are) (c.stays_by.ensures pairs are) in
-    (h, drop c.args.spans.len c.args.bytes.now, at.reads, sym (add-zero c.args.spans.len) ∙ size, stays)
+    (c.judge-judged.ensures pairs are) (c.stays_by.ensures pairs are) in (
+      h,
+      drop c.args.spans.len c.args.bytes.now,
+      at.reads,
+      sym (add-zero c.args.spans.len) ∙ size,
+      stays,
+    )
 
 pub returns-in-Notice-clause-may : goal.returns-in-Notice-clause-may
 returns-in-Notice-clause-may c =
@@ -68,7 +93,8 @@ returns-in-Notice-clause-may c =
 pub returns-in-Body-clause-came : goal.returns-in-Body-clause-came
 returns-in-Body-clause-came c = λ h at.
     let pairs = map name_and_value h.fields in
-    let are : AreFields c.fields_of-fields.result pairs = rw at.fields at c.fields_of-fields.ensures in
+    let are : AreFields c.fields_of-fields.result pairs =
+    rw at.fields at c.fields_of-fields.ensures in
     same_front c.args.is_over _ _ c.body_front.result
     (λ tail. judged_same c.args.reach h (drop c.args.spans.len c.args.bytes.now ++ tail)
     c.of-method.result.now c.of-target.result.now (Body c.in-Body.posted c.in-Body.size)
@@ -80,7 +106,8 @@ returns-in-Body-clause-came c = λ h at.
 pub returns-in-Body-clause-takes : goal.returns-in-Body-clause-takes
 returns-in-Body-clause-takes c = λ h at.
     let pairs = map name_and_value h.fields in
-    let are : AreFields c.fields_of-fields.result pairs = rw at.fields at c.fields_of-fields.ensures in
+    let are : AreFields c.fields_of-fields.result pairs =
+    rw at.fields at c.fields_of-fields.ensures in
     let size = size_at c.args.reach h c.args.spans.len c.of-method.result.now c.of-target.result.now
     (Body c.in-Body.posted c.in-Body.size) at.len (c.of-method.ensures ∙ at.method)
     (c.of-target.ensures ∙ at.path) (sym c.in-Body.is ∙ c.judge-judged.ensures _ are) in
@@ -89,7 +116,11 @@ returns-in-Body-clause-takes c = λ h at.
     (c.of-method.ensures ∙ at.method) (c.of-target.ensures ∙ at.path) refl
     (c.judge-judged.ensures pairs are) (c.stays_by.ensures pairs are) in
     let one : IsOneRequest c.args.reach c.args.bytes.now
-    (record { size = c.args.spans.len + c.in-Body.size; stays = c.stays_by.result }) =
+    (record {
+      size = c.args.spans.len + c.in-Body.size;
+      stays = c.stays_by.result;
+      path = c.path_named-path.result;
+    }) =
     (h, drop c.args.spans.len c.args.bytes.now, at.reads, size, stays) in
     let fits : c.args.spans.len ≤ length c.args.bytes.now = search rules in
     c.body_front.ensures.takes c.args.reach c.args.bytes.now pairs are
@@ -105,7 +136,8 @@ returns-in-Body-clause-fewer c =
     let most : c.args.spans.len + c.in-Body.size ≤ request_limit c.args.reach =
     omega (arith, small, c.requires.short) in
     let fits : c.args.spans.len ≤ length c.args.bytes.now = search rules in
-    fewer_within _ _ _ _ c.body_front.result (sym (rest_is_all c.args.bytes.now c.args.spans.len fits))
+    fewer_within _ _ _ _ c.body_front.result
+    (sym (rest_is_all c.args.bytes.now c.args.spans.len fits))
     most c.body_front.ensures.fewer
 
 pub returns-in-Body-clause-may : goal.returns-in-Body-clause-may
@@ -113,3 +145,26 @@ returns-in-Body-clause-may c =
     let may = judged_may c.args.reach c.of-method.result.now c.of-target.result.now _ _ _
     c.fields_of-fields.ensures c.judge-judged.ensures in
     c.body_front.ensures.may c.args.reach (subst (MayAsk c.args.reach) c.in-Body.is may).0
+
+pub returns-in-Refused-clause-names : goal.returns-in-Refused-clause-names
+returns-in-Refused-clause-names c = λ h at.
+    rw (c.refused_front.ensures)
+    (named_at c.args.reach h c.of-target.result.now c.split_target.result.0.now
+    c.path_named-path.result (c.of-target.ensures ∙ at.path) c.split_target.ensures.path
+    c.path_named-path.ensures)
+
+pub returns-in-Query-clause-names : goal.returns-in-Query-clause-names
+returns-in-Query-clause-names c = λ h at.
+    rw (c.whole_front.ensures)
+    (names_come _ c.asked.result _
+    (named_at c.args.reach h c.of-target.result.now c.split_target.result.0.now
+    c.path_named-path.result (c.of-target.ensures ∙ at.path) c.split_target.ensures.path
+    c.path_named-path.ensures))
+
+pub returns-in-Body-clause-names : goal.returns-in-Body-clause-names
+returns-in-Body-clause-names c = λ h at.
+    subst (λ p. IfOk c.body_front.result (NamesIn p))
+    (named_at c.args.reach h c.of-target.result.now c.split_target.result.0.now
+    c.path_named-path.result (c.of-target.ensures ∙ at.path) c.split_target.ensures.path
+    c.path_named-path.ensures)
+    c.body_front.ensures.names

@@ -1,9 +1,7 @@
 use Rattle.std.proofs.Common.{◌≡◌, ◌<◌, ◌≤◌, [], length, rules, subst, sym}
 use Rattle.tk_edge.specs.Fronts.{IsFront}
 use Rattle.tk_edge.specs.Heads.{field_limit, head_limit}
-use Rattle.tk_edge.proofs.FrontLaws.{error_none, front_heard, headless_arrives, headless_comes}
-use Rattle.tk_edge.proofs.FrontLaws.{long_none}
-use Rattle.tk_edge.proofs.FrontLaws.{none_of}
+use Rattle.tk_edge.proofs.FrontLaws.{error_none, front_heard, headless_comes, long_none, none_of}
 use Rattle.tk_edge.proofs.front.hear_front.Goals as goal
 
 pub returns-then-is_empty : goal.returns-then-is_empty
@@ -19,9 +17,8 @@ returns-then-spans-gt-HEAD_LIMIT c =
     let long : head_limit < c.in-Ok-Complete.spans.len = search rules in
     let facts = rw c.in-Ok-Complete.field-0-is at c.in-Ok-Complete.ensures in
     rw (c.headless_front.ensures) (headless_comes c.args.reach c.args.bytes.now c.args.is_over
-    (λ tail follows. headless_arrives c.args.reach c.args.bytes.now tail some
-    (long_none c.args.bytes.now tail c.parse_request.new.headers c.in-Ok-Complete.spans
-    facts.complete.0 facts.complete.1 long)))
+    some (λ tail follows. long_none c.args.bytes.now tail c.parse_request.new.headers
+    c.in-Ok-Complete.spans facts.complete.0 facts.complete.1 long))
 
 pub returns-else-spans-gt-HEAD_LIMIT : goal.returns-else-spans-gt-HEAD_LIMIT
 returns-else-spans-gt-HEAD_LIMIT c =
@@ -29,10 +26,11 @@ returns-else-spans-gt-HEAD_LIMIT c =
     let full : length c.parse_request.new.headers ≡ field_limit = search rules in
     let facts = rw c.in-Ok-Complete.field-0-is at c.in-Ok-Complete.ensures in
     front_heard c.args.reach c.args.bytes.now c.args.is_over c.parse_request.new.headers
-    c.in-Ok-Complete.spans facts.complete.0 c.head_front.result facts.within facts.complete.1 fits full
+    c.in-Ok-Complete.spans facts.complete.0 c.head_front.result facts.within facts.complete.1 fits
+    full
     (c.head_front.ensures.came facts.complete.0 facts.complete.1) c.head_front.ensures.within
     (c.head_front.ensures.takes facts.complete.0 facts.complete.1) c.head_front.ensures.fewer
-    c.head_front.ensures.may
+    c.head_front.ensures.may (c.head_front.ensures.names facts.complete.0 facts.complete.1)
 
 pub returns-in-Ok-Partial : goal.returns-in-Ok-Partial
 returns-in-Ok-Partial c = c.partial_front.ensures c.args.reach
@@ -40,6 +38,6 @@ returns-in-Ok-Partial c = c.partial_front.ensures c.args.reach
 pub returns-in-Err : goal.returns-in-Err
 returns-in-Err c =
     let some : 0 < length c.args.bytes.now = search rules in
-    rw (c.headless_front-in-Err.ensures) (headless_comes c.args.reach c.args.bytes.now c.args.is_over
-    (λ tail follows. headless_arrives c.args.reach c.args.bytes.now tail some
-    (error_none c.args.bytes.now tail c.in-Err.ensures.no_room)))
+    rw (c.headless_front-in-Err.ensures)
+    (headless_comes c.args.reach c.args.bytes.now c.args.is_over
+    some (λ tail follows. error_none c.args.bytes.now tail c.in-Err.ensures.no_room))

@@ -6,4 +6,7 @@ use Rattle.tk_edge.proofs.notice.metadata_reply.Goals as goal
 pub returns : goal.returns
 returns c =
     c.text_reply.ensures
-    ∙ ap (spec.text_reply Ok) (c.in_ok-text.ensures ∙ ap (λ i. spec.metadata i c.methods_of.result.now) c.as_bytes.ensures.value ∙ ap (spec.metadata c.args.issuer.now) c.methods_of.ensures)
+    ∙ ap (spec.text_reply Ok)
+    (c.in_ok-text.ensures
+    ∙ ap (λ i. spec.metadata i c.methods_of.result.now) c.as_bytes.ensures.value
+    ∙ ap (spec.metadata c.args.issuer.now) c.methods_of.ensures)

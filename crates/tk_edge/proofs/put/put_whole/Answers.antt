@@ -10,10 +10,12 @@ pieces-preserved g c = record {
   within = search rules;
   bytes =
       let one = rw (take_rest c.args.bytes.now c.pieces.at) at c.in-Ok.ensures.bytes in
-      rw (take-add c.pieces.at c.in-Ok.count c.args.bytes.now) (Appends-trans _ _ _ _ _ c.pieces.invariant.bytes one);
+      rw (take-add c.pieces.at c.in-Ok.count c.args.bytes.now)
+      (Appends-trans _ _ _ _ _ c.pieces.invariant.bytes one);
   same = search rules;
 }
 
 pub returns-in-Err-clause-bytes : goal.returns-in-Err-clause-bytes
 returns-in-Err-clause-bytes g c =
-    front_taken _ _ c.args.bytes.now c.pieces.at (Appends-kept _ _ _ _ c.pieces.invariant.bytes c.in-Err.ensures.bytes)
+    front_taken _ _ c.args.bytes.now c.pieces.at
+    (Appends-kept _ _ _ _ c.pieces.invariant.bytes c.in-Err.ensures.bytes)

@@ -11,21 +11,39 @@ returns-then-is_silent-clause-served g c = λ reach known arrives.
 
 pub returns-in-Ok-clause-served : goal.returns-in-Ok-clause-served
 returns-in-Ok-clause-served g c = λ reach known arrives.
-    served (record { reach = reach; terms = c.args.terms.now; log_taken = c.args.log_taken; known = known; now = c.args.now; words = c.args.words.now }) c.args.came
+    served (record {
+      reach = reach;
+      terms = c.args.terms.now;
+      log_taken = c.args.log_taken;
+      known = known;
+      now = c.args.now;
+      words = c.args.words.now;
+    })
+    c.args.came
     c.args.region.now c.reply.new.region _ _ _ c.reply.new.sealed
     arrives (c.is_silent.ensures.spoke (search rules)) c.in-Ok.status c.in-Ok.ensures.replies
 
 pub returns-clause-served : goal.returns-clause-served
 returns-clause-served g c = λ reach known arrives.
-    faulted (record { reach = reach; terms = c.args.terms.now; log_taken = c.args.log_taken; known = known; now = c.args.now; words = c.args.words.now }) c.args.came
+    faulted (record {
+      reach = reach;
+      terms = c.args.terms.now;
+      log_taken = c.args.log_taken;
+      known = known;
+      now = c.args.now;
+      words = c.args.words.now;
+    })
+    c.args.came
     c.args.region.now c.reply.new.region _ _ _ c.reply.new.sealed
     arrives (c.is_silent.ensures.spoke (search rules)) c.in-Err.fault c.in-Err.ensures.replies
 
 pub returns-clause-read : goal.returns-clause-read
-returns-clause-read g c = unread (bundle_to_log c.args.log_taken c.args.came) c.args.terms.now c.args.now c.args.words.now c.args.came _ _ _ _ _ c.in-Err.fault c.in-Err.ensures.replies
+returns-clause-read g c = unread (bundle_to_log c.args.log_taken c.args.came) c.args.terms.now
+    c.args.now c.args.words.now c.args.came _ _ _ _ _ c.in-Err.fault c.in-Err.ensures.replies
 
 pub returns-clause-writer_fault : goal.returns-clause-writer_fault
-returns-clause-writer_fault g c = λ is. c.in-Err.ensures.faults.writer (faults_as c.in-Err.fault Write is)
+returns-clause-writer_fault g c =
+    λ is. c.in-Err.ensures.faults.writer (faults_as c.in-Err.fault Write is)
 
 pub returns-clause-log_fault : goal.returns-clause-log_fault
 returns-clause-log_fault g c = λ is. c.in-Err.ensures.faults.log (faults_as c.in-Err.fault Log is)

@@ -8,7 +8,8 @@ returns-in-Ok-clause-served g c =
       (c.in-Ok-Came.came, front),
       λ tail follows.
           c.in-Ok.ensures.served c.args.reach (Some (c.args.bytes.now ++ tail))
-          (front_arrives c.args.reach c.args.is_over c.args.bytes.now c.in-Ok-Came.came c.in-Ok-Came.taken
+          (front_arrives c.args.reach c.args.is_over c.args.bytes.now c.in-Ok-Came.came
+          c.in-Ok-Came.taken
           front tail follows),
     )
 

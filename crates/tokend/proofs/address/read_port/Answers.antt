@@ -3,4 +3,5 @@ use Rattle.tokend.proofs.Tasks.{no_port}
 use Rattle.tokend.proofs.address.read_port.Goals as goal
 
 pub returns-in-None-clause-none : goal.returns-in-None-clause-none
-returns-in-None-clause-none c = no_port (rows_of (found_of c.args.matches.now)) c.requires c.in-None.ensures.none
+returns-in-None-clause-none c =
+    no_port (rows_of (found_of c.args.matches.now)) c.requires c.in-None.ensures.none

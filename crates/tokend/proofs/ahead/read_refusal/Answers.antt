@@ -5,7 +5,10 @@ use Rattle.tokend.proofs.Tasks.{by_text}
 use Rattle.tokend.proofs.ahead.read_refusal.Goals as goal
 
 pub returns-in-Some : goal.returns-in-Some
-returns-in-Some c = search rules ∙ by_text refusal_named (found_of c.args.matches.now) (codes "ahead") (Some c.in-Some.text.now) (search rules)
+returns-in-Some c = search rules
+    ∙ by_text refusal_named (found_of c.args.matches.now) (codes "ahead") (Some c.in-Some.text.now)
+    (search rules)
 
 pub returns-in-None : goal.returns-in-None
-returns-in-None c = by_text refusal_named (found_of c.args.matches.now) (codes "ahead") None (search rules)
+returns-in-None c =
+    by_text refusal_named (found_of c.args.matches.now) (codes "ahead") None (search rules)

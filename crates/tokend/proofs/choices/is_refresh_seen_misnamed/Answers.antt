@@ -5,7 +5,10 @@ use Rattle.tokend.proofs.Tasks.{by_text}
 use Rattle.tokend.proofs.choices.is_refresh_seen_misnamed.Goals as goal
 
 pub returns-in-Some : goal.returns-in-Some
-returns-in-Some c = search rules ∙ by_text is_refresh_seen_misnamed (found_of c.args.matches.now) (codes "refresh-seen") (Some c.in-Some.text.now) (search rules)
+returns-in-Some c = search rules
+    ∙ by_text is_refresh_seen_misnamed (found_of c.args.matches.now) (codes "refresh-seen")
+    (Some c.in-Some.text.now) (search rules)
 
 pub returns-in-None : goal.returns-in-None
-returns-in-None c = by_text is_refresh_seen_misnamed (found_of c.args.matches.now) (codes "refresh-seen") None (search rules)
+returns-in-None c = by_text is_refresh_seen_misnamed (found_of c.args.matches.now)
+    (codes "refresh-seen") None (search rules)

@@ -9,7 +9,9 @@ loop-choice-preserved c =
     let at = c.loop-choice in
     let added = c.in_ok-command.ensures in
     record {
-      rules = choice_more (λ choice. choice_rule choice.0.now choice.1) (app_of c.args.command) (app_of at.command) (app_of c.in_ok-command.command) c.args.choices.now
-          at.choice-index _ _ c.loop-choice-test.true at.invariant.rules (added.shape c.arg_of.ensures.local) c.arg_of.ensures.rule;
+      rules = choice_more (λ choice. choice_rule choice.0.now choice.1) (app_of c.args.command)
+          (app_of at.command) (app_of c.in_ok-command.command) c.args.choices.now
+          at.choice-index _ _ c.loop-choice-test.true at.invariant.rules
+          (added.shape c.arg_of.ensures.local) c.arg_of.ensures.rule;
       local = search rules;
     }

@@ -6,6 +6,8 @@ use Rattle.tokend.proofs.command_line.with_choices.Given as goal
 
 abbrev pub invariant-loop-choice : goal.invariant-loop-choice
 invariant-loop-choice l = record {
-  rules : app_of l.command ≡ with_rules (app_of l.fn.command) (map (λ c. choice_rule c.0.now c.1) (take l.choice-index l.choices));
+  rules : app_of l.command
+      ≡ with_rules (app_of l.fn.command)
+      (map (λ c. choice_rule c.0.now c.1) (take l.choice-index l.choices));
   local : (out-Command l.command).has_globals ≡ false;
 }

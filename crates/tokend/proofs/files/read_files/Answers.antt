@@ -6,8 +6,12 @@ use Rattle.tokend.proofs.files.read_files.Goals as goal
 
 pub returns-then-is_none-clause-none : goal.returns-then-is_none-clause-none
 returns-then-is_none-clause-none c = elim c.if-log_taken.branch [
-  | then-log_taken w ↦ unlogged_taken (rows_of (found_of c.args.matches.now)) c.flag-log_taken.result c.in_ok-log.log c.flag-log_taken.ensures (search rules) (search rules) (search rules)
-  | else-log_taken w ↦ unlogged_parts (rows_of (found_of c.args.matches.now)) c.number-log_part.result c.in_ok-log.log c.number-log_part.ensures.value (search rules) (search rules) (search rules)
+  | then-log_taken w ↦ unlogged_taken (rows_of (found_of c.args.matches.now))
+      c.flag-log_taken.result c.in_ok-log.log c.flag-log_taken.ensures (search rules) (search rules)
+      (search rules)
+  | else-log_taken w ↦ unlogged_parts (rows_of (found_of c.args.matches.now))
+      c.number-log_part.result c.in_ok-log.log c.number-log_part.ensures.value (search rules)
+      (search rules) (search rules)
 ]
 
 pub returns-clause-files : goal.returns-clause-files

@@ -5,7 +5,10 @@ use Rattle.tokend.proofs.Tasks.{by_text}
 use Rattle.tokend.proofs.kinds.read_redirects.Goals as goal
 
 pub returns-in-Some : goal.returns-in-Some
-returns-in-Some c = search rules ∙ by_text kinds_named (found_of c.args.matches.now) (codes "redirects") (Some c.in-Some.text.now) (search rules)
+returns-in-Some c = search rules
+    ∙ by_text kinds_named (found_of c.args.matches.now) (codes "redirects")
+    (Some c.in-Some.text.now) (search rules)
 
 pub returns-in-None : goal.returns-in-None
-returns-in-None c = by_text kinds_named (found_of c.args.matches.now) (codes "redirects") None (search rules)
+returns-in-None c =
+    by_text kinds_named (found_of c.args.matches.now) (codes "redirects") None (search rules)

@@ -4,8 +4,13 @@ use Rattle.tokend.proofs.Announcements.{prints_less, prints_then}
 use Rattle.tokend.proofs.listen.announce.Goals as goal
 
 pub returns-in-Ok : goal.returns-in-Ok
-returns-in-Ok g c = prints_then _ _ _ (dropped_line c.args.opening.dropped) (pruned_line c.args.opening.pruned ++ (inner_line c.args.at.now.inner ++ outer_line c.args.at.now.outer c.args.port))
+returns-in-Ok g c = prints_then _ _ _ (dropped_line c.args.opening.dropped)
+    (pruned_line c.args.opening.pruned
+    ++ (inner_line c.args.at.now.inner ++ outer_line c.args.at.now.outer c.args.port))
     c.announce_prune.result c.in-Ok.ensures c.announce_prune.ensures
 
 pub returns-in-Err : goal.returns-in-Err
-returns-in-Err g c = prints_less _ _ (dropped_line c.args.opening.dropped) (pruned_line c.args.opening.pruned ++ (inner_line c.args.at.now.inner ++ outer_line c.args.at.now.outer c.args.port)) c.in-Err.ensures
+returns-in-Err g c = prints_less _ _ (dropped_line c.args.opening.dropped)
+    (pruned_line c.args.opening.pruned
+    ++ (inner_line c.args.at.now.inner ++ outer_line c.args.at.now.outer c.args.port))
+    c.in-Err.ensures

@@ -7,5 +7,13 @@ use Rattle.tokend.proofs.losses.tell_each_unsent.Given as goal
 -- the lines so far are written
 abbrev pub invariant-loop : goal.invariant-loop
 invariant-loop g l = (server : Server) (log : Option (List ℕ)) → Goes
-    (record { server = server; log = log; faults = writer_of g.F.Sink.holds g.F.Sink.failed l.fn.faults })
-    (record { server = server; log = log; faults = writer_of g.F.Sink.holds g.F.Sink.failed l.faults })
+    (record {
+      server = server;
+      log = log;
+      faults = writer_of g.F.Sink.holds g.F.Sink.failed l.fn.faults;
+    })
+    (record {
+      server = server;
+      log = log;
+      faults = writer_of g.F.Sink.holds g.F.Sink.failed l.faults;
+    })

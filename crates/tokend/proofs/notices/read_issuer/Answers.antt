@@ -7,8 +7,10 @@ use Rattle.tokend.proofs.notices.read_issuer.Goals as goal
 pub returns-in-Some : goal.returns-in-Some
 returns-in-Some c =
     subst (λ y. IfOk c.issuer_named.result (λ read. read ≡ y))
-    (by_text issuer_named (found_of c.args.matches.now) (codes "issuer") (Some c.in-Some.text.now) (search rules))
+    (by_text issuer_named (found_of c.args.matches.now) (codes "issuer") (Some c.in-Some.text.now)
+    (search rules))
     c.issuer_named.ensures
 
 pub returns-in-None : goal.returns-in-None
-returns-in-None c = by_text issuer_named (found_of c.args.matches.now) (codes "issuer") None (search rules)
+returns-in-None c =
+    by_text issuer_named (found_of c.args.matches.now) (codes "issuer") None (search rules)

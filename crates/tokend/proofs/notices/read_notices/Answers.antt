@@ -4,4 +4,5 @@ use Rattle.tokend.proofs.MissingOptions.{without_issuer}
 use Rattle.tokend.proofs.notices.read_notices.Goals as goal
 
 pub returns-in_default-clause-none : goal.returns-in_default-clause-none
-returns-in_default-clause-none c = without_issuer (rows_of (found_of c.args.matches.now)) (search rules)
+returns-in_default-clause-none c =
+    without_issuer (rows_of (found_of c.args.matches.now)) (search rules)

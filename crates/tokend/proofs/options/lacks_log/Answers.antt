@@ -5,5 +5,7 @@ use Rattle.tokend.proofs.options.lacks_log.Goals as goal
 
 pub returns-then-wants_log : goal.returns-then-wants_log
 returns-then-wants_log c =
-    lacks_given (subcommand_rows_of c.args.matches.now) (rows_of (found_of c.in-Some.values.now)) c.is_none.result (search rules) (search rules)
-    (search rules ∙ text_missing (found_of c.in-Some.values.now) (codes "log") c.get_str.result c.get_str.ensures)
+    lacks_given (subcommand_rows_of c.args.matches.now) (rows_of (found_of c.in-Some.values.now))
+    c.is_none.result (search rules) (search rules)
+    (search rules
+    ∙ text_missing (found_of c.in-Some.values.now) (codes "log") c.get_str.result c.get_str.ensures)

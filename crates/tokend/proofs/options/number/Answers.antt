@@ -4,4 +4,5 @@ use Rattle.tokend.proofs.options.number.Goals as goal
 
 pub returns-in_err-n-clause-none : goal.returns-in_err-n-clause-none
 returns-in_err-n-clause-none c =
-    none_between (rows_of (found_of c.args.matches.now)) c.args.id.now c.args.least c.args.greatest c.from_residual.result c.ranges.greatest.fits c.in_err-n.ensures.none
+    none_between (rows_of (found_of c.args.matches.now)) c.args.id.now c.args.least c.args.greatest
+    c.from_residual.result c.ranges.greatest.fits c.in_err-n.ensures.none

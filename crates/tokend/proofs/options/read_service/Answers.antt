@@ -19,19 +19,25 @@ returns-clause-service c = record {
 }
 
 pub returns-in_default-clause-none : goal.returns-in_default-clause-none
-returns-in_default-clause-none c = without_settings (rows_of (found_of c.args.matches.now)) c.in_default.ensures.none
+returns-in_default-clause-none c =
+    without_settings (rows_of (found_of c.args.matches.now)) c.in_default.ensures.none
 
 pub returns-in_default-number-clause-none : goal.returns-in_default-number-clause-none
-returns-in_default-number-clause-none c = without_region (rows_of (found_of c.args.matches.now)) c.in_default-number.ensures.none
+returns-in_default-number-clause-none c =
+    without_region (rows_of (found_of c.args.matches.now)) c.in_default-number.ensures.none
 
 pub returns-in_default-number-2-clause-none : goal.returns-in_default-number-2-clause-none
-returns-in_default-number-2-clause-none c = without_connections (rows_of (found_of c.args.matches.now)) c.in_default-number-2.ensures.none
+returns-in_default-number-2-clause-none c =
+    without_connections (rows_of (found_of c.args.matches.now)) c.in_default-number-2.ensures.none
 
 pub returns-in_default-3-clause-none : goal.returns-in_default-3-clause-none
-returns-in_default-3-clause-none c = without_pushes (rows_of (found_of c.args.matches.now)) (search rules)
+returns-in_default-3-clause-none c =
+    without_pushes (rows_of (found_of c.args.matches.now)) (search rules)
 
 pub returns-in_default-read_choices-clause-none : goal.returns-in_default-read_choices-clause-none
-returns-in_default-read_choices-clause-none c = without_choices (rows_of (found_of c.args.matches.now)) c.in_default-read_choices.ensures.none
+returns-in_default-read_choices-clause-none c =
+    without_choices (rows_of (found_of c.args.matches.now)) c.in_default-read_choices.ensures.none
 
 pub returns-in_default-4-clause-none : goal.returns-in_default-4-clause-none
-returns-in_default-4-clause-none c = without_notices (rows_of (found_of c.args.matches.now)) (search rules)
+returns-in_default-4-clause-none c =
+    without_notices (rows_of (found_of c.args.matches.now)) (search rules)

@@ -4,7 +4,9 @@ use Rattle.clap.proofs.WalkLemmas.{first_value-rows}
 use Rattle.tokend.proofs.options.read_text.Goals as goal
 
 pub returns-in_ok-from_str-in-Some : goal.returns-in_ok-from_str-in-Some
-returns-in_ok-from_str-in-Some c = sym (first_value-rows (found_of c.args.matches.now) c.args.id.now) ∙ search rules
+returns-in_ok-from_str-in-Some c =
+    sym (first_value-rows (found_of c.args.matches.now) c.args.id.now) ∙ search rules
 
 pub returns-in-None : goal.returns-in-None
-returns-in-None c = sym (first_value-rows (found_of c.args.matches.now) c.args.id.now) ∙ search rules
+returns-in-None c =
+    sym (first_value-rows (found_of c.args.matches.now) c.args.id.now) ∙ search rules

@@ -7,4 +7,6 @@ use Rattle.tokend.proofs.options.wants_log.Goals as goal
 pub returns-else-flag : goal.returns-else-flag
 returns-else-flag c =
     wants_parts (rows_of (found_of c.args.matches.now)) c.is_some.result (search rules)
-    (search rules ∙ text_found (found_of c.args.matches.now) (codes "log-part") c.get_str.result c.get_str.ensures)
+    (search rules
+    ∙ text_found (found_of c.args.matches.now) (codes "log-part") c.get_str.result
+    c.get_str.ensures)

@@ -6,4 +6,7 @@ use Rattle.tokend.specs.Ranges.{is_range}
 use Rattle.tokend.proofs.ranges.are_ranges.Goals as goal
 
 pub returns : goal.returns
-returns c = all_from_yields_List is_range _ _ _ c.all.ensures.ran (YieldsList-from_str_split 0x2c c.args.text.now (lit< tt) c.split.ensures.text c.split.ensures.has_more c.split.ensures.pattern) (λ x b q k. search (rules, tests))
+returns c = all_from_yields_List is_range _ _ _ c.all.ensures.ran
+    (YieldsList-from_str_split 0x2c c.args.text.now (lit< tt) c.split.ensures.text
+    c.split.ensures.has_more c.split.ensures.pattern) (λ x b q k.
+    search (rules, tests))

@@ -9,8 +9,10 @@ use Rattle.tokend.proofs.ranges.read_accepted.Goals as goal
 
 pub returns-in-Some : goal.returns-in-Some
 returns-in-Some c =
-    subst (λ y. IfOk c.ranges_of.result (λ read. option_map (λ (ranges : Vec RegionRange Global). ranges.items) read ≡ y))
-    (by_text accepted_named (found_of c.args.matches.now) (codes "accept") (Some c.in-Some.text.now) (search rules))
+    subst (λ y. IfOk c.ranges_of.result
+    (λ read. option_map (λ (ranges : Vec RegionRange Global). ranges.items) read ≡ y))
+    (by_text accepted_named (found_of c.args.matches.now) (codes "accept") (Some c.in-Some.text.now)
+    (search rules))
     c.ranges_of.ensures
 
 pub returns-in-None : goal.returns-in-None

@@ -10,7 +10,11 @@ returns-in_default-clause-done g c = c.announce_and_serve.ensures.done
 
 pub returns-in_default-clause-served : goal.returns-in_default-clause-served
 returns-in_default-clause-served g c =
-    without_log (g.D.Folder.kept c.args.folder.now) g.L.Sink.holds (g.D.Folder.opens c.args.folder.now c.args.service.now.files.log_part) c.args.service.now.files.log c.args.start.now.words c.args.service.now.limits.requests (keeps_in c.args.service.now.limits.keep) (unwrap_or c.args.service.now.limits.repeat 0) (is_some c.args.service.now.at.inner) c.args.service.now.files.log_taken
+    without_log (g.D.Folder.kept c.args.folder.now) g.L.Sink.holds
+    (g.D.Folder.opens c.args.folder.now c.args.service.now.files.log_part)
+    c.args.service.now.files.log c.args.start.now.words c.args.service.now.limits.requests
+    (keeps_in c.args.service.now.limits.keep) (unwrap_or c.args.service.now.limits.repeat 0)
+    (is_some c.args.service.now.at.inner) c.args.service.now.files.log_taken
     (record {
       start = c.args.start.now.edge;
       end = c.announce_and_serve.new.start.edge;
@@ -23,7 +27,8 @@ returns-in_default-clause-served g c =
     c.announce_and_serve.result c.in_default.is c.announce_and_serve.ensures.served
 
 pub returns-in_default-clause-fault : goal.returns-in_default-clause-fault
-returns-in_default-clause-fault g c = listen_faults c.args.service.now c.announce_and_serve.result c.announce_and_serve.ensures.fault
+returns-in_default-clause-fault g c =
+    listen_faults c.args.service.now c.announce_and_serve.result c.announce_and_serve.ensures.fault
 
 pub returns-in_default-clause-left : goal.returns-in_default-clause-left
 returns-in_default-clause-left g c = c.announce_and_serve.ensures.left

@@ -5,9 +5,12 @@ use Rattle.tokend.proofs.sources.read_sources.Goals as goal
 
 pub returns-in-Ok : goal.returns-in-Ok
 returns-in-Ok c =
-    c.in-Ok.ensures ∙ some_named (found_of c.args.matches.now) (codes "file") c.get_strs.result c.in-Some.names c.in-Some.is c.get_strs.ensures
+    c.in-Ok.ensures
+    ∙ some_named (found_of c.args.matches.now) (codes "file") c.get_strs.result c.in-Some.names
+    c.in-Some.is c.get_strs.ensures
 
 pub returns-in-None : goal.returns-in-None
 returns-in-None c =
     ap (map string_bytes) c.new.ensures.items
-    ∙ none_named (found_of c.args.matches.now) (codes "file") c.get_strs.result c.in-None.is c.get_strs.ensures
+    ∙ none_named (found_of c.args.matches.now) (codes "file") c.get_strs.result c.in-None.is
+    c.get_strs.ensures

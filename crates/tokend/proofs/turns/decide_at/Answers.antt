@@ -11,9 +11,19 @@ returns-in-Ok g c =
     let t = c.in-Ok.ensures.turn in
     record {
       goes = goes_both _ _ _ (goes_over _ c.args.is_inner) (subst (λ (s : Server). Goes
-          (record { server = record c.args.server.now { is_inner = c.args.is_inner }; log = g.L.Sink.holds c.args.log.now.log; faults = writer_of g.F.Sink.holds g.F.Sink.failed c.args.faults.now })
-          (record { server = s; log = g.L.Sink.holds c.take_turn.new.log.log; faults = writer_of g.F.Sink.holds g.F.Sink.failed c.tell.new.faults }))
-          (sym c.tell.ensures.fault) (goes_kept _ _ _ _ _ _ _ t.mid t.logged t.decided t.end c.requires c.tell.ensures.told refl));
+          (record {
+            server = record c.args.server.now { is_inner = c.args.is_inner };
+            log = g.L.Sink.holds c.args.log.now.log;
+            faults = writer_of g.F.Sink.holds g.F.Sink.failed c.args.faults.now;
+          })
+          (record {
+            server = s;
+            log = g.L.Sink.holds c.take_turn.new.log.log;
+            faults = writer_of g.F.Sink.holds g.F.Sink.failed c.tell.new.faults;
+          }))
+          (sym c.tell.ensures.fault)
+          (goes_kept _ _ _ _ _ _ _ t.mid t.logged t.decided t.end c.requires c.tell.ensures.told
+          refl));
     }
 
 pub returns-in-Err : goal.returns-in-Err
@@ -21,8 +31,17 @@ returns-in-Err g c =
     let t = c.in-Err.ensures.turn in
     record {
       goes = goes_both _ _ _ (goes_over _ c.args.is_inner) (subst (λ (s : Server). Goes
-          (record { server = record c.args.server.now { is_inner = c.args.is_inner }; log = g.L.Sink.holds c.args.log.now.log; faults = writer_of g.F.Sink.holds g.F.Sink.failed c.args.faults.now })
-          (record { server = s; log = g.L.Sink.holds c.take_turn.new.log.log; faults = writer_of g.F.Sink.holds g.F.Sink.failed c.tell_fault.new.faults }))
+          (record {
+            server = record c.args.server.now { is_inner = c.args.is_inner };
+            log = g.L.Sink.holds c.args.log.now.log;
+            faults = writer_of g.F.Sink.holds g.F.Sink.failed c.args.faults.now;
+          })
+          (record {
+            server = s;
+            log = g.L.Sink.holds c.take_turn.new.log.log;
+            faults = writer_of g.F.Sink.holds g.F.Sink.failed c.tell_fault.new.faults;
+          }))
           (sym c.tell-is_stopped.ensures.fault)
-          (goes_lost _ _ _ _ _ _ _ t.mid t.logged t.decided t.end c.requires c.tell-is_stopped.ensures.told c.tell_fault.ensures));
+          (goes_lost _ _ _ _ _ _ _ t.mid t.logged t.decided t.end c.requires
+          c.tell-is_stopped.ensures.told c.tell_fault.ensures));
     }

@@ -16,7 +16,8 @@ pub send_rest-requires : goal.send_rest-requires
 send_rest-requires g c = c.connections.invariant.fault ∙ c.requires
 
 pub returns-clause-grows : goal.returns-clause-grows
-returns-clause-grows g c = server_grows _ _ (goes_both _ _ _ c.connections.invariant c.send_rest.ensures.goes)
+returns-clause-grows g c =
+    server_grows _ _ (goes_both _ _ _ c.connections.invariant c.send_rest.ensures.goes)
 
 pub returns-clause-goes : goal.returns-clause-goes
 returns-clause-goes g c = goes_both _ _ _ c.connections.invariant c.send_rest.ensures.goes

@@ -12,14 +12,16 @@ returns-in-Ok-Some c reach bytes over came =
     let refresh = c.args.refresh in
     let test = is_repeat server.repeats.seconds server.now refresh.parent refresh.request in
     let found : find test server.repeats.kept ≡ Some it = search rules in
-    let replied : repeat_at server.edge server.now it.dot it.words ≡ Some c.in-Ok-Some.reply.items = search rules in
+    let replied : repeat_at server.edge server.now it.dot it.words ≡ Some c.in-Ok-Some.reply.items =
+    search rules in
     record {
       on = c.requires;
       it = it;
       repeated = record {
         refresh = refresh;
         came = came;
-        again = again_by server.repeats.seconds server.now refresh.parent refresh.request it (found_parts test server.repeats.kept it found).1;
+        again = again_by server.repeats.seconds server.now refresh.parent refresh.request it
+            (found_parts test server.repeats.kept it found).1;
         replied = replied;
       };
       found = found;

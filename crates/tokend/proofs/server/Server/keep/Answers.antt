@@ -15,8 +15,13 @@ returns c =
     elim (cases_Bool c.keep.result) [
       | inl held ↦ (
         Some it,
-        subst (λ o. IsKept old.edge.region o c.args.served old.now c.args.dot c.args.words.now (Some it)) (sym c.in-Some.is) (refl, granted_done c.args.served granted, minted),
+        subst (λ o. IsKept old.edge.region o c.args.served old.now c.args.dot c.args.words.now
+            (Some it)) (sym c.in-Some.is) (refl, granted_done c.args.served granted, minted),
         ap (λ (r : RepeatsFields). record old { repeats = r }) (c.keep.ensures.kept held),
       )
-      | inr lost ↦ (None, tt, ap (λ (r : RepeatsFields). record old { repeats = r }) (c.keep.ensures.short lost))
+      | inr lost ↦ (
+        None,
+        tt,
+        ap (λ (r : RepeatsFields). record old { repeats = r }) (c.keep.ensures.short lost),
+      )
     ]

@@ -5,7 +5,9 @@ use Rattle.tokend.proofs.server.Server.move_on.Goals as goal
 pub returns : goal.returns
 returns c =
     let server = c.args.self.now in
-    let counts = c.count.ensures ∙ ap (λ p. with_end c.args.end p server.tally.counts) c.paths-paths.ensures in (
+    let counts = c.count.ensures
+    ∙ ap (λ p. with_end c.args.end p c.args.path server.now server.tally.counts)
+    c.paths-paths.ensures in (
       server.left - c.ended_if.result,
       omega (arith, c.ended_if.ensures.value, c.ended_if.ensures.most, c.requires),
       λ i. record server {
