@@ -22,14 +22,22 @@ pub nat_is : (a b : ℕ) → a ≡ b → (a == b) ≡ true
 nat_is a b h = grind (arith, nat_tests)
 
 same_test : (q d : Dot)
-    → (eq_by_cmp dot_cmp (page_of q) (page_of d) && ((q.serial % span) == (d.serial % span))) ≡ eq_by_cmp dot_cmp q d
+    → (eq_by_cmp dot_cmp (page_of q) (page_of d) && ((q.serial % span) == (d.serial % span)))
+    ≡ eq_by_cmp dot_cmp q d
 same_test q d = elim (cases_Bool (eq_by_cmp dot_cmp q d)) [
   | inl same ↦
-      and_true _ _ (tied_same (page_of q) (page_of d) (ap page_of (tied q d same))) (nat_is (q.serial % span) (d.serial % span) (ap (λ (x : Dot). x.serial % span) (tied q d same))) ∙ sym same
+      and_true _ _ (tied_same (page_of q) (page_of d) (ap page_of (tied q d same)))
+      (nat_is (q.serial % span) (d.serial % span)
+      (ap (λ (x : Dot). x.serial % span) (tied q d same)))
+      ∙ sym same
   | inr apart ↦
       false_from_ne_true _ (λ h.
-      let parts : (eq_by_cmp dot_cmp (page_of q) (page_of d) ≡ true) × (((q.serial % span) == (d.serial % span)) ≡ true) = and_parts _ _ h in
-      false≢true (sym apart ∙ tied_same q d (same_place q d (tied (page_of q) (page_of d) parts.0) (nat_same (q.serial % span) (d.serial % span) parts.1))))
+      let parts : (eq_by_cmp dot_cmp (page_of q) (page_of d) ≡ true)
+      × (((q.serial % span) == (d.serial % span)) ≡ true) = and_parts _ _ h in
+      false≢true
+      (sym apart ∙ tied_same q d
+      (same_place q d (tied (page_of q) (page_of d) parts.0)
+      (nat_same (q.serial % span) (d.serial % span) parts.1))))
       ∙ sym apart
 ]
 
@@ -38,44 +46,56 @@ module _ {X : Type 0} where
   set_here None x = refl
   set_here (Some y) x = refl
 
-  module _ (P N : Pages X) (d : Dot) (F : map.FinMap dot_cmp X) (is : seen P.entries ≡ F) (k0 : Dot) (i : ℕ) (page : k0 ≡ page_of d) (place : i ≡ d.serial % span) where
+  module _ (P N : Pages X) (d : Dot) (F : map.FinMap dot_cmp X) (is : seen P.entries ≡ F) (k0 : Dot)
+      (i : ℕ) (page : k0 ≡ page_of d) (place : i ≡ d.serial % span) where
     -- o is written at the place of the dot
     abbrev Written : Option X → Type 0
-    Written o = (k : Dot) (j : ℕ) → cell N k j ≡ cond (eq_by_cmp dot_cmp k k0 && (j == i)) o (cell P k j)
+    Written o =
+        (k : Dot) (j : ℕ) → cell N k j ≡ cond (eq_by_cmp dot_cmp k k0 && (j == i)) o (cell P k j)
 
     written_at : (o : Option X) → Written o → (q : Dot)
         → cell_at N q ≡ cond (eq_by_cmp dot_cmp q d) o (cell_at P q)
     written_at o h q =
         h (page_of q) (q.serial % span)
-        ∙ ap (λ (k : Dot). cond (eq_by_cmp dot_cmp (page_of q) k && ((q.serial % span) == i)) o (cell_at P q)) page
-        ∙ ap (λ (n : ℕ). cond (eq_by_cmp dot_cmp (page_of q) (page_of d) && ((q.serial % span) == n)) o (cell_at P q)) place
+        ∙ ap (λ (k : Dot).
+        cond (eq_by_cmp dot_cmp (page_of q) k && ((q.serial % span) == i)) o (cell_at P q)) page
+        ∙ ap (λ (n : ℕ).
+        cond (eq_by_cmp dot_cmp (page_of q) (page_of d) && ((q.serial % span) == n)) o
+        (cell_at P q)) place
         ∙ ap (λ (b : Bool). cond b o (cell_at P q)) (same_test q d)
 
     at_seen : (q : Dot) → cell_at P q ≡ map.get F q
     at_seen q = sym (get_seen P q) ∙ ap (λ (m : map.FinMap dot_cmp X). map.get m q) is
 
     pub get_here : cell P k0 i ≡ map.get F d
-    get_here = ap (λ (k : Dot). cell P k i) page ∙ ap (λ (n : ℕ). cell P (page_of d) n) place ∙ at_seen d
+    get_here =
+        ap (λ (k : Dot). cell P k i) page ∙ ap (λ (n : ℕ). cell P (page_of d) n) place ∙ at_seen d
 
     get_written : (o : Option X) → Written o → (q : Dot)
         → map.get (seen N.entries) q ≡ cond (eq_by_cmp dot_cmp q d) o (map.get F q)
-    get_written o h q = get_seen N q ∙ written_at o h q ∙ ap (cond (eq_by_cmp dot_cmp q d) o) (at_seen q)
+    get_written o h q =
+        get_seen N q ∙ written_at o h q ∙ ap (cond (eq_by_cmp dot_cmp q d) o) (at_seen q)
 
     pub seen_put : (x : X) → Written (Some x) → seen N.entries ≡ map.insert F d x
-    seen_put x h = map.same_map dot_cmp_total dot_cmp-IsAntisymmetric _ _ (λ q. get_written (Some x) h q ∙ sym (map.get-insert dot_cmp_total F d x q))
+    seen_put x h = map.same_map dot_cmp_total dot_cmp-IsAntisymmetric _ _
+        (λ q. get_written (Some x) h q ∙ sym (map.get-insert dot_cmp_total F d x q))
 
     pub seen_taken : Written None → seen N.entries ≡ map.remove F d
-    seen_taken h = map.same_map dot_cmp_total dot_cmp-IsAntisymmetric _ _ (λ q. get_written None h q ∙ sym (map.get-remove dot_cmp_total F d q))
+    seen_taken h = map.same_map dot_cmp_total dot_cmp-IsAntisymmetric _ _
+        (λ q. get_written None h q ∙ sym (map.get-remove dot_cmp_total F d q))
 
     pub seen_same : ((k : Dot) (j : ℕ) → cell N k j ≡ cell P k j) → seen N.entries ≡ F
-    seen_same h = map.same_map dot_cmp_total dot_cmp-IsAntisymmetric _ _ (λ q. get_seen N q ∙ h (page_of q) (q.serial % span) ∙ at_seen q)
+    seen_same h = map.same_map dot_cmp_total dot_cmp-IsAntisymmetric _ _
+        (λ q. get_seen N q ∙ h (page_of q) (q.serial % span) ∙ at_seen q)
 
     pub get_set : (x : X) → Written (cond (is_some (cell P k0 i)) (Some x) None)
-        → (q : Dot) → map.get (seen N.entries) q ≡ cond (eq_by_cmp dot_cmp q d) (option_map (λ _. x) (map.get F q)) (map.get F q)
+        → (q : Dot) → map.get (seen N.entries) q
+        ≡ cond (eq_by_cmp dot_cmp q d) (option_map (λ _. x) (map.get F q)) (map.get F q)
     get_set x h q = get_written _ h q ∙ elim (cases_Bool (eq_by_cmp dot_cmp q d)) [
       | inl same ↦
           cond-true _ _ _ same ∙ set_here (cell P k0 i) x
-          ∙ ap (option_map (λ _. x)) (get_here ∙ ap (map.get F) (sym (tied q d same))) ∙ sym (cond-true _ _ _ same)
+          ∙ ap (option_map (λ _. x)) (get_here ∙ ap (map.get F) (sym (tied q d same)))
+          ∙ sym (cond-true _ _ _ same)
       | inr apart ↦ cond-false _ _ _ apart ∙ sym (cond-false _ _ _ apart)
     ]
 
@@ -91,7 +111,12 @@ module _ {X : Type 0} where
       pub some_counted : is_some (cell P k0 i) ≡ true → 1 ≤ len
       some_counted h = elim (cases_lt 0 (map.len F)) [
         | inl some ↦ omega (arith, some, counted_here)
-        | inr none ↦ absurd (false≢true (sym (ap is_some (ap (λ (m : map.FinMap dot_cmp X). map.get m d) (map.empty_of_len F (omega arith)) ∙ map.get-empty dot_cmp d)) ∙ held true h))
+        | inr none ↦ absurd
+            (false≢true
+            (sym (ap is_some
+            (ap (λ (m : map.FinMap dot_cmp X). map.get m d) (map.empty_of_len F (omega arith))
+            ∙ map.get-empty dot_cmp d))
+            ∙ held true h))
       ]
 
       module _ (pages : IsPages N) where
@@ -99,33 +124,48 @@ module _ {X : Type 0} where
             → IsPaged N (len + 1)
         paged_new x h none = record {
           pages = pages;
-          counted = ap (λ (n : ℕ). n + 1) counted_here ∙ sym (ap map.len (seen_put x h) ∙ map.len-insert dot_cmp_total F d x ∙ cond-false _ _ _ (held false none));
+          counted = ap (λ (n : ℕ). n + 1) counted_here
+              ∙ sym (ap map.len (seen_put x h) ∙ map.len-insert dot_cmp_total F d x
+              ∙ cond-false _ _ _ (held false none));
         }
 
         pub paged_over : (x : X) → Written (Some x) → is_some (cell P k0 i) ≡ true → IsPaged N len
         paged_over x h some = record {
           pages = pages;
-          counted = counted_here ∙ sym (ap map.len (seen_put x h) ∙ map.len-insert dot_cmp_total F d x ∙ cond-true _ _ _ (held true some));
+          counted = counted_here
+              ∙ sym (ap map.len (seen_put x h) ∙ map.len-insert dot_cmp_total F d x
+              ∙ cond-true _ _ _ (held true some));
         }
 
         pub paged_less : Written None → is_some (cell P k0 i) ≡ true → IsPaged N (len - 1)
         paged_less h some = record {
           pages = pages;
-          counted = ap (λ (n : ℕ). n - 1) counted_here ∙ sym (ap map.len (seen_taken h) ∙ map.len-remove dot_cmp_total F d ∙ cond-true _ _ _ (held true some));
+          counted = ap (λ (n : ℕ). n - 1) counted_here
+              ∙ sym (ap map.len (seen_taken h) ∙ map.len-remove dot_cmp_total F d
+              ∙ cond-true _ _ _ (held true some));
         }
 
         pub paged_none : Written None → is_some (cell P k0 i) ≡ false → IsPaged N len
         paged_none h none = record {
           pages = pages;
-          counted = counted_here ∙ sym (ap map.len (seen_taken h) ∙ map.len-remove dot_cmp_total F d ∙ cond-false _ _ _ (held false none));
+          counted = counted_here
+              ∙ sym (ap map.len (seen_taken h) ∙ map.len-remove dot_cmp_total F d
+              ∙ cond-false _ _ _ (held false none));
         }
 
         pub paged_same : ((k : Dot) (j : ℕ) → cell N k j ≡ cell P k j) → IsPaged N len
-        paged_same h = record { pages = pages; counted = counted_here ∙ sym (ap map.len (seen_same h)) }
+        paged_same h =
+            record { pages = pages; counted = counted_here ∙ sym (ap map.len (seen_same h)) }
 
         pub paged_set : (x : X) → Written (cond (is_some (cell P k0 i)) (Some x) None)
             → IsPaged N len
         paged_set x h = elim (cases_Bool (is_some (cell P k0 i))) [
-          | inl some ↦ paged_over x (λ k j. h k j ∙ ap (λ (o : Option X). cond (eq_by_cmp dot_cmp k k0 && (j == i)) o (cell P k j)) (cond-true _ _ _ some)) some
-          | inr none ↦ paged_none (λ k j. h k j ∙ ap (λ (o : Option X). cond (eq_by_cmp dot_cmp k k0 && (j == i)) o (cell P k j)) (cond-false _ _ _ none)) none
+          | inl some ↦ paged_over x
+              (λ k j. h k j
+              ∙ ap (λ (o : Option X). cond (eq_by_cmp dot_cmp k k0 && (j == i)) o (cell P k j))
+              (cond-true _ _ _ some)) some
+          | inr none ↦ paged_none
+              (λ k j. h k j
+              ∙ ap (λ (o : Option X). cond (eq_by_cmp dot_cmp k k0 && (j == i)) o (cell P k j))
+              (cond-false _ _ _ none)) none
         ]

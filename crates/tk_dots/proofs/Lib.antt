@@ -6,4 +6,5 @@ pub mod RunLaws
 pub mod RunAddLaws
 pub mod RunWalkLaws
 pub mod MarkLaws
+pub mod MarkWalkLaws
 pub mod SlotLaws

@@ -1,23 +1,22 @@
 -- A map of values and marks is its pages and its runs. Key results:
---   get_marked   what is at a dot
-use Rattle.std.proofs.Common.{◌≡◌, ◌≢◌, ℕ, ◌≤◌, ◌<◌, max, arith, ◌||◌, Bool, true, false, cond}
-use Rattle.std.proofs.Common.{List, [], ◌∷◌, Option, Some, None, IsSome, is_some, option_map, refl}
-use Rattle.std.proofs.Common.{sym, ap, subst, ◌∙◌, inl, inr, ◌⊎◌}
-use Rattle.std.proofs.lemmas.Bool.{cases_Bool, cases_lt, cond-true, cond-false, or_left}
-use Rattle.std.proofs.lemmas.Bool.Decides.{nat_tests}
+--   get_marked, page_is, at_run, at_page   what is at a dot
+--   put_marked, put_apart                  a value or a mark is put at a free dot
+--   over_marked, shift_marked              a mark takes the place of what is at a dot
+--   taken_marked, taken_apart              a value is taken out
+use Rattle.std.proofs.Common.{◌≡◌, ◌||◌, Bool, true, false, cond, List, [], ◌∷◌, Option, Some, None}
+use Rattle.std.proofs.Common.{IsSome, is_some, option_map, refl, sym, ap, subst, ◌∙◌, inl, inr}
+use Rattle.std.proofs.lemmas.Bool.{cases_Bool, cond-true, cond-false, or_left}
 use Rattle.std.specs.List.{list_any}
-use Rattle.std.specs.Ordering.{eq_by_cmp, is_lt}
+use Rattle.std.specs.Ordering.{eq_by_cmp}
 use Rattle.std.specs.FinMap as map
 use Rattle.std.specs.FinSet as set
 use Rattle.tk_handle.specs.declared.dot.Dot.{Dot}
 use Rattle.tk_handle.specs.Dot.{dot_cmp, dot_cmp_total, dot_cmp-IsAntisymmetric}
 use mathlib.Core.Bool.{false≢true}
 use Rattle.tk_dots.specs.Marks.{MarkedMap, with_marks, marked, AreApart, without_value, value_of}
-use Rattle.tk_dots.specs.Marks.{Passes}
-use Rattle.tk_dots.specs.Pages.{IsAbove, IsNext, IsLast}
-use Rattle.tk_dots.specs.Runs.{DotSet, dot_of, IsNextIn, IsLastIn}
-use Rattle.tk_dots.proofs.PlaceLaws.{tied, dot_is}
-use Rattle.tk_handle.proofs.TestLaws.{not_none as none_some, some_none}
+use Rattle.tk_dots.specs.Runs.{DotSet}
+use Rattle.tk_dots.proofs.PlaceLaws.{tied}
+use Rattle.tk_handle.proofs.TestLaws.{some_none}
 use Rattle.std.proofs.lemmas.Option.{none-some as none_is}
 
 cond_or : {A : Type 0} (a b : Bool) (x y : A) → cond a x (cond b x y) ≡ cond (a || b) x y
@@ -30,17 +29,20 @@ module _ {X : Type 0} where
   no_value = None
 
   get_marks : (m : MarkedMap X) (ds : List Dot) (q : Dot)
-      → map.get (with_marks m ds) q ≡ cond (list_any (eq_by_cmp dot_cmp q) ds) (Some None) (map.get m q)
+      → map.get (with_marks m ds) q
+      ≡ cond (list_any (eq_by_cmp dot_cmp q) ds) (Some None) (map.get m q)
   get_marks m [] q = refl
   get_marks m (d ∷ ds) q =
       map.get-insert dot_cmp_total (with_marks m ds) d None q
       ∙ ap (cond (eq_by_cmp dot_cmp q d) (Some None)) (get_marks m ds q)
-      ∙ cond_or (eq_by_cmp dot_cmp q d) (list_any (eq_by_cmp dot_cmp q) ds) (Some None) (map.get m q)
+      ∙ cond_or (eq_by_cmp dot_cmp q d) (list_any (eq_by_cmp dot_cmp q) ds) (Some None)
+      (map.get m q)
 
   -- what is at a dot: a mark of the runs, or what is on the pages
   pub get_marked : (m : MarkedMap X) (s : DotSet) (q : Dot)
       → map.get (marked m s) q ≡ cond (set.contains s q) (Some None) (map.get m q)
-  get_marked m s q = get_marks m (set.items s) q ∙ ap (λ (t : Bool). cond t (Some None) (map.get m q)) (sym (set.contains-items s q))
+  get_marked m s q = get_marks m (set.items s) q
+      ∙ ap (λ (t : Bool). cond t (Some None) (map.get m q)) (sym (set.contains-items s q))
 
   pub marked_empty : (m : MarkedMap X) (s : DotSet) → m ≡ map.empty → s ≡ set.empty
       → marked m s ≡ map.empty
@@ -51,7 +53,10 @@ module _ {X : Type 0} where
       ∙ ap (λ (x : MarkedMap X). map.get x q) none)
 
   pub apart_empty : (m : MarkedMap X) (s : DotSet) → s ≡ set.empty → AreApart m s
-  apart_empty m s nothing d h = absurd (false≢true (sym (set.contains-empty dot_cmp d) ∙ (ap (λ (t : DotSet). set.contains t d) (sym nothing) ∙ h)))
+  apart_empty m s nothing d h = absurd
+      (false≢true
+      (sym (set.contains-empty dot_cmp d)
+      ∙ (ap (λ (t : DotSet). set.contains t d) (sym nothing) ∙ h)))
 
   module _ (m : MarkedMap X) (s : DotSet) (F : MarkedMap X) (is : marked m s ≡ F) where
     pub at : (q : Dot) → map.get F q ≡ cond (set.contains s q) (Some None) (map.get m q)
@@ -96,29 +101,36 @@ module _ {X : Type 0} where
     pub same_marked : (n : MarkedMap X) (t : DotSet) (G : MarkedMap X)
         → ((q : Dot) → cond (set.contains t q) (Some None) (map.get n q) ≡ map.get G q)
         → marked n t ≡ G
-    same_marked n t G h = map.same_map dot_cmp_total dot_cmp-IsAntisymmetric _ _ (λ q. get_marked n t q ∙ h q)
+    same_marked n t G h =
+        map.same_map dot_cmp_total dot_cmp-IsAntisymmetric _ _ (λ q. get_marked n t q ∙ h q)
 
     -- ---- a value is put
 
-    module _ (n : MarkedMap X) (d : Dot) (x : Option X) (free : map.get F d ≡ None) (put : n ≡ map.insert m d x) where
+    module _ (n : MarkedMap X) (d : Dot) (x : Option X) (free : map.get F d ≡ None)
+        (put : n ≡ map.insert m d x) where
       get_put : (q : Dot) → map.get n q ≡ cond (eq_by_cmp dot_cmp q d) (Some x) (map.get m q)
       get_put q = ap (λ (y : MarkedMap X). map.get y q) put ∙ map.get-insert dot_cmp_total m d x q
 
       pub put_marked : marked n s ≡ map.insert F d x
-      put_marked = same_marked n s (map.insert F d x) (λ q. at_put q ∙ sym (map.get-insert dot_cmp_total F d x q))
+      put_marked = same_marked n s (map.insert F d x)
+          (λ q. at_put q ∙ sym (map.get-insert dot_cmp_total F d x q))
         where
           at_put : (q : Dot)
-              → cond (set.contains s q) (Some None) (map.get n q) ≡ cond (eq_by_cmp dot_cmp q d) (Some x) (map.get F q)
+              → cond (set.contains s q) (Some None) (map.get n q)
+              ≡ cond (eq_by_cmp dot_cmp q d) (Some x) (map.get F q)
           at_put q = elim (cases_Bool (eq_by_cmp dot_cmp q d)) [
             | inl same ↦
-                cond-false _ _ _ (ap (set.contains s) (tied q d same) ∙ free_run d free) ∙ get_put q ∙ cond-true _ _ _ same ∙ sym (cond-true _ _ _ same)
+                cond-false _ _ _ (ap (set.contains s) (tied q d same) ∙ free_run d free) ∙ get_put q
+                ∙ cond-true _ _ _ same ∙ sym (cond-true _ _ _ same)
             | inr apart ↦
-                ap (cond (set.contains s q) (Some None)) (get_put q ∙ cond-false _ _ _ apart) ∙ sym (at q) ∙ sym (cond-false _ _ _ apart)
+                ap (cond (set.contains s q) (Some None)) (get_put q ∙ cond-false _ _ _ apart)
+                ∙ sym (at q) ∙ sym (cond-false _ _ _ apart)
           ]
 
       pub put_apart : AreApart m s → AreApart n s
       put_apart apart q on = elim (cases_Bool (eq_by_cmp dot_cmp q d)) [
-        | inl same ↦ absurd (false≢true (sym (free_run d free) ∙ (ap (set.contains s) (sym (tied q d same)) ∙ on)))
+        | inl same ↦ absurd
+            (false≢true (sym (free_run d free) ∙ (ap (set.contains s) (sym (tied q d same)) ∙ on)))
         | inr other ↦ get_put q ∙ cond-false _ _ _ other ∙ apart q on
       ]
 
@@ -126,7 +138,8 @@ module _ {X : Type 0} where
 
     module _ (t : DotSet) (d : Dot) (add : t ≡ set.insert s d) where
       has_added : (q : Dot) → set.contains t q ≡ (eq_by_cmp dot_cmp q d || set.contains s q)
-      has_added q = ap (λ (y : DotSet). set.contains y q) add ∙ set.contains-insert dot_cmp_total s d q
+      has_added q =
+          ap (λ (y : DotSet). set.contains y q) add ∙ set.contains-insert dot_cmp_total s d q
 
       pub mark_marked : marked m t ≡ map.insert F d None
       mark_marked = same_marked m t (map.insert F d None) (λ q.
@@ -138,31 +151,41 @@ module _ {X : Type 0} where
       pub mark_apart : map.get m d ≡ None → AreApart m s → AreApart m t
       mark_apart free apart q on = elim (cases_Bool (eq_by_cmp dot_cmp q d)) [
         | inl same ↦ ap (map.get m) (tied q d same) ∙ free
-        | inr other ↦ apart q (sym (has_added q ∙ ap (λ (b : Bool). b || set.contains s q) other) ∙ on)
+        | inr other ↦
+            apart q (sym (has_added q ∙ ap (λ (b : Bool). b || set.contains s q) other) ∙ on)
       ]
 
     -- ---- a mark takes the place of what is at a dot
 
-    module _ (n : MarkedMap X) (d : Dot) (set' : (q : Dot) → map.get n q ≡ cond (eq_by_cmp dot_cmp q d) (option_map (λ _. no_value) (map.get m q)) (map.get m q)) where
+    module _ (n : MarkedMap X) (d : Dot)
+        (set' : (q : Dot)
+        → map.get n q
+        ≡ cond (eq_by_cmp dot_cmp q d) (option_map (λ _. no_value) (map.get m q))
+        (map.get m q)) where
       -- on the page alone
       pub over_marked : IsSome (map.get F d) → marked n s ≡ map.insert F d None
-      over_marked there = same_marked n s (map.insert F d None) (λ q. at_over q ∙ sym (map.get-insert dot_cmp_total F d None q))
+      over_marked there = same_marked n s (map.insert F d None)
+          (λ q. at_over q ∙ sym (map.get-insert dot_cmp_total F d None q))
         where
           over : (o : Option (Option X)) → IsSome o → option_map (λ _. no_value) o ≡ Some no_value
           over None h = absurd (false≢true h)
           over (Some y) h = refl
 
           at_over : (q : Dot)
-              → cond (set.contains s q) (Some None) (map.get n q) ≡ cond (eq_by_cmp dot_cmp q d) (Some None) (map.get F q)
+              → cond (set.contains s q) (Some None) (map.get n q)
+              ≡ cond (eq_by_cmp dot_cmp q d) (Some None) (map.get F q)
           at_over q = elim (cases_Bool (eq_by_cmp dot_cmp q d)) [
             | inl same ↦ elim (cases_Bool (set.contains s q)) [
               | inl on ↦ cond-true _ _ _ on ∙ sym (cond-true _ _ _ same)
               | inr off ↦
-                  let here : IsSome (map.get m q) = subst IsSome (ap (map.get F) (sym (tied q d same)) ∙ at_page q off) there in
-                  cond-false _ _ _ off ∙ set' q ∙ cond-true _ _ _ same ∙ over (map.get m q) here ∙ sym (cond-true _ _ _ same)
+                  let here : IsSome (map.get m q) =
+                  subst IsSome (ap (map.get F) (sym (tied q d same)) ∙ at_page q off) there in
+                  cond-false _ _ _ off ∙ set' q ∙ cond-true _ _ _ same ∙ over (map.get m q) here
+                  ∙ sym (cond-true _ _ _ same)
             ]
             | inr apart ↦
-                ap (cond (set.contains s q) (Some None)) (set' q ∙ cond-false _ _ _ apart) ∙ sym (at q) ∙ sym (cond-false _ _ _ apart)
+                ap (cond (set.contains s q) (Some None)) (set' q ∙ cond-false _ _ _ apart)
+                ∙ sym (at q) ∙ sym (cond-false _ _ _ apart)
           ]
 
       pub over_apart : AreApart m s → AreApart n s
@@ -174,52 +197,68 @@ module _ {X : Type 0} where
           none_over false none = none
 
       -- in the runs, and on no page
-      module _ (k : MarkedMap X) (t : DotSet) (add : t ≡ set.insert s d) (gone : k ≡ map.remove n d) where
+      module _ (k : MarkedMap X) (t : DotSet) (add : t ≡ set.insert s d)
+          (gone : k ≡ map.remove n d) where
         get_gone : (q : Dot) → map.get k q ≡ cond (eq_by_cmp dot_cmp q d) None (map.get m q)
         get_gone q =
             ap (λ (y : MarkedMap X). map.get y q) gone ∙ map.get-remove dot_cmp_total n d q
             ∙ elim (cases_Bool (eq_by_cmp dot_cmp q d)) [
               | inl same ↦ cond-true _ _ _ same ∙ sym (cond-true _ _ _ same)
-              | inr apart ↦ cond-false _ _ _ apart ∙ set' q ∙ cond-false _ _ _ apart ∙ sym (cond-false _ _ _ apart)
+              | inr apart ↦ cond-false _ _ _ apart ∙ set' q ∙ cond-false _ _ _ apart
+                  ∙ sym (cond-false _ _ _ apart)
             ]
 
         pub moved_marked : marked k t ≡ map.insert F d None
-        moved_marked = same_marked k t (map.insert F d None) (λ q. at_moved q ∙ sym (map.get-insert dot_cmp_total F d None q))
+        moved_marked = same_marked k t (map.insert F d None)
+            (λ q. at_moved q ∙ sym (map.get-insert dot_cmp_total F d None q))
           where
             at_moved : (q : Dot)
-                → cond (set.contains t q) (Some None) (map.get k q) ≡ cond (eq_by_cmp dot_cmp q d) (Some None) (map.get F q)
+                → cond (set.contains t q) (Some None) (map.get k q)
+                ≡ cond (eq_by_cmp dot_cmp q d) (Some None) (map.get F q)
             at_moved q = elim (cases_Bool (eq_by_cmp dot_cmp q d)) [
-              | inl same ↦ cond-true _ _ _ (has_added t d add q ∙ or_left _ _ same) ∙ sym (cond-true _ _ _ same)
+              | inl same ↦ cond-true _ _ _ (has_added t d add q ∙ or_left _ _ same)
+                  ∙ sym (cond-true _ _ _ same)
               | inr apart ↦
-                  ap (λ (b : Bool). cond b (Some None) (map.get k q)) (has_added t d add q ∙ ap (λ (b : Bool). b || set.contains s q) apart)
-                  ∙ ap (cond (set.contains s q) (Some None)) (get_gone q ∙ cond-false _ _ _ apart) ∙ sym (at q) ∙ sym (cond-false _ _ _ apart)
+                  ap (λ (b : Bool). cond b (Some None) (map.get k q))
+                  (has_added t d add q ∙ ap (λ (b : Bool). b || set.contains s q) apart)
+                  ∙ ap (cond (set.contains s q) (Some None)) (get_gone q ∙ cond-false _ _ _ apart)
+                  ∙ sym (at q) ∙ sym (cond-false _ _ _ apart)
             ]
 
         pub moved_apart : AreApart m s → AreApart k t
         moved_apart apart q on = elim (cases_Bool (eq_by_cmp dot_cmp q d)) [
           | inl same ↦ get_gone q ∙ cond-true _ _ _ same
-          | inr other ↦ get_gone q ∙ cond-false _ _ _ other ∙ apart q (sym (has_added t d add q ∙ ap (λ (b : Bool). b || set.contains s q) other) ∙ on)
+          | inr other ↦ get_gone q ∙ cond-false _ _ _ other
+              ∙ apart q
+              (sym (has_added t d add q ∙ ap (λ (b : Bool). b || set.contains s q) other) ∙ on)
         ]
 
     -- a mark is moved from its page to the runs
-    module _ (k : MarkedMap X) (t : DotSet) (d : Dot) (here : map.get m d ≡ Some no_value) (add : t ≡ set.insert s d) (gone : k ≡ map.remove m d) where
+    module _ (k : MarkedMap X) (t : DotSet) (d : Dot) (here : map.get m d ≡ Some no_value)
+        (add : t ≡ set.insert s d) (gone : k ≡ map.remove m d) where
       itself : (q : Dot)
-          → map.get m q ≡ cond (eq_by_cmp dot_cmp q d) (option_map (λ _. no_value) (map.get m q)) (map.get m q)
+          → map.get m q
+          ≡ cond (eq_by_cmp dot_cmp q d) (option_map (λ _. no_value) (map.get m q)) (map.get m q)
       itself q = elim (cases_Bool (eq_by_cmp dot_cmp q d)) [
         | inl same ↦
-            (ap (map.get m) (tied q d same) ∙ here) ∙ ap (option_map (λ _. no_value)) (sym (ap (map.get m) (tied q d same) ∙ here)) ∙ sym (cond-true _ _ _ same)
+            (ap (map.get m) (tied q d same) ∙ here)
+            ∙ ap (option_map (λ _. no_value)) (sym (ap (map.get m) (tied q d same) ∙ here))
+            ∙ sym (cond-true _ _ _ same)
         | inr apart ↦ sym (cond-false _ _ _ apart)
       ]
 
       pub shift_marked : AreApart m s → marked k t ≡ F
-      shift_marked apart = moved_marked m d itself k t add gone ∙ held_mark F d (page_is apart d no_value here)
+      shift_marked apart =
+          moved_marked m d itself k t add gone ∙ held_mark F d (page_is apart d no_value here)
         where
           held_mark : (G : MarkedMap X) (d : Dot) → map.get G d ≡ Some no_value
               → map.insert G d None ≡ G
-          held_mark G d h = map.same_map dot_cmp_total dot_cmp-IsAntisymmetric _ _ (λ q. map.get-insert dot_cmp_total G d None q ∙ elim (cases_Bool (eq_by_cmp dot_cmp q d)) [
-            | inl same ↦ cond-true _ _ _ same ∙ sym (ap (map.get G) (tied q d same) ∙ h)
-            | inr other ↦ cond-false _ _ _ other
-          ])
+          held_mark G d h = map.same_map dot_cmp_total dot_cmp-IsAntisymmetric _ _
+              (λ q. map.get-insert dot_cmp_total G d None q
+              ∙ elim (cases_Bool (eq_by_cmp dot_cmp q d)) [
+                | inl same ↦ cond-true _ _ _ same ∙ sym (ap (map.get G) (tied q d same) ∙ h)
+                | inr other ↦ cond-false _ _ _ other
+              ])
 
       pub shift_apart : AreApart m s → AreApart k t
       shift_apart apart = moved_apart m d itself k t add gone apart
@@ -248,22 +287,28 @@ module _ {X : Type 0} where
 
     module _ (k : MarkedMap X) (d : Dot) (gone : k ≡ map.remove m d) where
       pub taken_marked : set.contains s d ≡ false → marked k s ≡ map.remove F d
-      taken_marked off = same_marked k s (map.remove F d) (λ q. at_taken q ∙ sym (map.get-remove dot_cmp_total F d q))
+      taken_marked off = same_marked k s (map.remove F d)
+          (λ q. at_taken q ∙ sym (map.get-remove dot_cmp_total F d q))
         where
           at_taken : (q : Dot)
-              → cond (set.contains s q) (Some None) (map.get k q) ≡ cond (eq_by_cmp dot_cmp q d) None (map.get F q)
+              → cond (set.contains s q) (Some None) (map.get k q)
+              ≡ cond (eq_by_cmp dot_cmp q d) None (map.get F q)
           at_taken q = elim (cases_Bool (eq_by_cmp dot_cmp q d)) [
             | inl same ↦
                 cond-false _ _ _ (ap (set.contains s) (tied q d same) ∙ off)
-                ∙ ap (λ (y : MarkedMap X). map.get y q) gone ∙ map.get-remove dot_cmp_total m d q ∙ cond-true _ _ _ same ∙ sym (cond-true _ _ _ same)
+                ∙ ap (λ (y : MarkedMap X). map.get y q) gone ∙ map.get-remove dot_cmp_total m d q
+                ∙ cond-true _ _ _ same ∙ sym (cond-true _ _ _ same)
             | inr apart ↦
-                ap (cond (set.contains s q) (Some None)) (ap (λ (y : MarkedMap X). map.get y q) gone ∙ map.get-remove dot_cmp_total m d q ∙ cond-false _ _ _ apart)
+                ap (cond (set.contains s q) (Some None))
+                (ap (λ (y : MarkedMap X). map.get y q) gone ∙ map.get-remove dot_cmp_total m d q
+                ∙ cond-false _ _ _ apart)
                 ∙ sym (at q) ∙ sym (cond-false _ _ _ apart)
           ]
 
       pub taken_apart : AreApart m s → AreApart k s
       taken_apart apart q on =
-          ap (λ (y : MarkedMap X). map.get y q) gone ∙ map.get-remove dot_cmp_total m d q ∙ none_taken (eq_by_cmp dot_cmp q d) (apart q on)
+          ap (λ (y : MarkedMap X). map.get y q) gone ∙ map.get-remove dot_cmp_total m d q
+          ∙ none_taken (eq_by_cmp dot_cmp q d) (apart q on)
         where
           none_taken : (b : Bool) → map.get m q ≡ None → cond b None (map.get m q) ≡ None
           none_taken true none = refl
@@ -275,96 +320,3 @@ module _ {X : Type 0} where
   not_taken F d None h = (refl, refl)
   not_taken F d (Some None) h = (refl, refl)
   not_taken F d (Some (Some x)) h = absurd (false≢true (sym h))
-
--- ---- walks
-
-below_both : (q a d : Dot) → is_lt (dot_cmp a d) ≡ true → is_lt (dot_cmp q d) ≡ false
-    → is_lt (dot_cmp q a) ≡ false
-below_both q a d h i = grind (arith, nat_tests)
-
-above_both : (q a d : Dot) → is_lt (dot_cmp a d) ≡ false → is_lt (dot_cmp q a) ≡ false
-    → is_lt (dot_cmp q d) ≡ false
-above_both q a d h i = grind (arith, nat_tests)
-
-module _ {X : Type 0} (m : MarkedMap X) (s : DotSet) (F : MarkedMap X) (is : marked m s ≡ F) (apart : AreApart m s) where
-  -- a dot that is not free is in a run, or on a page
-  known_at : (q : Dot) → IsSome (map.get F q) → (set.contains s q ≡ true) ⊎ IsSome (map.get m q)
-  known_at q h = elim (cases_Bool (set.contains s q)) [
-    | inl on ↦ inl on
-    | inr off ↦ inr (subst IsSome (at_page m s F is q off) h)
-  ]
-
-  free_at : (q : Dot) → set.contains s q ≡ false → map.get m q ≡ None → map.get F q ≡ None
-  free_at q off none = at_page m s F is q off ∙ none
-
-  near_mark : (after : Option Dot) (a : Dot) → IsNextIn s after (Some a)
-      → ((q : Dot) → IsAbove after q → IsSome (map.get m q) → is_lt (dot_cmp q a) ≡ false)
-      → IsNext F after (Some (a, None))
-  near_mark after a next pages = record {
-    held = at_run m s F is a next.0;
-    above = next.1;
-    least = λ q up some. elim (known_at q some) [ inl on ↦ next.2 q up on | inr here ↦ pages q up here ];
-  }
-
-  near_place : (after : Option Dot) (p : Dot × Option X) → IsNext m after (Some p)
-      → ((q : Dot) → IsAbove after q → set.contains s q ≡ true → is_lt (dot_cmp q p.0) ≡ false)
-      → IsNext F after (Some p)
-  near_place after p next runs = record {
-    held = page_is m s F is apart p.0 p.1 next.held;
-    above = next.above;
-    least = λ q up some. elim (known_at q some) [ inl on ↦ runs q up on | inr here ↦ next.least q up here ];
-  }
-
-  pub next_mark : (after : Option Dot) (a : Dot) (p : Dot × Option X) → IsNextIn s after (Some a)
-      → IsNext m after (Some p) → is_lt (dot_cmp a p.0) ≡ true → IsNext F after (Some (a, None))
-  next_mark after a p mark place lt = near_mark after a mark (λ q up some. below_both q a p.0 lt (place.least q up some))
-
-  pub next_place : (after mark : Option Dot) (p : Dot × Option X) → IsNextIn s after mark
-      → IsNext m after (Some p) → ((a : Dot) → mark ≡ Some a → is_lt (dot_cmp a p.0) ≡ false)
-      → IsNext F after (Some p)
-  next_place after None p mark place ge = near_place after p place (λ q up on. absurd (false≢true (sym (mark q up) ∙ on)))
-  next_place after (Some a) p mark place ge = near_place after p place (λ q up on. above_both q a p.0 (ge a refl) (mark.2 q up on))
-
-  pub next_mark_alone : (after : Option Dot) (a : Dot) → IsNextIn s after (Some a)
-      → IsNext m after None → IsNext F after (Some (a, None))
-  next_mark_alone after a mark place = near_mark after a mark (λ q up some. absurd (none_some (map.get m q) (place q up) some))
-
-  pub next_none : (after : Option Dot) → IsNextIn s after None → IsNext m after None
-      → IsNext F after None
-  next_none after mark place q up = free_at q (mark q up) (place q up)
-
-  pub passes_is : (after : Option Dot) (r : Option (Dot × Option X)) → IsNext m after r
-      → Passes F after r
-  passes_is after None next = λ q x up h. none_some (map.get m q) (next q up) (ap is_some (value_on m s F is q x h))
-  passes_is after (Some p) next = (page_is m s F is apart p.0 p.1 next.held, next.above, λ q x up h. next.least q up (ap is_some (value_on m s F is q x h)))
-
-  pub last_is : (r a b n : ℕ) → IsLast m r a → IsLastIn s r b → n ≡ max a b → IsLast F r n
-  last_is r a b n page run e = record {
-    there = λ some. at_last some (cases_lt a b);
-    greatest = λ q region some. elim (known_at q some) [
-      | inl on ↦ (let le : q.serial ≤ b = run.greatest q.serial (subst (λ (x : Dot). set.contains s x ≡ true) (dot_is q (dot_of r q.serial) region refl) on) in omega (arith, le, e))
-      | inr here ↦ (let le : q.serial ≤ a = page.greatest q region here in omega (arith, le, e))
-    ];
-  }
-    where
-      at_last : 0 < n → (a < b) ⊎ (b ≤ a) → IsSome (map.get F (dot_of r n))
-      at_last some (inl lt) =
-          let same : b ≡ n = omega (arith, lt, e) in
-          ap is_some (at_run m s F is (dot_of r n) (subst (λ (k : ℕ). set.contains s (dot_of r k) ≡ true) same (run.there (omega (arith, same, some)))))
-      at_last some (inr ge) =
-          let same : a ≡ n = omega (arith, ge, e) in
-          by_value (map.get m (dot_of r n)) refl (subst (λ (k : ℕ). IsSome (map.get m (dot_of r k))) same (page.there (omega (arith, same, some))))
-        where
-          by_value : (o : Option (Option X)) → map.get m (dot_of r n) ≡ o → IsSome o
-              → IsSome (map.get F (dot_of r n))
-          by_value None here h = absurd (false≢true h)
-          by_value (Some x) here h = ap is_some (page_is m s F is apart (dot_of r n) x here)
-
--- what is passed on is what was found
-pub passes_copied : {X : Type 0} (F : MarkedMap X) (after : Option Dot) (d : Dot) (x o : Option X)
-    → o ≡ x → Passes F after (Some (d, x)) → Passes F after (Some (d, o))
-passes_copied F after d x o e h = (h.0 ∙ ap (λ y. Some y) (sym e), h.1, h.2)
-
-pub next_copied : {X : Type 0} (F : MarkedMap X) (after : Option Dot) (d : Dot) (x o : Option X)
-    → o ≡ x → IsNext F after (Some (d, x)) → IsNext F after (Some (d, o))
-next_copied F after d x o e h = record { held = h.held ∙ ap (λ y. Some y) (sym e); above = h.above; least = h.least }

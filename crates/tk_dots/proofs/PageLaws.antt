@@ -23,7 +23,8 @@ turned k q off = elim (cases_Bool (eq_by_cmp dot_cmp q k)) [
   | inr apart ↦ apart
 ]
 
-module _ {X : Type 0} (m n : Pages X) (k0 : Dot) (w : Option (Slots X)) (updates : (q : Dot) → get dot_cmp n q ≡ cond (is_at (dot_cmp k0) q) w (get dot_cmp m q)) where
+module _ {X : Type 0} (m n : Pages X) (k0 : Dot) (w : Option (Slots X))
+    (updates : (q : Dot) → get dot_cmp n q ≡ cond (is_at (dot_cmp k0) q) w (get dot_cmp m q)) where
   pub cells_updated : (at : ℕ) (o : Option X)
       → ((j : ℕ) → slot_in w j ≡ cond (j == at) o (cell m k0 j))
       → (k : Dot) (j : ℕ) → cell n k j ≡ cond (eq_by_cmp dot_cmp k k0 && (j == at)) o (cell m k j)
@@ -40,7 +41,8 @@ module _ {X : Type 0} (m n : Pages X) (k0 : Dot) (w : Option (Slots X)) (updates
 
   pub pages_updated : IsPages m → ((v : Slots X) → w ≡ Some v → IsPage k0 v.items) → IsPages n
   pages_updated pages here k v at = elim (cases_Bool (is_at (dot_cmp k0) k)) [
-    | inl same ↦ subst (λ (q : Dot). IsPage q v.items) (tied k0 k same) (here v (sym (updates k ∙ cond-true _ _ _ same) ∙ at))
+    | inl same ↦ subst (λ (q : Dot). IsPage q v.items) (tied k0 k same)
+        (here v (sym (updates k ∙ cond-true _ _ _ same) ∙ at))
     | inr apart ↦ pages k v (sym (updates k ∙ cond-false _ _ _ apart) ∙ at)
   ]
 
@@ -49,7 +51,8 @@ pub cells_kept : {X : Type 0} (m n : Pages X) (k0 : Dot) (w : Slots X)
     → ((q : Dot) → get dot_cmp n q ≡ cond (is_at (dot_cmp k0) q) (Some w) (get dot_cmp m q))
     → ((j : ℕ) → get_or w.items j None ≡ cell m k0 j) → (k : Dot) (j : ℕ) → cell n k j ≡ cell m k j
 cells_kept {X} m n k0 w updates same k j = elim (cases_Bool (is_at (dot_cmp k0) k)) [
-  | inl here ↦ ap (λ (p : Option (Slots X)). slot_in p j) (updates k ∙ cond-true _ _ _ here) ∙ same j ∙ ap (λ (q : Dot). cell m q j) (tied k0 k here)
+  | inl here ↦ ap (λ (p : Option (Slots X)). slot_in p j) (updates k ∙ cond-true _ _ _ here)
+      ∙ same j ∙ ap (λ (q : Dot). cell m q j) (tied k0 k here)
   | inr apart ↦ ap (λ (p : Option (Slots X)). slot_in p j) (updates k ∙ cond-false _ _ _ apart)
 ]
 
@@ -60,8 +63,10 @@ cond_twice false x y z = refl
 -- a page that was written is taken out
 pub taken_out : {X : Type 0} (m l n : Pages X) (k0 : Dot) (w : Slots X)
     → ((q : Dot) → get dot_cmp l q ≡ cond (is_at (dot_cmp k0) q) (Some w) (get dot_cmp m q))
-    → ((q : Dot) → get dot_cmp n q ≡ cond (is_at (dot_cmp k0) q) None (get dot_cmp l q)) → (q : Dot) → get dot_cmp n q ≡ cond (is_at (dot_cmp k0) q) None (get dot_cmp m q)
-taken_out m l n k0 w there gone q = gone q ∙ ap (cond (is_at (dot_cmp k0) q) None) (there q) ∙ cond_twice (is_at (dot_cmp k0) q) None (Some w) (get dot_cmp m q)
+    → ((q : Dot) → get dot_cmp n q ≡ cond (is_at (dot_cmp k0) q) None (get dot_cmp l q)) → (q : Dot)
+    → get dot_cmp n q ≡ cond (is_at (dot_cmp k0) q) None (get dot_cmp m q)
+taken_out m l n k0 w there gone q = gone q ∙ ap (cond (is_at (dot_cmp k0) q) None) (there q)
+    ∙ cond_twice (is_at (dot_cmp k0) q) None (Some w) (get dot_cmp m q)
 
 -- equal look-ups
 pub same_lookups : {X : Type 0} (m n : Pages X) → n.entries ≡ m.entries → (q : Dot)
@@ -88,10 +93,13 @@ module _ {X : Type 0} (k : Dot) where
       → ((j : ℕ) → get_or os j None ≡ cond (j == at) (Some x) None) → IsPage k os
   page_one os at x below low high len is = record {
     some = omega (arith, len);
-    full = λ some. ap is_some (ap (λ (i : ℕ). get_or os i None) (last (length os) len) ∙ is at ∙ cond-true _ _ _ (nat_is at at refl));
+    full = λ some. ap is_some
+        (ap (λ (i : ℕ). get_or os i None) (last (length os) len) ∙ is at
+        ∙ cond-true _ _ _ (nat_is at at refl));
     short = omega (arith, len, below);
     high = omega (arith, len, high);
-    low = λ first. is 0 ∙ cond-false _ _ _ (not_at 0 at (λ same. absurd (omega (arith, low, first, same))));
+    low = λ first.
+        is 0 ∙ cond-false _ _ _ (not_at 0 at (λ same. absurd (omega (arith, low, first, same))));
   }
     where
       last : (n : ℕ) → n ≡ at + 1 → n - 1 ≡ at
@@ -101,10 +109,15 @@ module _ {X : Type 0} (k : Dot) where
     -- the last place, at another place than the one that was written
     kept : (o : Option X) → ((j : ℕ) → get_or os j None ≡ cond (j == at) o (get_or old j None))
         → (i : ℕ) → i ≢ at → i ≡ length old - 1 → IsSome (get_or os i None)
-    kept o is i other last = subst IsSome (sym (is i ∙ cond-false _ _ _ (test i other) ∙ ap (λ (j : ℕ). get_or old j None) last)) (page.full page.some)
+    kept o is i other last = subst IsSome
+        (sym (is i ∙ cond-false _ _ _ (test i other) ∙ ap (λ (j : ℕ). get_or old j None) last))
+        (page.full page.some)
       where
         test : (i : ℕ) → i ≢ at → (i == at) ≡ false
-        test i ne = elim (cases_Bool (i == at)) [ inl same ↦ absurd (ne (nat_same i at same)) | inr apart ↦ apart ]
+        test i ne = elim (cases_Bool (i == at)) [
+          | inl same ↦ absurd (ne (nat_same i at same))
+          | inr apart ↦ apart
+        ]
 
     pub page_put : (x : X) → at < span → 0 < (k.serial - 1) * span + at
         → (k.serial - 1) * span + at ≤ greatest_serial → length os ≡ max (length old) (at + 1)
@@ -114,26 +127,35 @@ module _ {X : Type 0} (k : Dot) where
       full = λ some. elim (cases_Bool ((length os - 1) == at)) [
         | inl same ↦ ap is_some (is (length os - 1) ∙ cond-true _ _ _ same)
         | inr apart ↦
-            let other : length os - 1 ≢ at = (λ e. absurd (false≢true (sym apart ∙ nat_is (length os - 1) at e))) in
+            let other : length os - 1 ≢ at =
+            (λ e. absurd (false≢true (sym apart ∙ nat_is (length os - 1) at e))) in
             kept (Some x) is (length os - 1) other (omega (arith, len, other))
       ];
       short = let s = page.short in omega (arith, len, below, s);
       high = let h = page.high in omega (arith, len, high, h);
-      low = λ first. is 0 ∙ cond-false _ _ _ (not_at 0 at (λ same. absurd (omega (arith, low, first, same)))) ∙ page.low first;
+      low = λ first. is 0
+          ∙ cond-false _ _ _ (not_at 0 at (λ same. absurd (omega (arith, low, first, same))))
+          ∙ page.low first;
     }
 
     pub page_set : (x : X) → length os ≡ length old
-        → ((j : ℕ) → get_or os j None ≡ cond (j == at) (cond (is_some (get_or old at None)) (Some x) None) (get_or old j None)) → IsPage k os
+        → ((j : ℕ) → get_or os j None
+        ≡ cond (j == at) (cond (is_some (get_or old at None)) (Some x) None) (get_or old j None))
+        → IsPage k os
     page_set x len is = record {
       some = let s = page.some in omega (arith, len, s);
       full = λ some. elim (cases_Bool ((length os - 1) == at)) [
         | inl same ↦
-            let e : at ≡ length old - 1 = sym (nat_same (length os - 1) at same) ∙ ap (λ (i : ℕ). i - 1) len in
-            let there : is_some (get_or old at None) ≡ true = subst (λ (i : ℕ). IsSome (get_or old i None)) (sym e) (page.full page.some) in
+            let e : at ≡ length old - 1 =
+            sym (nat_same (length os - 1) at same) ∙ ap (λ (i : ℕ). i - 1) len in
+            let there : is_some (get_or old at None) ≡ true =
+            subst (λ (i : ℕ). IsSome (get_or old i None)) (sym e) (page.full page.some) in
             ap is_some (is (length os - 1) ∙ cond-true _ _ _ same ∙ cond-true _ _ _ there)
         | inr apart ↦
-            let other : length os - 1 ≢ at = (λ e. absurd (false≢true (sym apart ∙ nat_is (length os - 1) at e))) in
-            kept (cond (is_some (get_or old at None)) (Some x) None) is (length os - 1) other (ap (λ (i : ℕ). i - 1) len)
+            let other : length os - 1 ≢ at =
+            (λ e. absurd (false≢true (sym apart ∙ nat_is (length os - 1) at e))) in
+            kept (cond (is_some (get_or old at None)) (Some x) None) is (length os - 1) other
+            (ap (λ (i : ℕ). i - 1) len)
       ];
       short = let s = page.short in omega (arith, len, s);
       high = let h = page.high in omega (arith, len, h);
@@ -142,7 +164,8 @@ module _ {X : Type 0} (k : Dot) where
       where
         none_set : (b : Bool) → (b ≡ true → 0 ≡ at) → get_or old 0 None ≡ None
             → cond b (cond (is_some (get_or old at None)) (Some x) None) (get_or old 0 None) ≡ None
-        none_set true same none = ap (λ (o : Option X). cond (is_some o) (Some x) None) (ap (λ (j : ℕ). get_or old j None) (sym (same refl)) ∙ none)
+        none_set true same none = ap (λ (o : Option X). cond (is_some o) (Some x) None)
+            (ap (λ (j : ℕ). get_or old j None) (sym (same refl)) ∙ none)
         none_set false same none = none
 
     pub page_taken : length os ≤ length old

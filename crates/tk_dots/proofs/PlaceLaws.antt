@@ -28,7 +28,8 @@ tied q d h = dot_cmp-IsAntisymmetric q d (equal_of (dot_cmp q d) h)
     equal_of Greater e = absurd (false≢true e)
 
 pub tied_same : (q d : Dot) → q ≡ d → eq_by_cmp dot_cmp q d ≡ true
-tied_same q d e = subst (λ (x : Dot). eq_by_cmp dot_cmp q x ≡ true) e (ap is_eq (tied_itself dot_cmp_total q))
+tied_same q d e =
+    subst (λ (x : Dot). eq_by_cmp dot_cmp q x ≡ true) e (ap is_eq (tied_itself dot_cmp_total q))
 
 pub dot_is : (q d : Dot) → q.region ≡ d.region → q.serial ≡ d.serial → q ≡ d
 dot_is q d e f = λ i. record { region = e i; serial = f i }
@@ -60,8 +61,11 @@ module _ {X : Type 0} where
             let at : n ≡ q.serial % span = omega (arith, is, page) in
             cond-true _ _ _ same ∙ ap (λ (i : ℕ). get_or os i None) at
         | inr apart ↦
-            let other : q.serial % span ≢ n = (λ e. absurd (false≢true (sym apart ∙ tied_same q d (dot_is q d region (omega (arith, page, e)))))) in
-            cond-false _ _ _ apart ∙ here_places r p os n m q (omega arith) region page (omega (arith, other, below))
+            let other : q.serial % span ≢ n = (λ e.
+            absurd (false≢true
+            (sym apart ∙ tied_same q d (dot_is q d region (omega (arith, page, e)))))) in
+            cond-false _ _ _ apart
+            ∙ here_places r p os n m q (omega arith) region page (omega (arith, other, below))
       ]
 
   -- any other dot
@@ -81,20 +85,34 @@ module _ {X : Type 0} where
       ]
 
   get_page : (r s : ℕ) (os : List (Option X)) (m : map.FinMap dot_cmp X) (q : Dot)
-      → map.get (with_page r s os m) q ≡ cond (eq_by_cmp dot_cmp (page_of q) (record { region = r; serial = s })) (get_or os (q.serial % span) None) (map.get m q)
+      → map.get (with_page r s os m) q
+      ≡ cond (eq_by_cmp dot_cmp (page_of q) (record { region = r; serial = s }))
+      (get_or os (q.serial % span) None) (map.get m q)
   unfolding with_page
-  get_page r zero os m q = elim (cases_Bool (eq_by_cmp dot_cmp (page_of q) (record { region = r; serial = zero }))) [
-    | inl same ↦ let e : q.serial / span + 1 ≡ 0 = ap (λ (x : Dot). x.serial) (tied (page_of q) _ same) in absurd (omega arith)
-    | inr apart ↦ sym (cond-false _ _ _ apart)
-  ]
-  get_page r (suc p) os m q = elim (cases_Bool (eq_by_cmp dot_cmp (page_of q) (record { region = r; serial = suc p }))) [
-    | inl same ↦
-        let e : q.serial / span + 1 ≡ suc p = ap (λ (x : Dot). x.serial) (tied (page_of q) _ same) in
-        here_places r p os span m q (omega arith) (ap (λ (x : Dot). x.region) (tied (page_of q) _ same)) (omega (arith, e)) (omega arith) ∙ sym (cond-true _ _ _ same)
-    | inr apart ↦
-        other_places r p os span m q (omega arith) (λ e f. absurd (false≢true (sym apart ∙ tied_same (page_of q) (record { region = r; serial = suc p }) (dot_is (page_of q) (record { region = r; serial = suc p }) e (omega (arith, f))))))
-        ∙ sym (cond-false _ _ _ apart)
-  ]
+  get_page r zero os m q =
+      elim (cases_Bool (eq_by_cmp dot_cmp (page_of q) (record { region = r; serial = zero }))) [
+        | inl same ↦
+            let e : q.serial / span + 1 ≡ 0 =
+            ap (λ (x : Dot). x.serial) (tied (page_of q) _ same) in
+            absurd (omega arith)
+        | inr apart ↦ sym (cond-false _ _ _ apart)
+      ]
+  get_page r (suc p) os m q =
+      elim (cases_Bool (eq_by_cmp dot_cmp (page_of q) (record { region = r; serial = suc p }))) [
+        | inl same ↦
+            let e : q.serial / span + 1 ≡ suc p =
+            ap (λ (x : Dot). x.serial) (tied (page_of q) _ same) in
+            here_places r p os span m q (omega arith)
+            (ap (λ (x : Dot). x.region) (tied (page_of q) _ same)) (omega (arith, e)) (omega arith)
+            ∙ sym (cond-true _ _ _ same)
+        | inr apart ↦
+            other_places r p os span m q (omega arith)
+            (λ e f. absurd
+            (false≢true
+            (sym apart ∙ tied_same (page_of q) (record { region = r; serial = suc p })
+            (dot_is (page_of q) (record { region = r; serial = suc p }) e (omega (arith, f))))))
+            ∙ sym (cond-false _ _ _ apart)
+      ]
 
   cond_slot : (b : Bool) (v : Slots X) (o : Option (Slots X)) (i : ℕ)
       → cond b (get_or v.items i None) (slot_in o i) ≡ slot_in (cond b (Some v) o) i
@@ -106,8 +124,10 @@ module _ {X : Type 0} where
   get_entries [] q = map.get-empty dot_cmp q
   get_entries (e ∷ es) q =
       get_page e.0.region e.0.serial e.1.items (seen es) q
-      ∙ ap (cond (eq_by_cmp dot_cmp (page_of q) e.0) (get_or e.1.items (q.serial % span) None)) (get_entries es q)
-      ∙ cond_slot (eq_by_cmp dot_cmp (page_of q) e.0) e.1 (lookup (is_at (dot_cmp (page_of q))) es) (q.serial % span)
+      ∙ ap (cond (eq_by_cmp dot_cmp (page_of q) e.0) (get_or e.1.items (q.serial % span) None))
+      (get_entries es q)
+      ∙ cond_slot (eq_by_cmp dot_cmp (page_of q) e.0) e.1 (lookup (is_at (dot_cmp (page_of q))) es)
+      (q.serial % span)
 
   -- the value at a dot, in the map that pages hold
   pub get_seen : (m : Pages X) (q : Dot) → map.get (seen m.entries) q ≡ cell_at m q

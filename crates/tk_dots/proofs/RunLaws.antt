@@ -39,48 +39,64 @@ within_run : (r first n : ℕ) (s : DotSet) (q : Dot) → set.contains (with_run
     → ((q.region ≡ r) × (first ≤ q.serial) × (q.serial < first + n)) ⊎ (set.contains s q ≡ true)
 unfolding with_run
 within_run r first zero s q h = inr h
-within_run r first (suc n) s q h = elim (or_cases (eq_by_cmp dot_cmp q (dot_of r (first + n))) (set.contains (with_run r first n s) q) (sym (set.contains-insert dot_cmp_total (with_run r first n s) (dot_of r (first + n)) q) ∙ h)) [
-  | inl same ↦
-      let is : q.serial ≡ first + n = ap (λ (x : Dot). x.serial) (tied q (dot_of r (first + n)) same) in
-      inl (ap (λ (x : Dot). x.region) (tied q (dot_of r (first + n)) same), omega (arith, is), omega (arith, is))
-  | inr more ↦ elim (within_run r first n s q more) [
-    | inl here ↦ inl (here.0, here.1, (let lt = here.2 in omega (arith, lt)))
-    | inr old ↦ inr old
-  ]
-]
+within_run r first (suc n) s q h = elim (or_cases (eq_by_cmp dot_cmp q (dot_of r (first + n)))
+    (set.contains (with_run r first n s) q)
+    (sym (set.contains-insert dot_cmp_total (with_run r first n s) (dot_of r (first + n)) q) ∙ h)) [
+      | inl same ↦
+          let is : q.serial ≡ first + n =
+          ap (λ (x : Dot). x.serial) (tied q (dot_of r (first + n)) same) in
+          inl (
+            ap (λ (x : Dot). x.region) (tied q (dot_of r (first + n)) same),
+            omega (arith, is),
+            omega (arith, is),
+          )
+      | inr more ↦ elim (within_run r first n s q more) [
+        | inl here ↦ inl (here.0, here.1, (let lt = here.2 in omega (arith, lt)))
+        | inr old ↦ inr old
+      ]
+    ]
 
 run_keeps : (r first n : ℕ) (s : DotSet) (q : Dot) → set.contains s q ≡ true
     → set.contains (with_run r first n s) q ≡ true
 unfolding with_run
 run_keeps r first zero s q h = h
-run_keeps r first (suc n) s q h = set.contains-insert dot_cmp_total (with_run r first n s) (dot_of r (first + n)) q ∙ or_right _ _ (run_keeps r first n s q h)
+run_keeps r first (suc n) s q h = set.contains-insert dot_cmp_total (with_run r first n s)
+    (dot_of r (first + n)) q
+    ∙ or_right _ _ (run_keeps r first n s q h)
 
 run_has : (r first n : ℕ) (s : DotSet) (q : Dot) → q.region ≡ r → first ≤ q.serial
     → q.serial < first + n → set.contains (with_run r first n s) q ≡ true
 unfolding with_run
 run_has r first zero s q region low high = absurd (omega (arith, low, high))
-run_has r first (suc n) s q region low high = set.contains-insert dot_cmp_total (with_run r first n s) (dot_of r (first + n)) q ∙ elim (cases_lt q.serial (first + n)) [
-  | inl lt ↦ or_right _ _ (run_has r first n s q region low lt)
-  | inr ge ↦ or_left _ _ (tied_same q (dot_of r (first + n)) (dot_is q (dot_of r (first + n)) region (omega (arith, ge, high))))
-]
+run_has r first (suc n) s q region low high =
+    set.contains-insert dot_cmp_total (with_run r first n s) (dot_of r (first + n)) q
+    ∙ elim (cases_lt q.serial (first + n)) [
+      | inl lt ↦ or_right _ _ (run_has r first n s q region low lt)
+      | inr ge ↦ or_left _ _
+          (tied_same q (dot_of r (first + n))
+          (dot_is q (dot_of r (first + n)) region (omega (arith, ge, high))))
+    ]
 
 -- ---- the dots of all runs
 
 covered_in : (m : Runs) (es : List (Dot × ℕ)) → All (λ e. get dot_cmp m e.0 ≡ Some e.1) es
     → (q : Dot) → set.contains (run_set es) q ≡ true → IsCovered m q
 covered_in m [] all q h = absurd (false≢true (sym (set.contains-empty dot_cmp q) ∙ h))
-covered_in m (e ∷ es) all q h = elim (within_run e.0.region e.0.serial (e.1 + 1 - e.0.serial) (run_set es) q h) [
-  | inl here ↦ record {
-    first = e.0.serial;
-    has = record {
-      last = e.1;
-      here = subst (λ (k : Dot). get dot_cmp m k ≡ Some e.1) (dot_is e.0 (dot_of q.region e.0.serial) (sym here.0) refl) (All-head (λ e. get dot_cmp m e.0 ≡ Some e.1) e es all);
-      low = here.1;
-      high = (let low = here.1 in let high = here.2 in omega (arith, low, high));
-    };
-  }
-  | inr more ↦ covered_in m es (All-tail (λ e. get dot_cmp m e.0 ≡ Some e.1) e es all) q more
-]
+covered_in m (e ∷ es) all q h =
+    elim (within_run e.0.region e.0.serial (e.1 + 1 - e.0.serial) (run_set es) q h) [
+      | inl here ↦ record {
+        first = e.0.serial;
+        has = record {
+          last = e.1;
+          here = subst (λ (k : Dot). get dot_cmp m k ≡ Some e.1)
+              (dot_is e.0 (dot_of q.region e.0.serial) (sym here.0) refl)
+              (All-head (λ e. get dot_cmp m e.0 ≡ Some e.1) e es all);
+          low = here.1;
+          high = (let low = here.1 in let high = here.2 in omega (arith, low, high));
+        };
+      }
+      | inr more ↦ covered_in m es (All-tail (λ e. get dot_cmp m e.0 ≡ Some e.1) e es all) q more
+    ]
 
 has_in : (es : List (Dot × ℕ)) (k : Dot) (last : ℕ) → lookup (is_at (dot_cmp k)) es ≡ Some last
     → (q : Dot) → q.region ≡ k.region → k.serial ≤ q.serial → q.serial ≤ last
@@ -91,8 +107,11 @@ has_in (e ∷ es) k last at q region low high = elim (cases_Bool (is_at (dot_cmp
       let is : k ≡ e.0 = tied k e.0 same in
       let end : e.1 ≡ last = some_same e.1 last (sym (cond-true _ _ _ same) ∙ at) in
       let from : k.serial ≡ e.0.serial = ap (λ (x : Dot). x.serial) is in
-      run_has e.0.region e.0.serial (e.1 + 1 - e.0.serial) (run_set es) q (region ∙ ap (λ (x : Dot). x.region) is) (omega (arith, low, from)) (omega (arith, low, high, from, end))
-  | inr apart ↦ run_keeps e.0.region e.0.serial (e.1 + 1 - e.0.serial) (run_set es) q (has_in es k last (sym (cond-false _ _ _ apart) ∙ at) q region low high)
+      run_has e.0.region e.0.serial (e.1 + 1 - e.0.serial) (run_set es) q
+      (region ∙ ap (λ (x : Dot). x.region) is) (omega (arith, low, from))
+      (omega (arith, low, high, from, end))
+  | inr apart ↦ run_keeps e.0.region e.0.serial (e.1 + 1 - e.0.serial) (run_set es) q
+      (has_in es k last (sym (cond-false _ _ _ apart) ∙ at) q region low high)
 ]
 
 -- a dot of the set is one of a run
@@ -102,7 +121,8 @@ covers m ordered q h = covered_in m m.entries (All-found dot_cmp_total m ordered
 
 -- a dot of a run is one of the set
 pub has_dot : (m : Runs) (q : Dot) → IsCovered m q → set.contains (run_set m.entries) q ≡ true
-has_dot m q x = has_in m.entries (dot_of q.region x.first) x.has.last x.has.here q refl x.has.low x.has.high
+has_dot m q x =
+    has_in m.entries (dot_of q.region x.first) x.has.last x.has.here q refl x.has.low x.has.high
 
 -- the test of a dot, from both ways
 pub covered_is : (m : Runs) → IsOrdered dot_cmp m → (q : Dot) (t : Bool)
@@ -125,11 +145,13 @@ dots_high m runs q h =
 -- the same runs in another map
 pub same_runs : (m n : Runs) → IsRuns m → n.entries ≡ m.entries → IsRuns n
 same_runs m n runs same = record {
-  ordered = subst (λ (es : List (Dot × ℕ)). IsStrictlySortedBy dot_cmp (keys_of es)) (sym same) runs.ordered;
+  ordered = subst (λ (es : List (Dot × ℕ)). IsStrictlySortedBy dot_cmp (keys_of es))
+      (sym same) runs.ordered;
   rises = λ k last at. runs.rises k last (here k ∙ at);
   ranged = λ k last at. runs.ranged k last (here k ∙ at);
   some = λ k last at. runs.some k last (here k ∙ at);
-  apart = λ r k q last other one two less. runs.apart r k q last other (here (dot_of r k) ∙ one) (here (dot_of r q) ∙ two) less;
+  apart = λ r k q last other one two less.
+      runs.apart r k q last other (here (dot_of r k) ∙ one) (here (dot_of r q) ∙ two) less;
 }
   where
     here : (k : Dot) → get dot_cmp m k ≡ get dot_cmp n k
@@ -137,7 +159,8 @@ same_runs m n runs same = record {
 
 -- a dot that is in the set already adds nothing
 pub insert_held : (s : DotSet) (d : Dot) → set.contains s d ≡ true → s ≡ set.insert s d
-insert_held s d h = set.same_set dot_cmp_total dot_cmp-IsAntisymmetric s (set.insert s d) (λ q. same q ∙ sym (set.contains-insert dot_cmp_total s d q))
+insert_held s d h = set.same_set dot_cmp_total dot_cmp-IsAntisymmetric s (set.insert s d)
+    (λ q. same q ∙ sym (set.contains-insert dot_cmp_total s d q))
   where
     same : (q : Dot) → set.contains s q ≡ (eq_by_cmp dot_cmp q d || set.contains s q)
     same q = elim (cases_Bool (eq_by_cmp dot_cmp q d)) [
@@ -149,7 +172,8 @@ insert_held s d h = set.same_set dot_cmp_total dot_cmp-IsAntisymmetric s (set.in
 pub end_some : (m : Runs) → IsRuns m → (d next : Dot) (last : ℕ)
     → next ≡ dot_of d.region (d.serial + 1) → get dot_cmp m next ≡ Some last → IsEndAbove m d last
 end_some m runs d next last is at =
-    let rises : d.serial + 1 ≤ last = subst (λ (k : Dot). k.serial ≤ last) is (runs.rises next last at) in
+    let rises : d.serial + 1 ≤ last =
+    subst (λ (k : Dot). k.serial ≤ last) is (runs.rises next last at) in
     inr (omega (arith, rises), ap (get dot_cmp m) (sym is) ∙ at)
 
 pub end_none : (m : Runs) (d next : Dot) (n : ℕ) → n ≡ d.serial
@@ -161,13 +185,16 @@ end_none m d next n e is none = inl (e, ap (get dot_cmp m) (sym is) ∙ none)
 -- the last key up to a dot, if it is of the dot's region, is the run below
 pub below_is : (m : Runs) (d k : Dot) (last : ℕ) → IsInRange dot_cmp Unbounded (Included d) k
     → get dot_cmp m k ≡ Some last
-    → ((q : Dot) → IsInRange dot_cmp Unbounded (Included d) q → IsSome (get dot_cmp m q) → is_lt (dot_cmp k q) ≡ false)
+    → ((q : Dot) → IsInRange dot_cmp Unbounded (Included d) q → IsSome (get dot_cmp m q)
+    → is_lt (dot_cmp k q) ≡ false)
     → k.region ≡ d.region → IsRunBelow m d (Some (k, last))
 below_is m d k last within here top region = (
   region,
   serials k d within.1 region,
   ap (get dot_cmp m) (dot_is (dot_of d.region k.serial) k (sym region) refl) ∙ here,
-  λ n other le at. not_above k (dot_of d.region n) region (top (dot_of d.region n) (tt, up_to d n le) (ap is_some at)),
+  λ n other le at.
+      not_above k (dot_of d.region n) region
+      (top (dot_of d.region n) (tt, up_to d n le) (ap is_some at)),
 )
   where
     serials : (k d : Dot) → IsLeBy dot_cmp k d → k.region ≡ d.region → k.serial ≤ d.serial
@@ -182,10 +209,12 @@ below_is m d k last within here top region = (
 
 -- the last key up to a dot, if it is of another region, shows that there is no run below
 pub below_other : (m : Runs) (d k : Dot) → IsInRange dot_cmp Unbounded (Included d) k
-    → ((q : Dot) → IsInRange dot_cmp Unbounded (Included d) q → IsSome (get dot_cmp m q) → is_lt (dot_cmp k q) ≡ false)
+    → ((q : Dot) → IsInRange dot_cmp Unbounded (Included d) q → IsSome (get dot_cmp m q)
+    → is_lt (dot_cmp k q) ≡ false)
     → k.region ≢ d.region → IsRunBelow m d None
 below_other m d k within top other n last le at =
-    other (same_region k (dot_of d.region n) d refl within.1 (top (dot_of d.region n) (tt, up_to d n le) (ap is_some at)))
+    other (same_region k (dot_of d.region n) d refl within.1
+    (top (dot_of d.region n) (tt, up_to d n le) (ap is_some at)))
   where
     up_to : (d : Dot) (n : ℕ) → n ≤ d.serial → IsLeBy dot_cmp (dot_of d.region n) d
     up_to d n le = grind (arith, nat_tests)
@@ -197,7 +226,8 @@ below_other m d k within top other n last le at =
 pub below_none : (m : Runs) (d : Dot)
     → ((q : Dot) → IsInRange dot_cmp Unbounded (Included d) q → get dot_cmp m q ≡ None)
     → IsRunBelow m d None
-below_none m d none n last le at = none_is last (sym (none (dot_of d.region n) (tt, up_to d n le)) ∙ at)
+below_none m d none n last le at =
+    none_is last (sym (none (dot_of d.region n) (tt, up_to d n le)) ∙ at)
   where
     up_to : (d : Dot) (n : ℕ) → n ≤ d.serial → IsLeBy dot_cmp (dot_of d.region n) d
     up_to d n le = grind (arith, nat_tests)
@@ -209,20 +239,25 @@ module _ (m : Runs) (runs : IsRuns m) (d : Dot) where
 
   -- the run below a dot has it, if it ends late enough
   pub below_has : (p : Dot × ℕ) → IsRunBelow m d (Some p) → d.serial ≤ p.1 → IsCovered m d
-  below_has p below late = record { first = p.0.serial; has = record { last = p.1; here = below.2; low = below.1; high = late } }
+  below_has p below late = record {
+    first = p.0.serial;
+    has = record { last = p.1; here = below.2; low = below.1; high = late };
+  }
 
   -- otherwise no run has it
   pub below_free : (p : Dot × ℕ) → IsRunBelow m d (Some p) → p.1 < d.serial → IsCovered m d → ⊥
   below_free p below early x = elim (cases_lt x.first p.0.serial) [
     | inl lt ↦
-        let gap : x.has.last + 1 < p.0.serial = runs.apart d.region x.first p.0.serial x.has.last p.1 x.has.here below.2 lt in
+        let gap : x.has.last + 1 < p.0.serial =
+        runs.apart d.region x.first p.0.serial x.has.last p.1 x.has.here below.2 lt in
         let low = below.1 in
         let high = x.has.high in
         absurd (omega (arith, gap, low, high))
     | inr ge ↦
         let most : x.first ≤ p.0.serial = below.3 x.first x.has.last x.has.low x.has.here in
         let at : p.0.serial ≡ x.first = omega (arith, ge, most) in
-        let end : p.1 ≡ x.has.last = some_same p.1 x.has.last (sym below.2 ∙ ap (λ n. get dot_cmp m (dot_of d.region n)) at ∙ x.has.here) in
+        let end : p.1 ≡ x.has.last = some_same p.1 x.has.last
+        (sym below.2 ∙ ap (λ n. get dot_cmp m (dot_of d.region n)) at ∙ x.has.here) in
         let high = x.has.high in
         absurd (omega (arith, end, high, early))
   ]
@@ -241,7 +276,8 @@ module _ (m : Runs) (runs : IsRuns m) (d : Dot) where
       early n end e h = grind (arith, nat_tests)
 
   pub none_test : IsRunBelow m d None → false ≡ set.contains (run_set m.entries) d
-  none_test none = covered_is m runs.ordered d false (λ h. absurd (false≢true h)) (λ _. none_below none)
+  none_test none =
+      covered_is m runs.ordered d false (λ h. absurd (false≢true h)) (λ _. none_below none)
 
   -- what the run below leaves between itself and the dot
   pub below_gap : (p : Dot × ℕ) → IsRunBelow m d (Some p) → p.1 + 1 ≢ d.serial → (k last : ℕ)
@@ -254,13 +290,15 @@ module _ (m : Runs) (runs : IsRuns m) (d : Dot) where
     | inr ge ↦
         let most : k ≤ p.0.serial = below.3 k last le at in
         let same : p.0.serial ≡ k = omega (arith, ge, most) in
-        let end : p.1 ≡ last = some_same p.1 last (sym below.2 ∙ ap (λ n. get dot_cmp m (dot_of d.region n)) same ∙ at) in
+        let end : p.1 ≡ last =
+        some_same p.1 last (sym below.2 ∙ ap (λ n. get dot_cmp m (dot_of d.region n)) same ∙ at) in
         (λ e. other (ap (λ (n : ℕ). n + 1) end ∙ e))
   ]
 
   -- where the run of a new dot begins
   pub start_none : IsRunBelow m d None → 0 < d.serial → IsStartAt m d (Some d)
-  start_none none some = (none_below none, refl, inl (refl, λ k last le at. absurd (none k last le at)), some)
+  start_none none some =
+      (none_below none, refl, inl (refl, λ k last le at. absurd (none k last le at)), some)
 
   pub start_below : (p : Dot × ℕ) → IsRunBelow m d (Some p) → p.1 + 1 ≡ d.serial
       → IsStartAt m d (Some p.0)
@@ -273,32 +311,46 @@ module _ (m : Runs) (runs : IsRuns m) (d : Dot) where
 
   pub start_here : (p : Dot × ℕ) → IsRunBelow m d (Some p) → p.1 < d.serial → p.1 + 1 ≢ d.serial
       → 0 < d.serial → IsStartAt m d (Some d)
-  start_here p below early apart some = (below_free p below early, refl, inl (refl, below_gap p below apart), some)
+  start_here p below early apart some =
+      (below_free p below early, refl, inl (refl, below_gap p below apart), some)
 
   -- the dots from one on that follow one another end with its run
   pub stretch_is : (p : Dot × ℕ) → IsRunBelow m d (Some p) → d.serial ≤ p.1
       → IsStretch (run_set m.entries) d (Some p.1)
   stretch_is p below late = (
     late,
-    λ n from to. has_dot m (dot_of d.region n) (record { first = p.0.serial; has = record { last = p.1; here = below.2; low = (let low = below.1 in omega (arith, low, from)); high = to } }),
+    λ n from to.
+        has_dot m (dot_of d.region n)
+        (record {
+          first = p.0.serial;
+          has = record {
+            last = p.1;
+            here = below.2;
+            low = (let low = below.1 in omega (arith, low, from));
+            high = to;
+          };
+        }),
     false_from_ne_true _ (λ h. ends (covers m runs.ordered (dot_of d.region (p.1 + 1)) h)),
   )
     where
       ends : IsCovered m (dot_of d.region (p.1 + 1)) → ⊥
       ends x = elim (cases_lt p.0.serial x.first) [
         | inl lt ↦
-            let gap : p.1 + 1 < x.first = runs.apart d.region p.0.serial x.first p.1 x.has.last below.2 x.has.here lt in
+            let gap : p.1 + 1 < x.first =
+            runs.apart d.region p.0.serial x.first p.1 x.has.last below.2 x.has.here lt in
             let low = x.has.low in
             absurd (omega (arith, gap, low))
         | inr ge ↦ elim (cases_lt x.first p.0.serial) [
           | inl less ↦
-              let gap : x.has.last + 1 < p.0.serial = runs.apart d.region x.first p.0.serial x.has.last p.1 x.has.here below.2 less in
+              let gap : x.has.last + 1 < p.0.serial =
+              runs.apart d.region x.first p.0.serial x.has.last p.1 x.has.here below.2 less in
               let high = x.has.high in
               let low = below.1 in
               absurd (omega (arith, gap, high, low, late))
           | inr more ↦
               let same : p.0.serial ≡ x.first = omega (arith, ge, more) in
-              let end : p.1 ≡ x.has.last = some_same p.1 x.has.last (sym below.2 ∙ ap (λ n. get dot_cmp m (dot_of d.region n)) same ∙ x.has.here) in
+              let end : p.1 ≡ x.has.last = some_same p.1 x.has.last
+              (sym below.2 ∙ ap (λ n. get dot_cmp m (dot_of d.region n)) same ∙ x.has.here) in
               let high = x.has.high in
               absurd (omega (arith, end, high))
         ]

@@ -37,7 +37,16 @@ module _ (m : Runs) (runs : IsRuns m) where
     where
       by_value : (o : Option ℕ) → get dot_cmp m f ≡ o → IsSome o → set.contains S f ≡ true
       by_value None at h = absurd (false≢true h)
-      by_value (Some last) at h = has_dot m f (record { first = f.serial; has = record { last = last; here = ap (get dot_cmp m) (dot_is (dot_of f.region f.serial) f refl refl) ∙ at; low = omega arith; high = runs.rises f last at } })
+      by_value (Some last) at h = has_dot m f
+          (record {
+            first = f.serial;
+            has = record {
+              last = last;
+              here = ap (get dot_cmp m) (dot_is (dot_of f.region f.serial) f refl refl) ∙ at;
+              low = omega arith;
+              high = runs.rises f last at;
+            };
+          })
 
   begins : (q : Dot) (x : IsCovered m q) → IsSome (get dot_cmp m (dot_of q.region x.first))
   begins q x = ap is_some x.has.here
@@ -47,7 +56,8 @@ module _ (m : Runs) (runs : IsRuns m) where
       → is_lt (dot_cmp d (dot_of q.region x.first)) ≡ false
       → set.contains S (dot_of d.region (d.serial + 1)) ≡ true
   over_next d q above x early =
-      let region : q.region ≡ d.region = one_region d q (dot_of q.region x.first) refl above early in
+      let region : q.region ≡ d.region =
+      one_region d q (dot_of q.region x.first) refl above early in
       let more : d.serial < q.serial = later d q (dot_of q.region x.first) refl above early in
       let low : x.first ≤ d.serial = no_later d q (dot_of q.region x.first) refl above early in
       let high = x.has.high in
@@ -55,7 +65,8 @@ module _ (m : Runs) (runs : IsRuns m) where
         first = x.first;
         has = record {
           last = x.has.last;
-          here = subst (λ (r : ℕ). get dot_cmp m (dot_of r x.first) ≡ Some x.has.last) region x.has.here;
+          here = subst (λ (r : ℕ). get dot_cmp m (dot_of r x.first) ≡ Some x.has.last) region
+              x.has.here;
           low = omega (arith, low);
           high = omega (arith, more, high);
         };
@@ -76,11 +87,17 @@ module _ (m : Runs) (runs : IsRuns m) where
   -- where the dot right above is not in the set, the next begins a run
   pub next_first : (after : Option Dot) → ((d : Dot) → after ≡ Some d → IsRightAbove S d None)
       → (r : Option Dot) → IsFirstAbove m after r → IsNextIn S after r
-  next_first None right None none = λ q above. false_from_ne_true _ (λ h. (let x = covers m runs.ordered q h in none_some _ (none (dot_of q.region x.first) tt) (begins q x)))
+  next_first None right None none = λ q above.
+      false_from_ne_true _
+      (λ h. (let x = covers m runs.ordered q h in
+      none_some _ (none (dot_of q.region x.first) tt) (begins q x)))
   next_first None right (Some f) first = (
     first_in f first.1,
     tt,
-    λ q above h. (let x = covers m runs.ordered q h in not_lower q (dot_of q.region x.first) f refl x.has.low (first.2 (dot_of q.region x.first) tt (begins q x))),
+    λ q above h.
+        (let x = covers m runs.ordered q h in
+        not_lower q (dot_of q.region x.first) f refl x.has.low
+        (first.2 (dot_of q.region x.first) tt (begins q x))),
   )
   next_first (Some d) right None none = λ q above. false_from_ne_true _ (λ h.
       (let x = covers m runs.ordered q h in
@@ -93,14 +110,20 @@ module _ (m : Runs) (runs : IsRuns m) where
     first.0,
     λ q above h. (let x = covers m runs.ordered q h in
         elim (cases_Bool (is_lt (dot_cmp d (dot_of q.region x.first)))) [
-          | inl late ↦ not_lower q (dot_of q.region x.first) f refl x.has.low (first.2 (dot_of q.region x.first) late (begins q x))
+          | inl late ↦ not_lower q (dot_of q.region x.first) f refl x.has.low
+              (first.2 (dot_of q.region x.first) late (begins q x))
           | inr early ↦ absurd (false≢true (sym (right d refl) ∙ over_next d q above x early))
         ]),
   )
 
   -- the dot right above is the next
   pub next_right : (d q : Dot) → IsRightAbove S d (Some q) → IsNextIn S (Some d) (Some q)
-  next_right d q h = (h.1, up d q (ap (λ (x : Dot). x.region) h.0) (ap (λ (x : Dot). x.serial) h.0), λ p above in_set. least d q p (ap (λ (x : Dot). x.region) h.0) (ap (λ (x : Dot). x.serial) h.0) above)
+  next_right d q h = (
+    h.1,
+    up d q (ap (λ (x : Dot). x.region) h.0) (ap (λ (x : Dot). x.serial) h.0),
+    λ p above in_set.
+        least d q p (ap (λ (x : Dot). x.region) h.0) (ap (λ (x : Dot). x.serial) h.0) above,
+  )
     where
       up : (d q : Dot) → q.region ≡ d.region → q.serial ≡ d.serial + 1 → is_lt (dot_cmp d q) ≡ true
       up d q e f = grind (arith, nat_tests)
@@ -111,7 +134,8 @@ module _ (m : Runs) (runs : IsRuns m) where
 
   -- ---- the greatest serial of a region
 
-  module _ (r : ℕ) (first last : Dot) (lo : first ≡ dot_of r 1) (hi : last ≡ dot_of r greatest_serial) where
+  module _ (r : ℕ) (first last : Dot) (lo : first ≡ dot_of r 1)
+      (hi : last ≡ dot_of r greatest_serial) where
     region_of : (e : Dot) → IsLeBy dot_cmp (dot_of r 1) e
         → IsLeBy dot_cmp e (dot_of r greatest_serial) → e.region ≡ r
     region_of e low high = grind (arith, nat_tests)
@@ -140,13 +164,31 @@ module _ (m : Runs) (runs : IsRuns m) where
 
     pub last_in : (k : Dot) (end : ℕ) → IsLeBy dot_cmp first k × IsLeBy dot_cmp k last
         → get dot_cmp m k ≡ Some end
-        → ((q : Dot) → IsLeBy dot_cmp first q × IsLeBy dot_cmp q last → IsSome (get dot_cmp m q) → is_lt (dot_cmp k q) ≡ false) → IsLastIn S r end
+        → ((q : Dot) → IsLeBy dot_cmp first q × IsLeBy dot_cmp q last → IsSome (get dot_cmp m q)
+        → is_lt (dot_cmp k q) ≡ false) → IsLastIn S r end
     last_in k end inside at top =
-        let region : k.region ≡ r = region_of k (subst (λ (x : Dot). IsLeBy dot_cmp x k) lo inside.0) (subst (λ (x : Dot). IsLeBy dot_cmp k x) hi inside.1) in
-        let here : get dot_cmp m (dot_of r k.serial) ≡ Some end = ap (get dot_cmp m) (dot_is (dot_of r k.serial) k (sym region) refl) ∙ at in
+        let region : k.region ≡ r = region_of k
+        (subst (λ (x : Dot). IsLeBy dot_cmp x k) lo inside.0)
+        (subst (λ (x : Dot). IsLeBy dot_cmp k x) hi inside.1) in
+        let here : get dot_cmp m (dot_of r k.serial) ≡ Some end =
+        ap (get dot_cmp m) (dot_is (dot_of r k.serial) k (sym region) refl) ∙ at in
         record {
-          there = λ _. has_dot m (dot_of r end) (record { first = k.serial; has = record { last = end; here = here; low = runs.rises k end at; high = omega arith } });
-          greatest = λ n h. (let x = covers m runs.ordered (dot_of r n) h in most n x (no_higher k (dot_of r x.first) region (top (dot_of r x.first) (run_within x.first x.has.last x.has.here) (ap is_some x.has.here))) here);
+          there = λ _. has_dot m (dot_of r end)
+              (record {
+                first = k.serial;
+                has =
+                    record {
+                      last = end;
+                      here = here;
+                      low = runs.rises k end at;
+                      high = omega arith;
+                    };
+              });
+          greatest = λ n h. (let x = covers m runs.ordered (dot_of r n) h in
+              most n x
+              (no_higher k (dot_of r x.first) region
+              (top (dot_of r x.first) (run_within x.first x.has.last x.has.here)
+              (ap is_some x.has.here))) here);
         }
       where
         no_higher : (k q : Dot) → k.region ≡ q.region → is_lt (dot_cmp k q) ≡ false
@@ -157,22 +199,27 @@ module _ (m : Runs) (runs : IsRuns m) where
             → get dot_cmp m (dot_of r k.serial) ≡ Some end → n ≤ end
         most n x le here = elim (cases_lt x.first k.serial) [
           | inl lt ↦
-              let gap : x.has.last + 1 < k.serial = runs.apart r x.first k.serial x.has.last end x.has.here here lt in
+              let gap : x.has.last + 1 < k.serial =
+              runs.apart r x.first k.serial x.has.last end x.has.here here lt in
               let high : n ≤ x.has.last = x.has.high in
               let rises : k.serial ≤ end = runs.rises k end at in
               omega (arith, gap, high, rises)
           | inr ge ↦
               let same : x.first ≡ k.serial = omega (arith, le, ge) in
-              let one : x.has.last ≡ end = some_same x.has.last end (sym x.has.here ∙ ap (λ (i : ℕ). get dot_cmp m (dot_of r i)) same ∙ here) in
+              let one : x.has.last ≡ end = some_same x.has.last end
+              (sym x.has.here ∙ ap (λ (i : ℕ). get dot_cmp m (dot_of r i)) same ∙ here) in
               let high : n ≤ x.has.last = x.has.high in
               omega (arith, one, high)
         ]
 
-    pub last_none : ((q : Dot) → IsLeBy dot_cmp first q × IsLeBy dot_cmp q last → get dot_cmp m q ≡ None)
+    pub last_none : ((q : Dot) → IsLeBy dot_cmp first q × IsLeBy dot_cmp q last
+        → get dot_cmp m q ≡ None)
         → IsLastIn S r 0
     last_none none = record {
       there = λ some. absurd (omega (arith, some));
-      greatest = λ n h. (let x = covers m runs.ordered (dot_of r n) h in absurd (none_some _ (none (dot_of r x.first) (run_within x.first x.has.last x.has.here)) (ap is_some x.has.here)));
+      greatest = λ n h. (let x = covers m runs.ordered (dot_of r n) h in
+          absurd (none_some _ (none (dot_of r x.first) (run_within x.first x.has.last x.has.here))
+          (ap is_some x.has.here)));
     }
 
 -- the first key of a range above a dot
@@ -180,20 +227,32 @@ pub first_excluded : (m : Runs) (a : Dot) (part rest : List (Dot × ℕ)) (k : D
     → IsRangeOf dot_cmp (Excluded a) Unbounded m part → part ≡ (k, v) ∷ rest
     → IsFirstAbove m (Some a) (Some k)
 first_excluded m a part rest k v range steps =
-    let there : IfSome (slice_get ((k, v) ∷ rest) 0) (IsEntryInRange dot_cmp (Excluded a) Unbounded m) = subst (λ (l : List (Dot × ℕ)). IfSome (slice_get l 0) (IsEntryInRange dot_cmp (Excluded a) Unbounded m)) steps range.1 in (
+    let there : IfSome (slice_get ((k, v) ∷ rest) 0)
+    (IsEntryInRange dot_cmp (Excluded a) Unbounded m) =
+    subst (λ (l : List (Dot × ℕ)).
+    IfSome (slice_get l 0) (IsEntryInRange dot_cmp (Excluded a) Unbounded m)) steps range.1 in (
       ap is_lt there.0.0,
       ap is_some there.1,
-      λ q above held. le_not_lt k q (subst (λ (l : List (Dot × ℕ)). IfSome (slice_get l 0) (λ e. IsLeBy dot_cmp e.0 q)) steps (range.2 q (is_less (dot_cmp a q) above, tt) held)),
+      λ q above held.
+          le_not_lt k q
+          (subst (λ (l : List (Dot × ℕ)). IfSome (slice_get l 0) (λ e. IsLeBy dot_cmp e.0 q)) steps
+          (range.2 q (is_less (dot_cmp a q) above, tt) held)),
     )
 
 pub first_all : (m : Runs) (part rest : List (Dot × ℕ)) (k : Dot) (v : ℕ)
     → IsRangeOf dot_cmp Unbounded Unbounded m part → part ≡ (k, v) ∷ rest
     → IsFirstAbove m None (Some k)
 first_all m part rest k v range steps =
-    let there : IfSome (slice_get ((k, v) ∷ rest) 0) (IsEntryInRange dot_cmp Unbounded Unbounded m) = subst (λ (l : List (Dot × ℕ)). IfSome (slice_get l 0) (IsEntryInRange dot_cmp Unbounded Unbounded m)) steps range.1 in (
+    let there : IfSome (slice_get ((k, v) ∷ rest) 0)
+    (IsEntryInRange dot_cmp Unbounded Unbounded m) =
+    subst (λ (l : List (Dot × ℕ)).
+    IfSome (slice_get l 0) (IsEntryInRange dot_cmp Unbounded Unbounded m)) steps range.1 in (
       tt,
       ap is_some there.1,
-      λ q above held. le_not_lt k q (subst (λ (l : List (Dot × ℕ)). IfSome (slice_get l 0) (λ e. IsLeBy dot_cmp e.0 q)) steps (range.2 q (tt, tt) held)),
+      λ q above held.
+          le_not_lt k q
+          (subst (λ (l : List (Dot × ℕ)). IfSome (slice_get l 0) (λ e. IsLeBy dot_cmp e.0 q)) steps
+          (range.2 q (tt, tt) held)),
     )
 
 pub first_excluded_none : (m : Runs) (a : Dot) (part : List (Dot × ℕ))

@@ -19,12 +19,15 @@ module _ {X : Type 0} where
   pub push_some : (xs : List (Option X)) (x : X) (n j : ℕ) → length xs ≡ n
       → get_or (xs ++ Some x ∷ []) j None ≡ cond (j == n) (Some x) (get_or xs j None)
   push_some xs x n j len = elim (cases_Bool (j == n)) [
-    | inl same ↦ get_or_push xs (Some x) None j (len ∙ sym (nat_same j n same)) ∙ sym (cond-true _ _ _ same)
+    | inl same ↦
+        get_or_push xs (Some x) None j (len ∙ sym (nat_same j n same)) ∙ sym (cond-true _ _ _ same)
     | inr apart ↦ elim (cases_lt j n) [
-      | inl lt ↦ get_or_append_left xs (Some x ∷ []) None j (omega (arith, lt, len)) ∙ sym (cond-false _ _ _ apart)
+      | inl lt ↦ get_or_append_left xs (Some x ∷ []) None j (omega (arith, lt, len))
+          ∙ sym (cond-false _ _ _ apart)
       | inr ge ↦
           let other : j ≢ n = (λ e. absurd (false≢true (sym apart ∙ nat_is j n e))) in
-          get_or_past (xs ++ Some x ∷ []) j None (omega (arith, length-append xs (Some x ∷ []), len, ge, other))
+          get_or_past (xs ++ Some x ∷ []) j None
+          (omega (arith, length-append xs (Some x ∷ []), len, ge, other))
           ∙ sym (get_or_past xs j None (omega (arith, len, ge))) ∙ sym (cond-false _ _ _ apart)
     ]
   ]

@@ -10,7 +10,8 @@ pub use Rattle.tk_family.specs.Puts.{Adds}
 
 pub Within-adds : (f g : Links) (d : Dot) (l : Link) → Adds f g d l → LinksWithin f g
 Within-adds f g d l a q k h = elim (cases_dots q d) [
-  | inl same ↦ absurd (let free : f q ≡ None = ap f same ∙ a.free in let clash : Some k ≡ None = sym h ∙ free in cc)
+  | inl same ↦ absurd
+      (let free : f q ≡ None = ap f same ∙ a.free in let clash : Some k ≡ None = sym h ∙ free in cc)
   | inr ne ↦ a.others q ne ∙ h
 ]
 
@@ -22,7 +23,8 @@ IsPath-here f d (p ∷ ps) c m none = let clash : Some m.0.0.link ≡ None = sym
 -- a code other than the new link was under itself before
 pub alone : (f g : Links) (d : Dot) (l : Link) → Adds f g d l → (q c : Dot) → q ≢ d
     → IsPath g q [] c → IsUnder f q c
-alone f g d l a q c ne m = record { path = []; leads = (m.0, ap f (sym m.0) ∙ (sym (a.others q ne) ∙ (ap g m.0 ∙ m.1))) }
+alone f g d l a q c ne m =
+    record { path = []; leads = (m.0, ap f (sym m.0) ∙ (sym (a.others q ne) ∙ (ap g m.0 ∙ m.1))) }
 
 -- a parent whose two dots are not the new link's was a parent before
 pub IsParent-before : (f g : Links) (d : Dot) (l : Link) → Adds f g d l → (q p : Dot) → q ≢ d
@@ -41,7 +43,10 @@ pub below_under : (f g : Links) (d : Dot) (l : Link) → Adds f g d l → (q p c
     → IsParent g q p → IsUnder f p c → IsUnder f q c
 below_under f g d l a q p c ne m under =
     let nep : p ≢ d = λ same. IsPath-here f p under.path c under.leads (ap f same ∙ a.free) in
-    record { path = p ∷ under.path; leads = ((IsParent-before f g d l a q p ne nep m, under.leads.0), under.leads.1) }
+    record {
+      path = p ∷ under.path;
+      leads = ((IsParent-before f g d l a q p ne nep m, under.leads.0), under.leads.1);
+    }
 
 -- a dot that is under a code with one more link was under that code before, or is in the set `In`;
 -- the set has the new dot and all children of its dots
@@ -52,10 +57,11 @@ IsPath-adds f g d l In a root closed q [] c m = elim (cases_dots q d) [
   | inl same ↦ inl (ap In same ∙ root)
   | inr ne ↦ inr (alone f g d l a q c ne m)
 ]
-IsPath-adds f g d l In a root closed q (p ∷ ps) c m = elim (IsPath-adds f g d l In a root closed p ps c (m.0.1, m.1)) [
-  | inl above ↦ inl (closed p q above m.0.0)
-  | inr under ↦ elim (cases_dots q d) [
-    | inl same ↦ inl (ap In same ∙ root)
-    | inr ne ↦ inr (below_under f g d l a q p c ne m.0.0 under)
-  ]
-]
+IsPath-adds f g d l In a root closed q (p ∷ ps) c m =
+    elim (IsPath-adds f g d l In a root closed p ps c (m.0.1, m.1)) [
+      | inl above ↦ inl (closed p q above m.0.0)
+      | inr under ↦ elim (cases_dots q d) [
+        | inl same ↦ inl (ap In same ∙ root)
+        | inr ne ↦ inr (below_under f g d l a q p c ne m.0.0 under)
+      ]
+    ]

@@ -40,7 +40,8 @@ use Rattle.tk_handle.proofs.TestLaws.{equal_of}
 -- ---- entries
 
 children_total : IsTotalOrder child_cmp
-children_total = then_total (on_total (λ k. k.parent) dot_cmp_total) (then_total (on_total (λ k. k.kind) nat_cmp_total) (on_total (λ k. k.child) dot_cmp_total))
+children_total = then_total (on_total (λ k. k.parent) dot_cmp_total)
+    (then_total (on_total (λ k. k.kind) nat_cmp_total) (on_total (λ k. k.child) dot_cmp_total))
 
 both_tied : (r s : Ordering) → is_eq (ordering_then r s) ≡ (is_eq r && is_eq s)
 both_tied Less s = refl
@@ -52,16 +53,23 @@ child_by a b h i j = λ x. record { parent = h x; kind = i x; child = j x }
 
 -- entries that tie have equal parts
 tied_parts : (a b : Child) → eq_by_cmp child_cmp a b ≡ true
-    → (is_eq (dot_cmp a.parent b.parent) ≡ true) × (is_eq (nat_cmp a.kind b.kind) ≡ true) × (is_eq (dot_cmp a.child b.child) ≡ true)
+    → (is_eq (dot_cmp a.parent b.parent) ≡ true) × (is_eq (nat_cmp a.kind b.kind) ≡ true)
+    × (is_eq (dot_cmp a.child b.child) ≡ true)
 tied_parts a b h =
-    let p = and_parts _ _ (sym (both_tied (dot_cmp a.parent b.parent) (ordering_then (nat_cmp a.kind b.kind) (dot_cmp a.child b.child))) ∙ h) in
-    let q = and_parts _ _ (sym (both_tied (nat_cmp a.kind b.kind) (dot_cmp a.child b.child)) ∙ p.1) in
+    let p = and_parts _ _
+    (sym (both_tied (dot_cmp a.parent b.parent)
+    (ordering_then (nat_cmp a.kind b.kind) (dot_cmp a.child b.child)))
+    ∙ h) in
+    let q =
+    and_parts _ _ (sym (both_tied (nat_cmp a.kind b.kind) (dot_cmp a.child b.child)) ∙ p.1) in
     (p.0, q.0, q.1)
 
 child_same : (a b : Child) → eq_by_cmp child_cmp a b ≡ true → a ≡ b
 child_same a b h =
     let p = tied_parts a b h in
-    child_by a b (dot_eq-true a.parent b.parent p.0) (exact_unsigned a.kind b.kind (equal_of (nat_cmp a.kind b.kind) p.1)) (dot_eq-true a.child b.child p.2)
+    child_by a b (dot_eq-true a.parent b.parent p.0)
+    (exact_unsigned a.kind b.kind (equal_of (nat_cmp a.kind b.kind) p.1))
+    (dot_eq-true a.child b.child p.2)
 
 pub is_child-same : (t : TokenId) (c : Dot) → is_child t c t c ≡ true
 is_child-same t c = ap is_eq (tied_itself children_total (child_key t c))
@@ -69,26 +77,35 @@ is_child-same t c = ap is_eq (tied_itself children_total (child_key t c))
 pub is_child-true : (t k : TokenId) (c e : Dot) → is_child t c k e ≡ true → (t ≡ k) × (c ≡ e)
 is_child-true t k c e h =
     let p = tied_parts (child_key t c) (child_key k e) h in
-    let tie : is_eq (token_cmp t k) ≡ true = both_tied (dot_cmp t.dot k.dot) (nat_cmp (kind_number t.kind) (kind_number k.kind)) ∙ and_from _ _ p.0 p.1 in
+    let tie : is_eq (token_cmp t k) ≡ true = both_tied (dot_cmp t.dot k.dot)
+    (nat_cmp (kind_number t.kind) (kind_number k.kind))
+    ∙ and_from _ _ p.0 p.1 in
     (exact_tokens t k (equal_of (token_cmp t k) tie), dot_eq-true c e p.2)
 
 pub cases_tokens : (j k : TokenId) → (j ≡ k) ⊎ (j ≢ k)
 cases_tokens j k = elim (cases_Bool (is_child j least_dot k least_dot)) [
   | inl same ↦ inl (is_child-true j k least_dot least_dot same).0
-  | inr apart ↦ inr (λ same. true≢false (sym (is_child-same j least_dot) ∙ ap (λ (x : TokenId). is_child j least_dot x least_dot) same ∙ apart))
+  | inr apart ↦ inr
+      (λ same. true≢false
+      (sym (is_child-same j least_dot) ∙ ap (λ (x : TokenId). is_child j least_dot x least_dot) same
+      ∙ apart))
 ]
 
 pub is_child-apart : (t k : TokenId) (c e : Dot) → k ≢ t → is_child t c k e ≡ false
-is_child-apart t k c e ne = false_from_ne_true (is_child t c k e) (λ h. ne (sym (is_child-true t k c e h).0))
+is_child-apart t k c e ne =
+    false_from_ne_true (is_child t c k e) (λ h. ne (sym (is_child-true t k c e h).0))
 
 pub is_child-other : (t k : TokenId) (c e : Dot) → c ≢ e → is_child t c k e ≡ false
-is_child-other t k c e ne = false_from_ne_true (is_child t c k e) (λ h. ne (is_child-true t k c e h).1)
+is_child-other t k c e ne =
+    false_from_ne_true (is_child t c k e) (λ h. ne (is_child-true t k c e h).1)
 
 -- ---- the span of a token
 
 child_order : (k : TokenId) (a b : Dot) → child_cmp (child_key k a) (child_key k b) ≡ dot_cmp a b
 child_order k a b =
-    ap (λ o. ordering_then o (ordering_then (nat_cmp (kind_number k.kind) (kind_number k.kind)) (dot_cmp a b))) (tied_itself dot_cmp_total k.dot)
+    ap (λ o. ordering_then o
+    (ordering_then (nat_cmp (kind_number k.kind) (kind_number k.kind)) (dot_cmp a b)))
+    (tied_itself dot_cmp_total k.dot)
     ∙ ap (λ o. ordering_then o (dot_cmp a b)) (tied_itself nat_cmp_total (kind_number k.kind))
 
 -- the entries between the ends of the span
@@ -97,16 +114,19 @@ pub span_is : (s : BTreeSet Child) (k : TokenId) (a b : Child) → a ≡ child_k
     → keys_between child_cmp (Included a) (Included b) s ≡ users_in s k
 span_is s k a b first last =
     ap (λ (x : Child). keys_between child_cmp (Included x) (Included b) s) first
-    ∙ ap (λ (x : Child). keys_between child_cmp (Included (child_key k least_dot)) (Included x) s) last
+    ∙ ap (λ (x : Child). keys_between child_cmp (Included (child_key k least_dot)) (Included x) s)
+    last
 
 abbrev in_range : TokenId → Child → Bool
-in_range k e = range_contains child_cmp (Included (child_key k least_dot)) (Included (child_key k greatest_dot)) e
+in_range k e = range_contains child_cmp (Included (child_key k least_dot))
+    (Included (child_key k greatest_dot)) e
 
 -- each dot in range has its entry in the span
 in_span : (k : TokenId) (q : Dot) → IsDot q → in_range k (child_key k q) ≡ true
 in_span k q h = and_from _ _
     (ap is_le (child_order k least_dot q) ∙ from_first q h)
-    (ap (λ o. not (is_lt o)) (child_order k greatest_dot q ∙ dot_cmp_total.antisymm greatest_dot q) ∙ not_past (dot_cmp q greatest_dot) (to_last q h))
+    (ap (λ o. not (is_lt o)) (child_order k greatest_dot q ∙ dot_cmp_total.antisymm greatest_dot q)
+    ∙ not_past (dot_cmp q greatest_dot) (to_last q h))
 
 -- an entry in the span is one of the token
 of_token : (k : TokenId) (e : Child) → in_range k e ≡ true → e ≡ child_key k e.child
@@ -114,9 +134,17 @@ of_token k e h =
     let p = and_parts _ _ h in
     let dot = between (dot_cmp k.dot e.parent) _ _ p.0 p.1 in
     let kind = between (nat_cmp (kind_number k.kind) e.kind) _ _
-    (sym (ap (λ o. is_le (ordering_then o (ordering_then (nat_cmp (kind_number k.kind) e.kind) (dot_cmp least_dot e.child)))) dot) ∙ p.0)
-    (sym (ap (λ o. not (is_lt (ordering_then o (ordering_then (nat_cmp (kind_number k.kind) e.kind) (dot_cmp greatest_dot e.child))))) dot) ∙ p.1) in
-    child_by e (child_key k e.child) (sym (dot_eq-true k.dot e.parent (ap is_eq dot))) (sym (exact_unsigned (kind_number k.kind) e.kind kind)) refl
+    (sym (ap (λ o.
+    is_le (ordering_then o
+    (ordering_then (nat_cmp (kind_number k.kind) e.kind) (dot_cmp least_dot e.child)))) dot)
+    ∙ p.0)
+    (sym (ap (λ o.
+    not (is_lt
+    (ordering_then o
+    (ordering_then (nat_cmp (kind_number k.kind) e.kind) (dot_cmp greatest_dot e.child))))) dot)
+    ∙ p.1) in
+    child_by e (child_key k e.child) (sym (dot_eq-true k.dot e.parent (ap is_eq dot)))
+    (sym (exact_unsigned (kind_number k.kind) e.kind kind)) refl
 
 -- ---- lists of entries
 
@@ -132,19 +160,30 @@ from_dots : (cs : List Child) (e : Dot) → has (dots_of cs) e ≡ true
     → (x : Child) × (among x cs ≡ true) × (x.child ≡ e)
 from_dots [] e h = absurd (true≢false (sym h))
 from_dots (x ∷ xs) e h = elim (has-cons x.child (dots_of xs) e h) [
-  | inl same ↦ (x, or_left (is_at (child_cmp x) x) (among x xs) (ap is_eq (tied_itself children_total x)), sym same)
-  | inr more ↦ let r : (y : Child) × (among y xs ≡ true) × (y.child ≡ e) = from_dots xs e more in (r.0, or_right (is_at (child_cmp r.0) x) (among r.0 xs) r.1, r.2)
+  | inl same ↦ (
+    x,
+    or_left (is_at (child_cmp x) x) (among x xs) (ap is_eq (tied_itself children_total x)),
+    sym same,
+  )
+  | inr more ↦ let r : (y : Child) × (among y xs ≡ true) × (y.child ≡ e) = from_dots xs e more in
+      (r.0, or_right (is_at (child_cmp r.0) x) (among r.0 xs) r.1, r.2)
 ]
 
 kept_parts : (c : Child → Bool) (k : Child) (ks : List Child) → among k (filter c ks) ≡ true
     → (among k ks ≡ true) × (c k ≡ true)
 kept_parts c k [] h = absurd (true≢false (sym h))
 kept_parts c k (x ∷ xs) h = elim (cases_Bool (c x)) [
-  | inl kept ↦ elim (or_cases (is_at (child_cmp k) x) (among k (filter c xs)) (sym (ap (among k) (cond-true (c x) (x ∷ filter c xs) (filter c xs) kept)) ∙ h)) [
-    | inl tie ↦ (or_left (is_at (child_cmp k) x) (among k xs) tie, ap c (child_same k x tie) ∙ kept)
-    | inr more ↦ let r : (among k xs ≡ true) × (c k ≡ true) = kept_parts c k xs more in (or_right (is_at (child_cmp k) x) (among k xs) r.0, r.1)
-  ]
-  | inr left ↦ let r : (among k xs ≡ true) × (c k ≡ true) = kept_parts c k xs (sym (ap (among k) (cond-false (c x) (x ∷ filter c xs) (filter c xs) left)) ∙ h) in (or_right (is_at (child_cmp k) x) (among k xs) r.0, r.1)
+  | inl kept ↦ elim (or_cases (is_at (child_cmp k) x) (among k (filter c xs))
+      (sym (ap (among k) (cond-true (c x) (x ∷ filter c xs) (filter c xs) kept)) ∙ h)) [
+        | inl tie ↦
+            (or_left (is_at (child_cmp k) x) (among k xs) tie, ap c (child_same k x tie) ∙ kept)
+        | inr more ↦ let r : (among k xs ≡ true) × (c k ≡ true) = kept_parts c k xs more in
+            (or_right (is_at (child_cmp k) x) (among k xs) r.0, r.1)
+      ]
+  | inr left ↦ let r : (among k xs ≡ true) × (c k ≡ true) =
+      kept_parts c k xs
+      (sym (ap (among k) (cond-false (c x) (x ∷ filter c xs) (filter c xs) left)) ∙ h) in
+      (or_right (is_at (child_cmp k) x) (among k xs) r.0, r.1)
 ]
 
 kept_dot : (c : Child → Bool) (k : Child) (ks : List Child) → among k ks ≡ true → c k ≡ true
@@ -153,14 +192,18 @@ kept_dot c k [] at kept = absurd (true≢false (sym at))
 kept_dot c k (x ∷ xs) at kept = elim (or_cases (is_at (child_cmp k) x) (among k xs) at) [
   | inl tie ↦
       let same : k ≡ x = child_same k x tie in
-      ap (λ (ys : List Child). has (dots_of ys) k.child) (cond-true (c x) (x ∷ filter c xs) (filter c xs) (sym (ap c same) ∙ kept))
-      ∙ or_left (dot_eq k.child x.child) (has (dots_of (filter c xs)) k.child) (ap (λ (y : Child). dot_eq k.child y.child) (sym same) ∙ dot_eq-same k.child)
+      ap (λ (ys : List Child). has (dots_of ys) k.child)
+      (cond-true (c x) (x ∷ filter c xs) (filter c xs) (sym (ap c same) ∙ kept))
+      ∙ or_left (dot_eq k.child x.child) (has (dots_of (filter c xs)) k.child)
+      (ap (λ (y : Child). dot_eq k.child y.child) (sym same) ∙ dot_eq-same k.child)
   | inr more ↦ elim (cases_Bool (c x)) [
     | inl here ↦
-        ap (λ (ys : List Child). has (dots_of ys) k.child) (cond-true (c x) (x ∷ filter c xs) (filter c xs) here)
+        ap (λ (ys : List Child). has (dots_of ys) k.child)
+        (cond-true (c x) (x ∷ filter c xs) (filter c xs) here)
         ∙ has-there x.child (dots_of (filter c xs)) k.child (kept_dot c k xs more kept)
     | inr left ↦
-        ap (λ (ys : List Child). has (dots_of ys) k.child) (cond-false (c x) (x ∷ filter c xs) (filter c xs) left)
+        ap (λ (ys : List Child). has (dots_of ys) k.child)
+        (cond-false (c x) (x ∷ filter c xs) (filter c xs) left)
         ∙ kept_dot c k xs more kept
   ]
 ]
@@ -173,9 +216,12 @@ users-has s k e at ranged = kept_dot (in_range k) (child_key k e) s.keys at (in_
 pub has-users : (s : BTreeSet Child) (k : TokenId) (e : Dot) → has (dots_of (users_in s k)) e ≡ true
     → others_in s k e ≡ true
 has-users s k e h =
-    let r : (x : Child) × (among x (users_in s k) ≡ true) × (x.child ≡ e) = from_dots (users_in s k) e h in
-    let p : (among r.0 s.keys ≡ true) × (in_range k r.0 ≡ true) = kept_parts (in_range k) r.0 s.keys r.1 in
-    ap (λ (y : Dot). others_in s k y) (sym r.2) ∙ (ap (λ (x : Child). among x s.keys) (sym (of_token k r.0 p.1)) ∙ p.0)
+    let r : (x : Child) × (among x (users_in s k) ≡ true) × (x.child ≡ e) =
+    from_dots (users_in s k) e h in
+    let p : (among r.0 s.keys ≡ true) × (in_range k r.0 ≡ true) =
+    kept_parts (in_range k) r.0 s.keys r.1 in
+    ap (λ (y : Dot). others_in s k y) (sym r.2)
+    ∙ (ap (λ (x : Child). among x s.keys) (sym (of_token k r.0 p.1)) ∙ p.0)
 
 above_key : (x : Child) (xs : List Child) → AllByRecursion (λ y. child_cmp x y ≡ Less) xs
     → (k : Child) → among k xs ≡ true → child_cmp x k ≡ Less
@@ -188,21 +234,33 @@ above_key x (y ∷ ys) low k at = elim (or_cases (is_at (child_cmp k) y) (among 
 fresh_all : (y : Dot) (ys : List Dot) → ((q : Dot) → has ys q ≡ true → y ≢ q)
     → AllByRecursion (λ z. dot_eq y z ≡ false) ys
 fresh_all y [] ne = tt
-fresh_all y (z ∷ zs) ne = (false_from_ne_true (dot_eq y z) (λ same. ne z (has-here z zs) (dot_eq-true y z same)), fresh_all y zs (λ q h. ne q (has-there z zs q h)))
+fresh_all y (z ∷ zs) ne = (
+  false_from_ne_true (dot_eq y z)
+      (λ same. ne z (has-here z zs) (dot_eq-true y z same)),
+  fresh_all y zs (λ q h. ne q (has-there z zs q h)),
+)
 
 distinct_kept : (k : TokenId) (ks : List Child) → IsStrictlySortedBy child_cmp ks
     → IsDistinct dot_eq (dots_of (filter (in_range k) ks))
 unfolding IsStrictlySortedBy IsDistinct
 distinct_kept k [] sorted = tt
 distinct_kept k (x ∷ xs) sorted = elim (cases_Bool (in_range k x)) [
-  | inl kept ↦ subst (λ (ys : List Child). IsDistinct dot_eq (dots_of ys)) (sym (cond-true (in_range k x) (x ∷ filter (in_range k) xs) (filter (in_range k) xs) kept))
-      (IsDistinct-cons dot_eq x.child (dots_of (filter (in_range k) xs)) (fresh_all x.child (dots_of (filter (in_range k) xs)) (λ q h same.
-      let r : (y : Child) × (among y (filter (in_range k) xs) ≡ true) × (y.child ≡ q) = from_dots (filter (in_range k) xs) q h in
-      let p : (among r.0 xs ≡ true) × (in_range k r.0 ≡ true) = kept_parts (in_range k) r.0 xs r.1 in
-      let one : x ≡ r.0 = of_token k x kept ∙ (ap (child_key k) (same ∙ sym r.2) ∙ sym (of_token k r.0 p.1)) in
-      let clash : Equal ≡ Less = sym (tied_itself children_total x) ∙ (ap (child_cmp x) one ∙ above_key x xs sorted.0 r.0 p.0) in
+  | inl kept ↦ subst (λ (ys : List Child). IsDistinct dot_eq (dots_of ys))
+      (sym (cond-true (in_range k x) (x ∷ filter (in_range k) xs) (filter (in_range k) xs) kept))
+      (IsDistinct-cons dot_eq x.child (dots_of (filter (in_range k) xs))
+      (fresh_all x.child (dots_of (filter (in_range k) xs)) (λ q h same.
+      let r : (y : Child) × (among y (filter (in_range k) xs) ≡ true) × (y.child ≡ q) =
+      from_dots (filter (in_range k) xs) q h in
+      let p : (among r.0 xs ≡ true) × (in_range k r.0 ≡ true) =
+      kept_parts (in_range k) r.0 xs r.1 in
+      let one : x ≡ r.0 =
+      of_token k x kept ∙ (ap (child_key k) (same ∙ sym r.2) ∙ sym (of_token k r.0 p.1)) in
+      let clash : Equal ≡ Less = sym (tied_itself children_total x)
+      ∙ (ap (child_cmp x) one ∙ above_key x xs sorted.0 r.0 p.0) in
       cc)) (distinct_kept k xs sorted.1))
-  | inr left ↦ subst (λ (ys : List Child). IsDistinct dot_eq (dots_of ys)) (sym (cond-false (in_range k x) (x ∷ filter (in_range k) xs) (filter (in_range k) xs) left)) (distinct_kept k xs sorted.1)
+  | inr left ↦ subst (λ (ys : List Child). IsDistinct dot_eq (dots_of ys))
+      (sym (cond-false (in_range k x) (x ∷ filter (in_range k) xs) (filter (in_range k) xs) left))
+      (distinct_kept k xs sorted.1)
 ]
 
 pub users-distinct : (s : BTreeSet Child) (k : TokenId) → IsOrdered child_cmp s
@@ -228,30 +286,38 @@ first_listed s k e h = has-users s k e (first_has (users_in s k) e h)
 pub none_listed : (s : BTreeSet Child) (k : TokenId)
     → ((e : Dot) → others_in s k e ≡ true → IsDot e) → first_user (users_in s k) ≡ None → (e : Dot)
     → others_in s k e ≡ false
-none_listed s k ranged h e = false_from_ne_true (others_in s k e) (λ at. true≢false (sym (users-has s k e at (ranged e at)) ∙ none_has (users_in s k) e h))
+none_listed s k ranged h e = false_from_ne_true (others_in s k e)
+    (λ at. true≢false (sym (users-has s k e at (ranged e at)) ∙ none_has (users_in s k) e h))
 
 pub takes_none : (s : BTreeSet Child) (k : TokenId) (o : Option Dot)
     → ((e : Dot) → others_in s k e ≡ true → IsDot e) → o ≡ first_user (users_in s k) → o ≡ None
     → TakesUser (others_in s) (others_in s) k o
-takes_none s k o ranged found none = subst (λ (x : Option Dot). TakesUser (others_in s) (others_in s) k x) (sym none) (none_listed s k ranged (sym found ∙ none), λ j e. refl)
+takes_none s k o ranged found none = subst (λ (x : Option Dot).
+    TakesUser (others_in s) (others_in s) k x) (sym none)
+    (none_listed s k ranged (sym found ∙ none), λ j e. refl)
 
--- no child uses the code of p, and one that uses the refresh token, if there is one, is out of the set
+-- no child uses the code of p, and one that uses the refresh token, if there is one, is out of the
+-- set
 pub promotes_second : (E M N : Others) (p : Dot) (o : Option Dot)
     → ((e : Dot) → E (token_at p kind.Code) e ≡ false) → IsSame E M
     → TakesUser M N (token_at p kind.Refresh) o → Promotes E N p o
-promotes_second E M N p None none same x = (none, λ e. sym (same (token_at p kind.Refresh) e) ∙ x.0 e, λ k e. x.1 k e ∙ same k e)
+promotes_second E M N p None none same x =
+    (none, λ e. sym (same (token_at p kind.Refresh) e) ∙ x.0 e, λ k e. x.1 k e ∙ same k e)
 promotes_second E M N p (Some c) none same x = (
   kind.Refresh,
   sym (same (token_at p kind.Refresh) c) ∙ x.0,
-  λ k e. x.1 k e ∙ ap (λ (b : Bool). cond (is_child (token_at p kind.Refresh) c k e) false b) (same k e),
+  λ k e. x.1 k e
+      ∙ ap (λ (b : Bool). cond (is_child (token_at p kind.Refresh) c k e) false b) (same k e),
 )
 
 -- ---- counts up to two
 
 pub one_user : (cs rest : List Child) (x : Child) → cs ≡ x ∷ rest → rest ≡ []
     → 1 ≡ length (take 2 cs)
-one_user cs rest x first none = sym (ap (λ (l : List Child). length (take 2 l)) (first ∙ ap (λ (l : List Child). x ∷ l) none))
+one_user cs rest x first none =
+    sym (ap (λ (l : List Child). length (take 2 l)) (first ∙ ap (λ (l : List Child). x ∷ l) none))
 
 pub two_users : (cs rest more : List Child) (x y : Child) → cs ≡ x ∷ rest → rest ≡ y ∷ more
     → 2 ≡ length (take 2 cs)
-two_users cs rest more x y first second = sym (ap (λ (l : List Child). length (take 2 l)) (first ∙ ap (λ (l : List Child). x ∷ l) second))
+two_users cs rest more x y first second =
+    sym (ap (λ (l : List Child). length (take 2 l)) (first ∙ ap (λ (l : List Child). x ∷ l) second))

@@ -49,14 +49,16 @@ pub record Alike (T N : Rows) : Type 0 where
   pub again : (q : Dot) (k : Kind) → again_in (N q) k ≡ again_in (T q) k
 
 flag_blank : (k : Kind) (o : Option Row)
-    → (marked_in (or_blank o) k ≡ marked_in o k) × (used_in (or_blank o) k ≡ used_in o k) × (again_in (or_blank o) k ≡ again_in o k)
+    → (marked_in (or_blank o) k ≡ marked_in o k) × (used_in (or_blank o) k ≡ used_in o k)
+    × (again_in (or_blank o) k ≡ again_in o k)
 flag_blank k (Some r) = (refl, refl, refl)
 flag_blank kind.Code None = (refl, refl, refl)
 flag_blank kind.Access None = (refl, refl, refl)
 flag_blank kind.Refresh None = (refl, refl, refl)
 
 same_blank : (o : Option Row)
-    → (link_in (or_blank o) ≡ link_in o) × (code_in (or_blank o) ≡ code_in o) × (count_in (or_blank o) ≡ count_in o) × (first_in (or_blank o) ≡ first_in o)
+    → (link_in (or_blank o) ≡ link_in o) × (code_in (or_blank o) ≡ code_in o)
+    × (count_in (or_blank o) ≡ count_in o) × (first_in (or_blank o) ≡ first_in o)
 same_blank None = (refl, refl, refl, refl)
 same_blank (Some r) = (refl, refl, refl, refl)
 
@@ -64,13 +66,23 @@ same_blank (Some r) = (refl, refl, refl, refl)
 pub Alike-blank : (T N : Rows) (at : Dot)
     → ((q : Dot) → N q ≡ cond (dot_eq at q) (or_blank (T q)) (T q)) → Alike T N
 Alike-blank T N at h = record {
-  link = λ q. ap link_in (h q) ∙ column link_in (dot_eq at q) (or_blank (T q)) (T q) (same_blank (T q)).0;
-  code = λ q. ap code_in (h q) ∙ column code_in (dot_eq at q) (or_blank (T q)) (T q) (same_blank (T q)).1;
-  count = λ q. ap count_in (h q) ∙ column count_in (dot_eq at q) (or_blank (T q)) (T q) (same_blank (T q)).2;
-  first = λ q. ap first_in (h q) ∙ column first_in (dot_eq at q) (or_blank (T q)) (T q) (same_blank (T q)).3;
-  marked = λ q k. ap (λ (o : Option Row). marked_in o k) (h q) ∙ column (λ (o : Option Row). marked_in o k) (dot_eq at q) (or_blank (T q)) (T q) (flag_blank k (T q)).0;
-  used = λ q k. ap (λ (o : Option Row). used_in o k) (h q) ∙ column (λ (o : Option Row). used_in o k) (dot_eq at q) (or_blank (T q)) (T q) (flag_blank k (T q)).1;
-  again = λ q k. ap (λ (o : Option Row). again_in o k) (h q) ∙ column (λ (o : Option Row). again_in o k) (dot_eq at q) (or_blank (T q)) (T q) (flag_blank k (T q)).2;
+  link = λ q.
+      ap link_in (h q) ∙ column link_in (dot_eq at q) (or_blank (T q)) (T q) (same_blank (T q)).0;
+  code = λ q.
+      ap code_in (h q) ∙ column code_in (dot_eq at q) (or_blank (T q)) (T q) (same_blank (T q)).1;
+  count = λ q.
+      ap count_in (h q) ∙ column count_in (dot_eq at q) (or_blank (T q)) (T q) (same_blank (T q)).2;
+  first = λ q.
+      ap first_in (h q) ∙ column first_in (dot_eq at q) (or_blank (T q)) (T q) (same_blank (T q)).3;
+  marked = λ q k. ap (λ (o : Option Row). marked_in o k) (h q)
+      ∙ column (λ (o : Option Row). marked_in o k) (dot_eq at q) (or_blank (T q)) (T q)
+      (flag_blank k (T q)).0;
+  used = λ q k. ap (λ (o : Option Row). used_in o k) (h q)
+      ∙ column (λ (o : Option Row). used_in o k) (dot_eq at q) (or_blank (T q)) (T q)
+      (flag_blank k (T q)).1;
+  again = λ q k. ap (λ (o : Option Row). again_in o k) (h q)
+      ∙ column (λ (o : Option Row). again_in o k) (dot_eq at q) (or_blank (T q)) (T q)
+      (flag_blank k (T q)).2;
 }
 
 pub Alike-same : (T N : Rows) → ((q : Dot) → N q ≡ T q) → Alike T N
@@ -155,7 +167,9 @@ Alike-dropped T N at h rows = elim (blank_or (T at) h) [
     | inr apart ↦ cond-false _ _ _ apart
   ]))
   | inr blanks ↦ Alike-back N T (Alike-blank N T at (λ q. elim (cases_Bool (dot_eq at q)) [
-    | inl same ↦ ap T (sym (dot_eq-true at q same)) ∙ (blanks ∙ (sym (ap or_blank (rows q ∙ cond-true _ _ _ same)) ∙ sym (cond-true _ _ _ same)))
+    | inl same ↦ ap T (sym (dot_eq-true at q same))
+        ∙ (blanks ∙ (sym (ap or_blank (rows q ∙ cond-true _ _ _ same))
+        ∙ sym (cond-true _ _ _ same)))
     | inr apart ↦ sym (rows q ∙ cond-false _ _ _ apart) ∙ sym (cond-false _ _ _ apart)
   ]))
 ]
@@ -178,20 +192,29 @@ within_back f g same d l h = sym (same d) ∙ h
 pub IsForest-kept : (T N : Rows) → IsForest T → AlikeButMarks T N → IsCounted N → IsForest N
 IsForest-kept T N t p counted =
     let w : LinksWithin (links_of T) (links_of N) = within_same (links_of T) (links_of N) p.link in
-    let back : LinksWithin (links_of N) (links_of T) = within_back (links_of T) (links_of N) p.link in
+    let back : LinksWithin (links_of N) (links_of T) =
+    within_back (links_of T) (links_of N) p.link in
     record {
-      under = λ q c h. IsUnder-within (links_of T) (links_of N) w q c (t.under q c (sym (p.code q) ∙ h));
+      under = λ q c h.
+          IsUnder-within (links_of T) (links_of N) w q c (t.under q c (sym (p.code q) ∙ h));
       memo = λ q c u. p.code q ∙ t.memo q c (IsUnder-within (links_of N) (links_of T) back q c u);
       bads = counted;
-      used = λ j h. let u : IsUsed (links_of T) j = t.used j (sym (p.used j.dot j.kind) ∙ h) in record { user = u.user; by = ap use_of (p.link u.user) ∙ u.by };
-      uses = λ j u. p.used j.dot j.kind ∙ t.uses j (record { user = u.user; by = sym (ap use_of (p.link u.user)) ∙ u.by });
-      again = λ j h. IsTwice-within (links_of T) (links_of N) w j (t.again j (sym (p.again j.dot j.kind) ∙ h));
-      twice = λ j h. p.again j.dot j.kind ∙ t.twice j (IsTwice-within (links_of N) (links_of T) back j h);
+      used = λ j h. let u : IsUsed (links_of T) j = t.used j (sym (p.used j.dot j.kind) ∙ h) in
+          record { user = u.user; by = ap use_of (p.link u.user) ∙ u.by };
+      uses = λ j u. p.used j.dot j.kind
+          ∙ t.uses j (record { user = u.user; by = sym (ap use_of (p.link u.user)) ∙ u.by });
+      again = λ j h.
+          IsTwice-within (links_of T) (links_of N) w j (t.again j (sym (p.again j.dot j.kind) ∙ h));
+      twice = λ j h.
+          p.again j.dot j.kind ∙ t.twice j (IsTwice-within (links_of N) (links_of T) back j h);
     }
 
 pub IsForest-alike : (T N : Rows) → IsForest T → Alike T N → IsForest N
-IsForest-alike T N t a = IsForest-kept T N t (record { link = a.link; code = a.code; first = a.first; used = a.used; again = a.again })
-    (IsCounted-same T N (λ q. blamed-same (T q) (N q) (bad-same (T q) (N q) (a.link q) (a.marked q) (a.again q)) (a.code q)) a.count t.bads)
+IsForest-alike T N t a = IsForest-kept T N t
+    (record { link = a.link; code = a.code; first = a.first; used = a.used; again = a.again })
+    (IsCounted-same T N
+    (λ q. blamed-same (T q) (N q) (bad-same (T q) (N q) (a.link q) (a.marked q) (a.again q))
+    (a.code q)) a.count t.bads)
 
 -- ---- the code of a new link
 
@@ -199,10 +222,14 @@ pub IsPath-below : (f g : Links) (d : Dot) (l : Link) → Adds f g d l
     → (q : Dot) (ps : List Dot) (c : Dot) → IsPath g q ps c → rank_of (g q) < rank_of (g d)
     → IsUnder f q c
 IsPath-below f g d l a q [] c m low =
-    let ne : q ≢ d = λ same. let e : rank_of (g q) ≡ rank_of (g d) = ap (λ (y : Dot). rank_of (g y)) same in absurd (omega arith) in
+    let ne : q ≢ d =
+    λ same. let e : rank_of (g q) ≡ rank_of (g d) = ap (λ (y : Dot). rank_of (g y)) same in
+    absurd (omega arith) in
     alone f g d l a q c ne m
 IsPath-below f g d l a q (p ∷ ps) c m low =
-    let ne : q ≢ d = λ same. let e : rank_of (g q) ≡ rank_of (g d) = ap (λ (y : Dot). rank_of (g y)) same in absurd (omega arith) in
+    let ne : q ≢ d =
+    λ same. let e : rank_of (g q) ≡ rank_of (g d) = ap (λ (y : Dot). rank_of (g y)) same in
+    absurd (omega arith) in
     let r : rank_of (g q) ≡ rank_of (g p) + 1 = IsParent-rank g q p m.0.0 in
     let less : rank_of (g p) < rank_of (g d) = omega arith in
     below_under f g d l a q p c ne m.0.0 (IsPath-below f g d l a p ps c (m.0.1, m.1) less)
@@ -222,14 +249,34 @@ pub chain-some : (T : Rows) (g : Links) (d : Dot) (l : Link) (o : Option Dot) (c
 chain-some T g d l None c t a names h =
     let code : l ≡ Code = no_name l names in
     let same : d ≡ c = cc in
-    record { path = []; leads = (same, ap g (sym same) ∙ (a.here ∙ ap (λ (k : Link). Some k) code)) }
+    record {
+      path = [];
+      leads = (same, ap g (sym same) ∙ (a.here ∙ ap (λ (k : Link). Some k) code));
+    }
 chain-some T g d l (Some p) c t a names h = elim (cases_Bool (fits_over l (link_in (T p)))) [
   | inl fit ↦
-      let above : (k : Link) × (link_in (T p) ≡ Some k) × (fits l k ≡ true) = fits_over-some l (link_in (T p)) fit in
+      let above : (k : Link) × (link_in (T p) ≡ Some k) × (fits l k ≡ true) =
+      fits_over-some l (link_in (T p)) fit in
       let code : code_in (T p) ≡ Some c = sym (cond-true _ _ _ fit) ∙ h in
       let w : LinksWithin (links_of T) g = Within-adds (links_of T) g d l a in
       let u : IsUnder g p c = IsUnder-within (links_of T) g w p c (t.under p c code) in
-      record { path = p ∷ u.path; leads = ((record { link = l; above = above.0; here = a.here; names = names; there = w p above.0 above.1; fitting = above.2 }, u.leads.0), u.leads.1) }
+      record {
+        path = p ∷ u.path;
+        leads = (
+          (
+            record {
+              link = l;
+              above = above.0;
+              here = a.here;
+              names = names;
+              there = w p above.0 above.1;
+              fitting = above.2;
+            },
+            u.leads.0,
+          ),
+          u.leads.1,
+        );
+      }
   | inr none ↦ absurd (let clash : None ≡ Some c = sym (cond-false _ _ _ none) ∙ h in cc)
 ]
 
@@ -248,21 +295,36 @@ chain-path T g d l (p ∷ ps) c t a m =
     let names : named_by l ≡ Some p = ap named_by (sym same) ∙ m.0.0.names in
     let r : rank_of (g d) ≡ rank_of (g p) + 1 = IsParent-rank g d p m.0.0 in
     let less : rank_of (g p) < rank_of (g d) = omega arith in
-    let ne : p ≢ d = λ e. let s : rank_of (g p) ≡ rank_of (g d) = ap (λ (y : Dot). rank_of (g y)) e in absurd (omega arith) in
+    let ne : p ≢ d =
+    λ e. let s : rank_of (g p) ≡ rank_of (g d) = ap (λ (y : Dot). rank_of (g y)) e in
+    absurd (omega arith) in
     let above : links_of T p ≡ Some m.0.0.above = sym (a.others p ne) ∙ m.0.0.there in
-    let fit : fits l m.0.0.above ≡ true = ap (λ (k : Link). fits k m.0.0.above) (sym same) ∙ m.0.0.fitting in
+    let fit : fits l m.0.0.above ≡ true =
+    ap (λ (k : Link). fits k m.0.0.above) (sym same) ∙ m.0.0.fitting in
     let u : IsUnder (links_of T) p c = IsPath-below (links_of T) g d l a p ps c (m.0.1, m.1) less in
-    ap (chain_by T d l) names ∙ (cond-true _ _ _ (some_over l m.0.0.above (link_in (T p)) above fit) ∙ t.memo p c u)
+    ap (chain_by T d l) names
+    ∙ (cond-true _ _ _ (some_over l m.0.0.above (link_in (T p)) above fit) ∙ t.memo p c u)
 
 pub chain-none : (T : Rows) (g : Links) (d : Dot) (l : Link) → IsForest T → Adds (links_of T) g d l
     → chain_code T d l ≡ None → (c : Dot) → IsUnder g d c → ⊥
-chain-none T g d l t a none c u = let clash : Some c ≡ None = sym (chain-path T g d l u.path c t a u.leads) ∙ none in cc
+chain-none T g d l t a none c u =
+    let clash : Some c ≡ None = sym (chain-path T g d l u.path c t a u.leads) ∙ none in cc
 
 pub NothingSeen-then : (T M N : Rows) → NothingSeen T M → NothingSeen M N → NothingSeen T N
-NothingSeen-then T M N a b = record { forest = b.forest; first = λ q. b.first q ∙ a.first q; links = λ q. b.links q ∙ a.links q; marks = λ k. b.marks k ∙ a.marks k }
+NothingSeen-then T M N a b = record {
+  forest = b.forest;
+  first = λ q. b.first q ∙ a.first q;
+  links = λ q. b.links q ∙ a.links q;
+  marks = λ k. b.marks k ∙ a.marks k;
+}
 
 pub NothingSeen-alike : (T N : Rows) → IsForest T → Alike T N → NothingSeen T N
-NothingSeen-alike T N t a = record { forest = IsForest-alike T N t a; first = a.first; links = a.link; marks = λ k. a.marked k.dot k.kind }
+NothingSeen-alike T N t a = record {
+  forest = IsForest-alike T N t a;
+  first = a.first;
+  links = a.link;
+  marks = λ k. a.marked k.dot k.kind;
+}
 
 blank_there : (o : Option Row) → IsSome (or_blank o)
 blank_there None = refl
@@ -270,4 +332,6 @@ blank_there (Some r) = refl
 
 pub present-blank : (T N : Rows) (at : Dot)
     → ((q : Dot) → N q ≡ cond (dot_eq at q) (or_blank (T q)) (T q)) → IsSome (N at)
-present-blank T N at h = subst (λ (o : Option Row). IsSome o) (sym (h at ∙ cond-true (dot_eq at at) (or_blank (T at)) (T at) (dot_eq-same at))) (blank_there (T at))
+present-blank T N at h = subst (λ (o : Option Row). IsSome o)
+    (sym (h at ∙ cond-true (dot_eq at at) (or_blank (T at)) (T at) (dot_eq-same at)))
+    (blank_there (T at))

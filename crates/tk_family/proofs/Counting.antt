@@ -1,4 +1,8 @@
--- The counts of the bad dots of a family.
+-- The counts of the bad dots of a family. Key results:
+--   IsCount-alike, IsCount-is      a count of other dots that are the same
+--   IsCount-step                   a count after a change at one dot
+--   bad-same, blamed-same          the same columns make the same dots bad
+--   count-some, some-count         a count is above 0 exactly if a bad dot is under the code
 use Rattle.std.specs.FinMap as map
 use Rattle.std.proofs.Common.{◌≡◌, ◌≢◌, ◌⊎◌, inl, inr, ℕ, ◌+◌, ◌-◌, ◌≤◌, ◌||◌, Bool, true, false}
 use Rattle.std.proofs.Common.{not, cond, Option, None, Some, List, [], ◌∷◌, ◌++◌, length, filter}
@@ -14,11 +18,10 @@ use Rattle.tk_handle.specs.declared.dot.Dot.{Dot}
 use Rattle.tk_handle.specs.declared.kind.Kind.{Kind}
 use Rattle.tk_family.specs.declared.link.Link.{Link}
 use Rattle.tk_family.specs.declared.row.Row.{Row}
-use Rattle.tk_family.specs.Counts.{IsCount, IsCounted, blamed_as, IsCountedAs}
+use Rattle.tk_family.specs.Counts.{IsCount, IsCounted}
 use Rattle.tk_family.specs.Dots.{dot_eq, has}
 use Rattle.tk_family.specs.Rows.{RowMap, Rows, table, link_in, code_in, count_in, marked_in}
 use Rattle.tk_family.specs.Rows.{again_in, bad_at, bad_in, blamed_in, grant_kind}
-use Rattle.tk_family.specs.Writes.{bads}
 use Rattle.tk_family.proofs.DotLaws.{dots_equiv, dot_eq-same, dot_eq-apart, cases_dots, has-cons}
 use Rattle.tk_family.proofs.DotLaws.{has-here, has-there, has-append, has-left, has-right}
 use Rattle.tk_family.proofs.DotLaws.{IsDistinct-append}
@@ -39,22 +42,32 @@ IsCount-alike f g c n there back x = record {
 }
 
 pub IsCount-is : (f : Dot → Option Dot) (c : Dot) (n m : ℕ) → m ≡ n → IsCount f c n → IsCount f c m
-IsCount-is f c n m same x = record { list = x.list; sound = x.sound; all = x.all; distinct = x.distinct; count = same ∙ x.count }
+IsCount-is f c n m same x = record {
+  list = x.list;
+  sound = x.sound;
+  all = x.all;
+  distinct = x.distinct;
+  count = same ∙ x.count;
+}
 
 -- there is one count
-IsCount-one : (f : Dot → Option Dot) (c : Dot) (n m : ℕ) → IsCount f c n → IsCount f c m → n ≡ m
+pub IsCount-one : (f : Dot → Option Dot) (c : Dot) (n m : ℕ) → IsCount f c n → IsCount f c m → n ≡ m
 IsCount-one f c n m x y =
-    let few : length x.list ≤ length y.list = length-le_from_is_member dots_equiv x.list y.list x.distinct (λ q h. y.all q (x.sound q h)) in
-    let many : length y.list ≤ length x.list = length-le_from_is_member dots_equiv y.list x.list y.distinct (λ q h. x.all q (y.sound q h)) in
+    let few : length x.list ≤ length y.list =
+    length-le_from_is_member dots_equiv x.list y.list x.distinct (λ q h. y.all q (x.sound q h)) in
+    let many : length y.list ≤ length x.list =
+    length-le_from_is_member dots_equiv y.list x.list y.distinct (λ q h. x.all q (y.sound q h)) in
     let a : n ≡ length x.list = x.count in
     let b : m ≡ length y.list = y.count in
     omega arith
 
 -- a list of other dots, of which some are sent to c too
-IsCount-sum : (f g : Dot → Option Dot) (c : Dot) (n : ℕ) (p : Dot → Bool) (ys : List Dot)
+pub IsCount-sum : (f g : Dot → Option Dot) (c : Dot) (n : ℕ) (p : Dot → Bool) (ys : List Dot)
     → IsDistinct dot_eq ys → ((q : Dot) → has ys q ≡ true → f q ≢ Some c)
     → ((q : Dot) → g q ≡ Some c → (f q ≡ Some c) ⊎ ((has ys q ≡ true) × (p q ≡ true)))
-    → ((q : Dot) → f q ≡ Some c → g q ≡ Some c) → ((q : Dot) → has ys q ≡ true → p q ≡ true → g q ≡ Some c) → IsCount f c n → IsCount g c (n + count_by p ys)
+    → ((q : Dot) → f q ≡ Some c → g q ≡ Some c)
+    → ((q : Dot) → has ys q ≡ true → p q ≡ true → g q ≡ Some c) → IsCount f c n
+    → IsCount g c (n + count_by p ys)
 IsCount-sum f g c n p ys d apart claim old new x =
     let zs : List Dot = filter p ys in
     record {
@@ -67,7 +80,8 @@ IsCount-sum f g c n p ys d apart claim old new x =
         | inl here ↦ has-left x.list zs q (x.all q here)
         | inr more ↦ has-right x.list zs q (filter-has p ys q more.0 more.1)
       ];
-      distinct = IsDistinct-append x.list zs x.distinct (IsDistinct-filter p ys d) (λ q here more. apart q (has-filter p ys q more).0 (x.sound q here));
+      distinct = IsDistinct-append x.list zs x.distinct (IsDistinct-filter p ys d)
+          (λ q here more. apart q (has-filter p ys q more).0 (x.sound q here));
       count =
           let long : length (x.list ++ zs) ≡ length x.list + length zs = length-append x.list zs in
           let some : length zs ≡ count_by p ys = length-filter p ys in
@@ -76,7 +90,7 @@ IsCount-sum f g c n p ys d apart claim old new x =
     }
 
 -- the dots that pass a test
-IsCount-rest : (f g : Dot → Option Dot) (c : Dot) (n : ℕ) (p : Dot → Bool)
+pub IsCount-rest : (f g : Dot → Option Dot) (c : Dot) (n : ℕ) (p : Dot → Bool)
     → ((q : Dot) → g q ≡ Some c → (f q ≡ Some c) × (p q ≡ true))
     → ((q : Dot) → f q ≡ Some c → p q ≡ true → g q ≡ Some c) → IsCount f c n
     → (m : ℕ) × IsCount g c m
@@ -92,10 +106,12 @@ IsCount-rest f g c n p back there x = (
 )
 
 -- there are at least as many rows
-IsCount-room : (m : RowMap) (f : Dot → Option Dot) (c : Dot) (n : ℕ)
+pub IsCount-room : (m : RowMap) (f : Dot → Option Dot) (c : Dot) (n : ℕ)
     → ((q : Dot) → f q ≡ Some c → IsSome (table m q)) → IsCount f c n → n ≤ map.len m
 IsCount-room m f c n row x =
-    let few : length x.list ≤ length (map.entries m) = length-le_from_keys dots_equiv x.list (map.entries m) x.distinct (λ q h. subst IsSome (sym (entries_table m q)) (row q (x.sound q h))) in
+    let few : length x.list ≤ length (map.entries m) =
+    length-le_from_keys dots_equiv x.list (map.entries m) x.distinct
+    (λ q h. subst IsSome (sym (entries_table m q)) (row q (x.sound q h))) in
     let all : map.len m ≡ length (map.entries m) = map.len-entries m in
     let is : n ≡ length x.list = x.count in
     omega arith
@@ -103,21 +119,32 @@ IsCount-room m f c n row x =
 -- ---- one dot
 
 -- a dot that is sent to c neither before nor after
-IsCount-apart : (f g : Dot → Option Dot) (at c : Dot) (n : ℕ) → ((q : Dot) → q ≢ at → g q ≡ f q)
+pub IsCount-apart : (f g : Dot → Option Dot) (at c : Dot) (n : ℕ) → ((q : Dot) → q ≢ at → g q ≡ f q)
     → f at ≢ Some c → g at ≢ Some c → IsCount f c n → IsCount g c n
 IsCount-apart f g at c n others not_f not_g x = IsCount-alike f g c n
-    (λ q h. elim (cases_dots q at) [ inl same ↦ absurd (not_f (ap f (sym same) ∙ h)) | inr ne ↦ others q ne ∙ h ])
-    (λ q h. elim (cases_dots q at) [ inl same ↦ absurd (not_g (ap g (sym same) ∙ h)) | inr ne ↦ sym (others q ne) ∙ h ]) x
+    (λ q h. elim (cases_dots q at) [
+      | inl same ↦ absurd (not_f (ap f (sym same) ∙ h))
+      | inr ne ↦ others q ne ∙ h
+    ])
+    (λ q h. elim (cases_dots q at) [
+      | inl same ↦ absurd (not_g (ap g (sym same) ∙ h))
+      | inr ne ↦ sym (others q ne) ∙ h
+    ]) x
 
 -- a dot that is sent to c now
 IsCount-more : (f g : Dot → Option Dot) (at c : Dot) (n : ℕ) → ((q : Dot) → q ≢ at → g q ≡ f q)
     → f at ≢ Some c → g at ≡ Some c → IsCount f c n → IsCount g c (n + 1)
 IsCount-more f g at c n others not_f here x =
-    let fresh : (q : Dot) → has x.list q ≡ true → q ≢ at = λ q h same. not_f (ap f (sym same) ∙ x.sound q h) in
-    let none : has x.list at ≡ false = elim (cases_Bool (has x.list at)) [ inl h ↦ absurd (fresh at h refl) | inr h ↦ h ] in
+    let fresh : (q : Dot) → has x.list q ≡ true → q ≢ at =
+    λ q h same. not_f (ap f (sym same) ∙ x.sound q h) in
+    let none : has x.list at ≡ false =
+    elim (cases_Bool (has x.list at)) [ inl h ↦ absurd (fresh at h refl) | inr h ↦ h ] in
     record {
       list = at ∷ x.list;
-      sound = λ q h. elim (has-cons at x.list q h) [ inl same ↦ ap g same ∙ here | inr more ↦ others q (fresh q more) ∙ x.sound q more ];
+      sound = λ q h. elim (has-cons at x.list q h) [
+        | inl same ↦ ap g same ∙ here
+        | inr more ↦ others q (fresh q more) ∙ x.sound q more
+      ];
       all = λ q h. elim (cases_dots q at) [
         | inl same ↦ subst (λ (y : Dot). has (at ∷ x.list) y ≡ true) (sym same) (has-here at x.list)
         | inr ne ↦ has-there at x.list q (x.all q (sym (others q ne) ∙ h))
@@ -130,19 +157,22 @@ IsCount-more f g at c n others not_f here x =
 IsCount-less : (f g : Dot → Option Dot) (at c : Dot) (n : ℕ) → ((q : Dot) → q ≢ at → g q ≡ f q)
     → f at ≡ Some c → g at ≢ Some c → IsCount f c n → (1 ≤ n) × IsCount g c (n - 1)
 IsCount-less f g at c n others here not_g x =
-    let back : (q : Dot) → g q ≡ Some c → (f q ≡ Some c) × (not (dot_eq at q) ≡ true) = λ q h. elim (cases_dots q at) [
+    let back : (q : Dot) → g q ≡ Some c → (f q ≡ Some c) × (not (dot_eq at q) ≡ true) =
+    λ q h. elim (cases_dots q at) [
       | inl same ↦ absurd (not_g (ap g (sym same) ∙ h))
       | inr ne ↦ (sym (others q ne) ∙ h, ap not (dot_eq-apart at q (λ same. ne (sym same))))
     ] in
-    let there : (q : Dot) → f q ≡ Some c → not (dot_eq at q) ≡ true → g q ≡ Some c = λ q h apart. elim (cases_dots q at) [
+    let there : (q : Dot) → f q ≡ Some c → not (dot_eq at q) ≡ true → g q ≡ Some c =
+    λ q h apart. elim (cases_dots q at) [
       | inl same ↦ absurd (true≢false (sym apart ∙ ap not (ap (dot_eq at) same ∙ dot_eq-same at)))
       | inr ne ↦ others q ne ∙ h
     ] in
     let r : (m : ℕ) × IsCount g c m = IsCount-rest f g c n (λ q. not (dot_eq at q)) back there x in
-    let is : n ≡ r.0 + 1 = IsCount-one f c n (r.0 + 1) x (IsCount-more g f at c r.0 (λ q ne. sym (others q ne)) not_g here r.1) in
+    let is : n ≡ r.0 + 1 = IsCount-one f c n (r.0 + 1) x
+    (IsCount-more g f at c r.0 (λ q ne. sym (others q ne)) not_g here r.1) in
     (omega arith, IsCount-is g c r.0 (n - 1) (omega arith) r.1)
 
-not_some : (o : Option Dot) (c : Dot) → o ≡ None → o ≢ Some c
+pub not_some : (o : Option Dot) (c : Dot) → o ≡ None → o ≢ Some c
 not_some o c none some = let clash : None ≡ Some c = sym none ∙ some in cc
 
 -- a dot that was sent to c or to none, and is sent to c or to none now
@@ -151,36 +181,57 @@ pub IsCount-step : (f g : Dot → Option Dot) (at c : Dot) (was is : Bool) (n : 
     → g at ≡ cond is (Some c) None → IsCount f c n
     → (cond was 1 0 ≤ n) × IsCount g c ((n - cond was 1 0) + cond is 1 0)
 IsCount-step f g at c true true n others before after x =
-    let less : (1 ≤ n) × IsCount (λ q. cond (dot_eq at q) None (f q)) c (n - 1) = IsCount-less f (λ q. cond (dot_eq at q) None (f q)) at c n (λ q ne. cond-false _ _ _ (dot_eq-apart at q (λ same. ne (sym same)))) before (not_some _ c (cond-true _ _ _ (dot_eq-same at))) x in (
+    let less : (1 ≤ n) × IsCount (λ q. cond (dot_eq at q) None (f q)) c (n - 1) =
+    IsCount-less f (λ q. cond (dot_eq at q) None (f q)) at c n
+    (λ q ne. cond-false _ _ _ (dot_eq-apart at q (λ same. ne (sym same)))) before
+    (not_some _ c (cond-true _ _ _ (dot_eq-same at))) x in (
       less.0,
-      IsCount-is g c n ((n - 1) + 1) (let some : 1 ≤ n = less.0 in omega arith) (IsCount-alike f g c n
-          (λ q h. elim (cases_dots q at) [ inl same ↦ ap g same ∙ after | inr ne ↦ others q ne ∙ h ])
-          (λ q h. elim (cases_dots q at) [ inl same ↦ ap f same ∙ before | inr ne ↦ sym (others q ne) ∙ h ]) x),
+      IsCount-is g c n ((n - 1) + 1) (let some : 1 ≤ n = less.0 in omega arith)
+          (IsCount-alike f g c n
+          (λ q h. elim (cases_dots q at) [
+            | inl same ↦ ap g same ∙ after
+            | inr ne ↦ others q ne ∙ h
+          ])
+          (λ q h. elim (cases_dots q at) [
+            | inl same ↦ ap f same ∙ before
+            | inr ne ↦ sym (others q ne) ∙ h
+          ]) x),
     )
 IsCount-step f g at c true false n others before after x =
-    let less : (1 ≤ n) × IsCount g c (n - 1) = IsCount-less f g at c n others before (not_some (g at) c after) x in
+    let less : (1 ≤ n) × IsCount g c (n - 1) =
+    IsCount-less f g at c n others before (not_some (g at) c after) x in
     (less.0, IsCount-is g c (n - 1) ((n - 1) + 0) (omega arith) less.1)
-IsCount-step f g at c false true n others before after x =
-    (omega arith, IsCount-is g c (n + 1) ((n - 0) + 1) (omega arith) (IsCount-more f g at c n others (not_some (f at) c before) after x))
-IsCount-step f g at c false false n others before after x =
-    (omega arith, IsCount-is g c n ((n - 0) + 0) (omega arith) (IsCount-apart f g at c n others (not_some (f at) c before) (not_some (g at) c after) x))
+IsCount-step f g at c false true n others before after x = (
+  omega arith,
+  IsCount-is g c (n + 1) ((n - 0) + 1) (omega arith)
+      (IsCount-more f g at c n others (not_some (f at) c before) after x),
+)
+IsCount-step f g at c false false n others before after x = (
+  omega arith,
+  IsCount-is g c n ((n - 0) + 0) (omega arith)
+      (IsCount-apart f g at c n others (not_some (f at) c before) (not_some (g at) c after) x),
+)
 
 -- ---- bad dots
 
 bad_at-same : (o : Option Link) (x y : Option Row) → ((k : Kind) → marked_in y k ≡ marked_in x k)
     → ((k : Kind) → again_in y k ≡ again_in x k) → bad_at o y ≡ bad_at o x
 bad_at-same None x y marked again = refl
-bad_at-same (Some l) x y marked again = ap (λ (b : Bool). b || again_in y (grant_kind l)) (marked (grant_kind l)) ∙ ap (λ (b : Bool). marked_in x (grant_kind l) || b) (again (grant_kind l))
+bad_at-same (Some l) x y marked again = ap (λ (b : Bool). b || again_in y (grant_kind l))
+    (marked (grant_kind l))
+    ∙ ap (λ (b : Bool). marked_in x (grant_kind l) || b) (again (grant_kind l))
 
 -- whether a token is bad depends on three columns
 pub bad-same : (x y : Option Row) → link_in y ≡ link_in x
     → ((k : Kind) → marked_in y k ≡ marked_in x k) → ((k : Kind) → again_in y k ≡ again_in x k)
     → bad_in y ≡ bad_in x
-bad-same x y link marked again = ap (λ (o : Option Link). bad_at o y) link ∙ bad_at-same (link_in x) x y marked again
+bad-same x y link marked again =
+    ap (λ (o : Option Link). bad_at o y) link ∙ bad_at-same (link_in x) x y marked again
 
 pub blamed-same : (x y : Option Row) → bad_in y ≡ bad_in x → code_in y ≡ code_in x
     → blamed_in y ≡ blamed_in x
-blamed-same x y bad code = ap (λ (b : Bool). cond b (code_in y) None) bad ∙ ap (λ (o : Option Dot). cond (bad_in x) o None) code
+blamed-same x y bad code = ap (λ (b : Bool). cond b (code_in y) None) bad
+    ∙ ap (λ (o : Option Dot). cond (bad_in x) o None) code
 
 pub blamed-bad : (o : Option Row) (c : Dot) → bad_in o ≡ true → code_in o ≡ Some c
     → blamed_in o ≡ Some c
@@ -190,193 +241,27 @@ pub blamed-parts : (o : Option Row) (c : Dot) → blamed_in o ≡ Some c
     → (bad_in o ≡ true) × (code_in o ≡ Some c)
 blamed-parts o c h = elim (cases_Bool (bad_in o)) [
   | inl bad ↦ (bad, sym (cond-true (bad_in o) (code_in o) None bad) ∙ h)
-  | inr good ↦ absurd (let clash : None ≡ Some c = sym (cond-false (bad_in o) (code_in o) None good) ∙ h in cc)
+  | inr good ↦ absurd
+      (let clash : None ≡ Some c = sym (cond-false (bad_in o) (code_in o) None good) ∙ h in cc)
 ]
 
 pub blamed-none : (o : Option Row) → code_in o ≡ None → blamed_in o ≡ None
-blamed-none o none = elim (cases_Bool (bad_in o)) [ inl bad ↦ cond-true (bad_in o) (code_in o) None bad ∙ none | inr good ↦ cond-false (bad_in o) (code_in o) None good ]
+blamed-none o none = elim (cases_Bool (bad_in o)) [
+  | inl bad ↦ cond-true (bad_in o) (code_in o) None bad ∙ none
+  | inr good ↦ cond-false (bad_in o) (code_in o) None good
+]
 
-bad-row : (o : Option Row) → bad_in o ≡ true → IsSome o
+pub bad-row : (o : Option Row) → bad_in o ≡ true → IsSome o
 bad-row None h = absurd (true≢false (sym h))
 bad-row (Some r) h = refl
 
 -- the columns that the counts depend on are the same
 pub IsCounted-same : (T N : Rows) → ((q : Dot) → blamed_in (N q) ≡ blamed_in (T q))
     → ((q : Dot) → count_in (N q) ≡ count_in (T q)) → IsCounted T → IsCounted N
-IsCounted-same T N blamed count x c = IsCount-is (λ q. blamed_in (N q)) c (count_in (T c)) (count_in (N c)) (count c)
-    (IsCount-alike (λ q. blamed_in (T q)) (λ q. blamed_in (N q)) c (count_in (T c)) (λ q h. blamed q ∙ h) (λ q h. sym (blamed q) ∙ h) (x c))
-
--- ---- a dot is counted anew
-
-pub IsCountedAs-from : (T M : Rows) (at : Dot) → IsCounted T
-    → ((q : Dot) → code_in (M q) ≡ code_in (T q)) → ((q : Dot) → count_in (M q) ≡ count_in (T q))
-    → ((q : Dot) → q ≢ at → blamed_in (M q) ≡ blamed_in (T q)) → IsCountedAs M at (bad_in (T at))
-IsCountedAs-from T M at x code count blamed c =
-    let f : Dot → Option Dot = blamed_as M at (bad_in (T at)) in
-    let same : (q : Dot) → f q ≡ blamed_in (T q) = λ q. elim (cases_dots at q) [
-      | inl here ↦ cond-true _ _ _ (ap (dot_eq at) (sym here) ∙ dot_eq-same at) ∙ (ap (λ (o : Option Dot). cond (bad_in (T at)) o None) (code q) ∙ ap (λ (y : Dot). cond (bad_in (T y)) (code_in (T q)) None) here)
-      | inr ne ↦ cond-false _ _ _ (dot_eq-apart at q ne) ∙ blamed q (λ h. ne (sym h))
-    ] in
-    IsCount-is f c (count_in (T c)) (count_in (M c)) (count c) (IsCount-alike (λ q. blamed_in (T q)) f c (count_in (T c)) (λ q h. same q ∙ h) (λ q h. sym (same q) ∙ h) (x c))
-
-as_here : (M : Rows) (at : Dot) (was : Bool)
-    → blamed_as M at was at ≡ cond was (code_in (M at)) None
-as_here M at was = cond-true _ _ _ (dot_eq-same at)
-
-as_other : (M : Rows) (at : Dot) (was : Bool) (q : Dot) → q ≢ at
-    → blamed_in (M q) ≡ blamed_as M at was q
-as_other M at was q ne = sym (cond-false _ _ _ (dot_eq-apart at q (λ same. ne (sym same))))
-
-pub recount-step : (M : Rows) (at code : Dot) (was : Bool) → IsCountedAs M at was
-    → code_in (M at) ≡ Some code
-    → (cond was 1 0 ≤ count_in (M code)) × IsCount (λ q. blamed_in (M q)) code ((count_in (M code) - cond was 1 0) + cond (bad_in (M at)) 1 0)
-recount-step M at code was x said = IsCount-step (blamed_as M at was) (λ q. blamed_in (M q)) at code was (bad_in (M at)) (count_in (M code)) (as_other M at was)
-    (as_here M at was ∙ ap (λ (o : Option Dot). cond was o None) said) (ap (λ (o : Option Dot). cond (bad_in (M at)) o None) said) (x code)
-
-pub recount-fits : (m : RowMap) (at code : Dot) (was : Bool) → IsCountedAs (table m) at was
-    → code_in (table m at) ≡ Some code
-    → (count_in (table m code) - cond was 1 0) + cond (bad_in (table m at)) 1 0 ≤ map.len m
-recount-fits m at code was x said = IsCount-room m (λ q. blamed_in (table m q)) code _ (λ q h. bad-row (table m q) (blamed-parts (table m q) code h).0) (recount-step (table m) at code was x said).1
-
-some_or_none : (b : Bool) (o : Option Dot) (x c : Dot) → o ≡ Some x → x ≢ c → cond b o None ≢ Some c
-some_or_none true o x c said ne h = let both : Some x ≡ Some c = sym said ∙ h in let same : x ≡ c = cc in ne same
-some_or_none false o x c said ne h = let clash : None ≡ Some c = h in cc
-
--- a code other than that of the dot has its count
-pub recount-others : (M : Rows) (at code : Dot) (was : Bool) (c : Dot) → IsCountedAs M at was
-    → code_in (M at) ≡ Some code → code ≢ c → IsCount (λ q. blamed_in (M q)) c (count_in (M c))
-recount-others M at code was c x said ne = IsCount-apart (blamed_as M at was) (λ q. blamed_in (M q)) at c (count_in (M c)) (as_other M at was)
-    (λ h. some_or_none was (code_in (M at)) code c said ne (sym (as_here M at was) ∙ h)) (some_or_none (bad_in (M at)) (code_in (M at)) code c said ne) (x c)
-
-none_either : (b : Bool) (o : Option Dot) (c : Dot) → o ≡ None → cond b o None ≢ Some c
-none_either true o c none h = not_some o c none h
-none_either false o c none h = let clash : None ≡ Some c = h in cc
-
--- if the dot is under no code, all codes have their counts
-pub recount-none : (M : Rows) (at : Dot) (was : Bool) → IsCountedAs M at was → code_in (M at) ≡ None
-    → IsCounted M
-recount-none M at was x none c = IsCount-apart (blamed_as M at was) (λ q. blamed_in (M q)) at c (count_in (M c)) (as_other M at was)
-    (λ h. none_either was (code_in (M at)) c none (sym (as_here M at was) ∙ h)) (none_either (bad_in (M at)) (code_in (M at)) c none) (x c)
-
--- ---- a list of dots comes under a code, or is under it no more
-
--- the dots that are bad under their codes, once those of the list are under c
-abbrev with_list : Rows → List Dot → Dot → Dot → Option Dot
-with_list M ys c q = cond (has ys q) (cond (bad_in (M q)) (Some c) None) (blamed_in (M q))
-
--- and once those of the list are under no code
-abbrev without_list : Rows → List Dot → Dot → Option Dot
-without_list T ys q = cond (has ys q) None (blamed_in (T q))
-
-if_some : (b : Bool) (c : Dot) → cond b (Some c) None ≡ Some c → b ≡ true
-if_some true c h = refl
-if_some false c h = absurd (let clash : None ≡ Some c = h in cc)
-
-raise-count : (M : Rows) (c : Dot) (ys : List Dot) → IsCounted M → IsDistinct dot_eq ys
-    → ((q : Dot) → has ys q ≡ true → code_in (M q) ≡ None)
-    → IsCount (with_list M ys c) c (count_in (M c) + bads M ys)
-raise-count M c ys x d fresh = IsCount-sum (λ q. blamed_in (M q)) (with_list M ys c) c (count_in (M c)) (λ q. bad_in (M q)) ys d
-    (λ q walked. not_some (blamed_in (M q)) c (blamed-none (M q) (fresh q walked)))
-    (λ q h. elim (cases_Bool (has ys q)) [
-      | inl walked ↦ inr (walked, if_some (bad_in (M q)) c (sym (cond-true _ _ _ walked) ∙ h))
-      | inr passed ↦ inl (sym (cond-false _ _ _ passed) ∙ h)
-    ])
-    (λ q h. elim (cases_Bool (has ys q)) [
-      | inl walked ↦ absurd (not_some (blamed_in (M q)) c (blamed-none (M q) (fresh q walked)) h)
-      | inr passed ↦ cond-false _ _ _ passed ∙ h
-    ])
-    (λ q walked bad. cond-true _ _ _ walked ∙ cond-true _ _ _ bad) (x c)
-
-pub raise-fits : (m : RowMap) (c : Dot) (ys : List Dot) → IsCounted (table m) → IsDistinct dot_eq ys
-    → ((q : Dot) → has ys q ≡ true → code_in (table m q) ≡ None)
-    → count_in (table m c) + bads (table m) ys ≤ map.len m
-raise-fits m c ys x d fresh = IsCount-room m (with_list (table m) ys c) c _
-    (λ q h. elim (cases_Bool (has ys q)) [
-      | inl walked ↦ bad-row (table m q) (if_some (bad_in (table m q)) c (sym (cond-true _ _ _ walked) ∙ h))
-      | inr passed ↦ bad-row (table m q) (blamed-parts (table m q) c (sym (cond-false _ _ _ passed) ∙ h)).0
-    ]) (raise-count (table m) c ys x d fresh)
-
--- the counts once a list is under c
-pub IsCounted-raised : (M A : Rows) (c0 : Dot) (ys : List Dot) → IsCounted M → IsDistinct dot_eq ys
-    → ((q : Dot) → has ys q ≡ true → code_in (M q) ≡ None)
-    → ((q : Dot) → bad_in (A q) ≡ bad_in (M q))
-    → ((q : Dot) → code_in (A q) ≡ cond (has ys q) (Some c0) (code_in (M q)))
-    → count_in (A c0) ≡ count_in (M c0) + bads M ys → ((c : Dot) → c0 ≢ c → count_in (A c) ≡ count_in (M c)) → IsCounted A
-IsCounted-raised M A c0 ys x d fresh bad code here others c =
-    let blamed : (q : Dot) → blamed_in (A q) ≡ with_list M ys c0 q = λ q. elim (cases_Bool (has ys q)) [
-      | inl walked ↦ ap (λ (b : Bool). cond b (code_in (A q)) None) (bad q) ∙ (ap (λ (o : Option Dot). cond (bad_in (M q)) o None) (code q ∙ cond-true _ _ _ walked) ∙ sym (cond-true _ _ _ walked))
-      | inr passed ↦ blamed-same (M q) (A q) (bad q) (code q ∙ cond-false _ _ _ passed) ∙ sym (cond-false _ _ _ passed)
-    ] in
-    elim (cases_dots c0 c) [
-      | inl same ↦ subst (λ (y : Dot). IsCount (λ q. blamed_in (A q)) y (count_in (A y))) same
-          (IsCount-is (λ q. blamed_in (A q)) c0 (count_in (M c0) + bads M ys) (count_in (A c0)) here
-          (IsCount-alike (with_list M ys c0) (λ q. blamed_in (A q)) c0 (count_in (M c0) + bads M ys) (λ q h. blamed q ∙ h) (λ q h. sym (blamed q) ∙ h) (raise-count M c0 ys x d fresh)))
-      | inr ne ↦ IsCount-is (λ q. blamed_in (A q)) c (count_in (M c)) (count_in (A c)) (others c ne)
-          (IsCount-alike (λ q. blamed_in (M q)) (λ q. blamed_in (A q)) c (count_in (M c))
-          (λ q h. elim (cases_Bool (has ys q)) [
-            | inl walked ↦ absurd (not_some (blamed_in (M q)) c (blamed-none (M q) (fresh q walked)) h)
-            | inr passed ↦ blamed q ∙ (cond-false _ _ _ passed ∙ h)
-          ])
-          (λ q h. elim (cases_Bool (has ys q)) [
-            | inl walked ↦ absurd (some_or_none (bad_in (M q)) (Some c0) c0 c refl ne (sym (cond-true _ _ _ walked) ∙ (sym (blamed q) ∙ h)))
-            | inr passed ↦ sym (cond-false _ _ _ passed) ∙ (sym (blamed q) ∙ h)
-          ]) (x c))
-    ]
-
-clear-count : (T : Rows) (c : Dot) (ys : List Dot) → IsCounted T → IsDistinct dot_eq ys
-    → ((q : Dot) → has ys q ≡ true → code_in (T q) ≡ Some c)
-    → (m : ℕ) × IsCount (without_list T ys) c m × (count_in (T c) ≡ m + bads T ys)
-clear-count T c ys x d coded =
-    let back : (q : Dot) → without_list T ys q ≡ Some c → (blamed_in (T q) ≡ Some c) × (not (has ys q) ≡ true) = λ q h. elim (cases_Bool (has ys q)) [
-      | inl walked ↦ absurd (not_some (without_list T ys q) c (cond-true _ _ _ walked) h)
-      | inr passed ↦ (sym (cond-false _ _ _ passed) ∙ h, ap not passed)
-    ] in
-    let there : (q : Dot) → blamed_in (T q) ≡ Some c → not (has ys q) ≡ true → without_list T ys q ≡ Some c = λ q h passed. elim (cases_Bool (has ys q)) [
-      | inl walked ↦ absurd (true≢false (sym passed ∙ ap not walked))
-      | inr apart ↦ cond-false _ _ _ apart ∙ h
-    ] in
-    let r : (m : ℕ) × IsCount (without_list T ys) c m = IsCount-rest (λ q. blamed_in (T q)) (without_list T ys) c (count_in (T c)) (λ q. not (has ys q)) back there (x c) in
-    let whole : IsCount (λ q. blamed_in (T q)) c (r.0 + bads T ys) = IsCount-sum (without_list T ys) (λ q. blamed_in (T q)) c r.0 (λ q. bad_in (T q)) ys d
-    (λ q walked. not_some (without_list T ys q) c (cond-true _ _ _ walked))
-    (λ q h. elim (cases_Bool (has ys q)) [ inl walked ↦ inr (walked, (blamed-parts (T q) c h).0) | inr passed ↦ inl (cond-false _ _ _ passed ∙ h) ])
-    (λ q h. (back q h).0)
-    (λ q walked bad. blamed-bad (T q) c bad (coded q walked)) r.1 in
-    (r.0, r.1, IsCount-one (λ q. blamed_in (T q)) c (count_in (T c)) (r.0 + bads T ys) (x c) whole)
-
-pub clear-fits : (T : Rows) (c : Dot) (ys : List Dot) → IsCounted T → IsDistinct dot_eq ys
-    → ((q : Dot) → has ys q ≡ true → code_in (T q) ≡ Some c) → bads T ys ≤ count_in (T c)
-clear-fits T c ys x d coded =
-    let r : (m : ℕ) × IsCount (without_list T ys) c m × (count_in (T c) ≡ m + bads T ys) = clear-count T c ys x d coded in
-    let is : count_in (T c) ≡ r.0 + bads T ys = r.2 in
-    omega arith
-
--- the counts once a list is under no code
-pub IsCounted-cleared : (T A : Rows) (c0 : Dot) (ys : List Dot) → IsCounted T → IsDistinct dot_eq ys
-    → ((q : Dot) → has ys q ≡ true → code_in (T q) ≡ Some c0)
-    → ((q : Dot) → bad_in (A q) ≡ bad_in (T q))
-    → ((q : Dot) → code_in (A q) ≡ cond (has ys q) None (code_in (T q)))
-    → count_in (A c0) ≡ count_in (T c0) - bads T ys → ((c : Dot) → c0 ≢ c → count_in (A c) ≡ count_in (T c)) → IsCounted A
-IsCounted-cleared T A c0 ys x d coded bad code here others c =
-    let blamed : (q : Dot) → blamed_in (A q) ≡ without_list T ys q = λ q. elim (cases_Bool (has ys q)) [
-      | inl walked ↦ blamed-none (A q) (code q ∙ cond-true _ _ _ walked) ∙ sym (cond-true _ _ _ walked)
-      | inr passed ↦ blamed-same (T q) (A q) (bad q) (code q ∙ cond-false _ _ _ passed) ∙ sym (cond-false _ _ _ passed)
-    ] in
-    let r : (m : ℕ) × IsCount (without_list T ys) c0 m × (count_in (T c0) ≡ m + bads T ys) = clear-count T c0 ys x d coded in
-    elim (cases_dots c0 c) [
-      | inl same ↦ subst (λ (y : Dot). IsCount (λ q. blamed_in (A q)) y (count_in (A y))) same
-          (IsCount-is (λ q. blamed_in (A q)) c0 r.0 (count_in (A c0)) (here ∙ (let is : count_in (T c0) ≡ r.0 + bads T ys = r.2 in omega arith))
-          (IsCount-alike (without_list T ys) (λ q. blamed_in (A q)) c0 r.0 (λ q h. blamed q ∙ h) (λ q h. sym (blamed q) ∙ h) r.1))
-      | inr ne ↦ IsCount-is (λ q. blamed_in (A q)) c (count_in (T c)) (count_in (A c)) (others c ne)
-          (IsCount-alike (λ q. blamed_in (T q)) (λ q. blamed_in (A q)) c (count_in (T c))
-          (λ q h. elim (cases_Bool (has ys q)) [
-            | inl walked ↦ absurd (let both : Some c0 ≡ Some c = sym (coded q walked) ∙ (blamed-parts (T q) c h).1 in let same : c0 ≡ c = cc in ne same)
-            | inr passed ↦ blamed q ∙ (cond-false _ _ _ passed ∙ h)
-          ])
-          (λ q h. elim (cases_Bool (has ys q)) [
-            | inl walked ↦ absurd (not_some (blamed_in (A q)) c (blamed q ∙ cond-true _ _ _ walked) h)
-            | inr passed ↦ sym (cond-false _ _ _ passed) ∙ (sym (blamed q) ∙ h)
-          ]) (x c))
-    ]
+IsCounted-same T N blamed count x c =
+    IsCount-is (λ q. blamed_in (N q)) c (count_in (T c)) (count_in (N c)) (count c)
+    (IsCount-alike (λ q. blamed_in (T q)) (λ q. blamed_in (N q)) c (count_in (T c))
+    (λ q h. blamed q ∙ h) (λ q h. sym (blamed q) ∙ h) (x c))
 
 -- ---- what a count says
 

@@ -26,14 +26,20 @@ pub dot_eq-false : (a b : Dot) → dot_eq a b ≡ false → a ≢ b
 dot_eq-false a b h same = true≢false (sym (dot_eq-same a) ∙ (ap (dot_eq a) same ∙ h))
 
 pub cases_dots : (a b : Dot) → (a ≡ b) ⊎ (a ≢ b)
-cases_dots a b = elim (cases_Bool (dot_eq a b)) [ inl same ↦ inl (dot_eq-true a b same) | inr apart ↦ inr (dot_eq-false a b apart) ]
+cases_dots a b = elim (cases_Bool (dot_eq a b)) [
+  | inl same ↦ inl (dot_eq-true a b same)
+  | inr apart ↦ inr (dot_eq-false a b apart)
+]
 
 pub dot_eq-apart : (a b : Dot) → a ≢ b → dot_eq a b ≡ false
 dot_eq-apart a b ne = false_from_ne_true (dot_eq a b) (λ same. ne (dot_eq-true a b same))
 
 pub has-cons : (x : Dot) (xs : List Dot) (q : Dot) → has (x ∷ xs) q ≡ true
     → (q ≡ x) ⊎ (has xs q ≡ true)
-has-cons x xs q h = elim (or_cases (dot_eq q x) (has xs q) h) [ inl here ↦ inl (dot_eq-true q x here) | inr more ↦ inr more ]
+has-cons x xs q h = elim (or_cases (dot_eq q x) (has xs q) h) [
+  | inl here ↦ inl (dot_eq-true q x here)
+  | inr more ↦ inr more
+]
 
 pub has-here : (x : Dot) (xs : List Dot) → has (x ∷ xs) x ≡ true
 has-here x xs = or_left (dot_eq x x) (has xs x) (dot_eq-same x)
@@ -63,7 +69,8 @@ pub IsDistinct-append : (a b : List Dot) → IsDistinct dot_eq a → IsDistinct 
     → ((q : Dot) → has a q ≡ true → has b q ≡ true → ⊥) → IsDistinct dot_eq (a ++ b)
 IsDistinct-append a [] da db apart = rw append-nil da
 IsDistinct-append a (y ∷ ys) da db apart =
-    let fresh : has a y ≡ false = false_from_ne_true (has a y) (λ here. apart y here (has-here y ys)) in
+    let fresh : has a y ≡ false =
+    false_from_ne_true (has a y) (λ here. apart y here (has-here y ys)) in
     let rest_apart : (q : Dot) → has (a ++ y ∷ []) q ≡ true → has ys q ≡ true → ⊥ = λ q left right.
     elim (has-append a (y ∷ []) q left) [
       | inl in_a ↦ apart q in_a (has-there y ys q right)
@@ -74,13 +81,18 @@ IsDistinct-append a (y ∷ ys) da db apart =
         | inr none ↦ absurd (true≢false (sym none))
       ]
     ] in
-    rw (← append_assoc a (y ∷ []) ys) (IsDistinct-append (a ++ y ∷ []) ys (IsDistinct-push dots_equiv a y da fresh) (IsDistinct-tail dot_eq y ys db) rest_apart)
+    rw (← append_assoc a (y ∷ []) ys)
+    (IsDistinct-append (a ++ y ∷ []) ys (IsDistinct-push dots_equiv a y da fresh)
+    (IsDistinct-tail dot_eq y ys db) rest_apart)
 
 -- an element in the middle of a list of distinct dots is not among those before it
 pub IsDistinct-middle : (a : List Dot) (x : Dot) (b : List Dot) → IsDistinct dot_eq (a ++ x ∷ b)
     → has a x ≡ false
 IsDistinct-middle [] x b d = refl
 IsDistinct-middle (z ∷ zs) x b d =
-    let apart : has (zs ++ x ∷ b) z ≡ false = list_none z (zs ++ x ∷ b) (IsDistinct-head dot_eq z (zs ++ x ∷ b) d) in
-    let ne : x ≢ z = λ same. true≢false (sym (has-right zs (x ∷ b) z (has-cons-same x b z same)) ∙ apart) in
-    or_from (dot_eq x z) (has zs x) (dot_eq-apart x z ne) (IsDistinct-middle zs x b (IsDistinct-tail dot_eq z (zs ++ x ∷ b) d))
+    let apart : has (zs ++ x ∷ b) z ≡ false =
+    list_none z (zs ++ x ∷ b) (IsDistinct-head dot_eq z (zs ++ x ∷ b) d) in
+    let ne : x ≢ z =
+    λ same. true≢false (sym (has-right zs (x ∷ b) z (has-cons-same x b z same)) ∙ apart) in
+    or_from (dot_eq x z) (has zs x) (dot_eq-apart x z ne)
+    (IsDistinct-middle zs x b (IsDistinct-tail dot_eq z (zs ++ x ∷ b) d))

@@ -65,10 +65,14 @@ IsParent-within f g w e p a = record {
 pub IsTrail-within : (f g : Links) → LinksWithin f g → (d : Dot) (ps : List Dot) (e : Dot)
     → IsTrail f d ps e → IsTrail g d ps e
 IsTrail-within f g w d [] e m = m
-IsTrail-within f g w d (p ∷ ps) e m = (IsParent-within f g w d p m.0, IsTrail-within f g w p ps e m.1)
+IsTrail-within f g w d (p ∷ ps) e m =
+    (IsParent-within f g w d p m.0, IsTrail-within f g w p ps e m.1)
 
 pub IsUnder-within : (f g : Links) → LinksWithin f g → (d c : Dot) → IsUnder f d c → IsUnder g d c
-IsUnder-within f g w d c m = record { path = m.path; leads = (IsTrail-within f g w d m.path c m.leads.0, w c Code m.leads.1) }
+IsUnder-within f g w d c m = record {
+  path = m.path;
+  leads = (IsTrail-within f g w d m.path c m.leads.0, w c Code m.leads.1);
+}
 
 pub use_of-within : (f g : Links) → LinksWithin f g → (e : Dot) (o : Option Link) (k : TokenId)
     → f e ≡ o → use_of o ≡ Some k → use_of (g e) ≡ Some k
@@ -89,7 +93,10 @@ pub IsBad-within : (f g : Links) (m n : Marks) → LinksWithin f g → MarksWith
 IsBad-within f g m n w v d b = record {
   link = b.link;
   here = w d b.link b.here;
-  why = elim b.why [ inl marked ↦ inl (v (grant_at d b.link) marked) | inr twice ↦ inr (IsTwice-within f g w (grant_at d b.link) twice) ];
+  why = elim b.why [
+    | inl marked ↦ inl (v (grant_at d b.link) marked)
+    | inr twice ↦ inr (IsTwice-within f g w (grant_at d b.link) twice)
+  ];
 }
 
 -- a dead family stays dead
@@ -104,12 +111,14 @@ IsDead-within f g m n w v c x = record {
 -- ---- the rank along a chain
 
 pub IsParent-rank : (f : Links) (e p : Dot) → IsParent f e p → rank_of (f e) ≡ rank_of (f p) + 1
-IsParent-rank f e p a = ap rank_of a.here ∙ (fits-rank a.link a.above a.fitting ∙ ap (λ (o : Option Link). rank_of o + 1) (sym a.there))
+IsParent-rank f e p a = ap rank_of a.here
+    ∙ (fits-rank a.link a.above a.fitting ∙ ap (λ (o : Option Link). rank_of o + 1) (sym a.there))
 
 -- a walk is as long as the rank falls
 pub IsTrail-length : (f : Links) (d e : Dot) (ps : List Dot) → IsTrail f d ps e
     → length ps + rank_of (f e) ≡ rank_of (f d)
-IsTrail-length f d e [] m = let at : rank_of (f d) ≡ rank_of (f e) = ap (λ (q : Dot). rank_of (f q)) m in omega (arith, at)
+IsTrail-length f d e [] m =
+    let at : rank_of (f d) ≡ rank_of (f e) = ap (λ (q : Dot). rank_of (f q)) m in omega (arith, at)
 IsTrail-length f d e (p ∷ ps) m =
     let falls : rank_of (f d) ≡ rank_of (f p) + 1 = IsParent-rank f d p m.0 in
     let rest : length ps + rank_of (f e) ≡ rank_of (f p) = IsTrail-length f p e ps m.1 in
@@ -117,7 +126,9 @@ IsTrail-length f d e (p ∷ ps) m =
 
 -- no walk comes back to where it began
 pub IsTrail-no_ring : (f : Links) (d p : Dot) (ps : List Dot) → ¬ IsTrail f d (p ∷ ps) d
-IsTrail-no_ring f d p ps m = let whole : length (p ∷ ps) + rank_of (f d) ≡ rank_of (f d) = IsTrail-length f d d (p ∷ ps) m in absurd (omega (arith, whole))
+IsTrail-no_ring f d p ps m =
+    let whole : length (p ∷ ps) + rank_of (f d) ≡ rank_of (f d) = IsTrail-length f d d (p ∷ ps) m in
+    absurd (omega (arith, whole))
 
 -- a chain to a code has as many parents as the rank of its first dot
 pub IsPath-length : (f : Links) (d c : Dot) (ps : List Dot) → IsPath f d ps c

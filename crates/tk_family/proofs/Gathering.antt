@@ -29,15 +29,18 @@ pub with_link-here : (f : Links) (d : Dot) (l : Link) → with_link f d l d ≡ 
 with_link-here f d l = cond-true (dot_eq d d) (Some l) (f d) (dot_eq-same d)
 
 pub with_link-other : (f : Links) (d : Dot) (l : Link) (q : Dot) → q ≢ d → with_link f d l q ≡ f q
-with_link-other f d l q ne = cond-false (dot_eq d q) (Some l) (f q) (dot_eq-apart d q (λ same. ne (sym same)))
+with_link-other f d l q ne =
+    cond-false (dot_eq d q) (Some l) (f q) (dot_eq-apart d q (λ same. ne (sym same)))
 
 pub Adds-with_link : (f : Links) (d : Dot) (l : Link) → f d ≡ None → Adds f (with_link f d l) d l
-Adds-with_link f d l free = record { free = free; here = with_link-here f d l; others = with_link-other f d l }
+Adds-with_link f d l free =
+    record { free = free; here = with_link-here f d l; others = with_link-other f d l }
 
 parent_from : (g : Links) (e x : Dot) (above : Link) (o : Option Link) → g e ≡ o
     → named_of o ≡ Some x → fits_at o above ≡ true → g x ≡ Some above → IsParent g e x
 parent_from g e x above None at names fitting there = absurd (cc)
-parent_from g e x above (Some k) at names fitting there = record { link = k; above = above; here = at; names = names; there = there; fitting = fitting }
+parent_from g e x above (Some k) at names fitting there =
+    record { link = k; above = above; here = at; names = names; there = there; fitting = fitting }
 
 some_named : (o : Option Link) (x : Dot) → named_of o ≡ Some x → (k : Link) × (o ≡ Some k)
 some_named None x h = absurd (cc)
@@ -50,7 +53,8 @@ with_link-named f d l e x other names = elim (cases_dots e d) [
   | inl same ↦
       let some : (k : Link) × (f e ≡ Some k) = some_named (f e) x names in
       let one : some.0 ≡ l = other some.0 (ap f (sym same) ∙ some.1) in
-      ap (with_link f d l) same ∙ (with_link-here f d l ∙ (ap (λ (k : Link). Some k) (sym one) ∙ sym some.1))
+      ap (with_link f d l) same
+      ∙ (with_link-here f d l ∙ (ap (λ (k : Link). Some k) (sym one) ∙ sym some.1))
   | inr ne ↦ with_link-other f d l e ne
 ]
 
@@ -58,12 +62,15 @@ pub AreChildren-from : (f : Links) (d : Dot) (l : Link) (x : Dot) (above : Link)
     → ((k : Link) → f d ≡ Some k → k ≡ l) → with_link f d l x ≡ Some above → FitsAll f x above cs
     → AreChildren (with_link f d l) d x cs
 AreChildren-from f d l x above cs other there fit = record {
-  sound = λ e h. parent_from (with_link f d l) e x above (f e) (with_link-named f d l e x other (fit.names e h)) (fit.names e h) (fit.fitting e h) there;
+  sound = λ e h. parent_from (with_link f d l) e x above (f e)
+      (with_link-named f d l e x other (fit.names e h)) (fit.names e h) (fit.fitting e h) there;
   all = λ e ne par.
       let at : f e ≡ Some par.link = sym (with_link-other f d l e ne) ∙ par.here in
       let both : Some par.above ≡ Some above = sym par.there ∙ there in
       let same : par.above ≡ above = cc in
-      fit.all e (ap named_of at ∙ par.names) (ap (λ (o : Option Link). fits_at o above) at ∙ (ap (λ (k : Link). fits par.link k) (sym same) ∙ par.fitting));
+      fit.all e (ap named_of at ∙ par.names)
+      (ap (λ (o : Option Link). fits_at o above) at
+      ∙ (ap (λ (k : Link). fits par.link k) (sym same) ∙ par.fitting));
   distinct = fit.distinct;
 }
 
@@ -87,12 +94,16 @@ row_of (Some r) k h = search rules
 
 Walk-room : (m : RowMap) (d : Dot) (l : Link) (done rest : List Dot) → IsSome (table m d)
     → Walk (with_link (links_of (table m)) d l) d done rest → length (done ++ rest) ≤ map.len m
-Walk-room m d l done rest row w = subst (λ (n : ℕ). length (done ++ rest) ≤ n) (sym (map.len-entries m)) (length-le_from_keys dots_equiv (done ++ rest) (map.entries m) w.distinct (λ q h. subst IsSome (sym (entries_table m q)) (
+Walk-room m d l done rest row w = subst (λ (n : ℕ). length (done ++ rest) ≤ n)
+    (sym (map.len-entries m))
+    (length-le_from_keys dots_equiv (done ++ rest) (map.entries m) w.distinct
+    (λ q h. subst IsSome (sym (entries_table m q)) (
     elim (cases_dots q d) [
       | inl same ↦ subst (λ (y : Dot). IsSome (table m y)) (sym same) row
       | inr ne ↦ elim (w.rooted q h).why [
         | inl same ↦ absurd (ne same)
-        | inr above ↦ row_of (table m q) above.0.link (sym (with_link-other (links_of (table m)) d l q ne) ∙ above.0.here)
+        | inr above ↦ row_of (table m q) above.0.link
+            (sym (with_link-other (links_of (table m)) d l q ne) ∙ above.0.here)
       ]
     ])))
 
@@ -100,38 +111,56 @@ pub Gathering-from : (m : RowMap) (d : Dot) (l : Link) (ys : List Dot) (i : ℕ)
     → i ≤ length ys → Walk (with_link (links_of (table m)) d l) d (take i ys) (drop i ys)
     → Gathering m d l ys i
 Gathering-from m d l ys i row within w =
-    let room : length (take i ys ++ drop i ys) ≤ map.len m = Walk-room m d l (take i ys) (drop i ys) row w in
-    record { walk = w; within = within; room = subst (λ (zs : List Dot). length zs ≤ map.len m) (take-append-drop i ys) room }
+    let room : length (take i ys ++ drop i ys) ≤ map.len m =
+    Walk-room m d l (take i ys) (drop i ys) row w in
+    record {
+      walk = w;
+      within = within;
+      room = subst (λ (zs : List Dot). length zs ≤ map.len m) (take-append-drop i ys) room;
+    }
 
 pub Gathering-starts : (m : RowMap) (d : Dot) (l : Link) → IsSome (table m d)
     → Gathering m d l (d ∷ []) 0
-Gathering-starts m d l row = Gathering-from m d l (d ∷ []) 0 row (omega arith) (Walk-starts (with_link (links_of (table m)) d l) d)
+Gathering-starts m d l row = Gathering-from m d l (d ∷ []) 0 row (omega arith)
+    (Walk-starts (with_link (links_of (table m)) d l) d)
 
 pub Gathering-turns : (m : RowMap) (d : Dot) (l : Link) (ys cs zs : List Dot) (i : ℕ) (x : Dot)
     → IsSome (table m d) → i < length ys → x ≡ get_or ys i x → zs ≡ ys ++ cs
     → AreChildren (with_link (links_of (table m)) d l) d x cs → Gathering m d l ys i
     → Gathering m d l zs (i + 1)
 Gathering-turns m d l ys cs zs i x row below at after children g =
-    let front : take (i + 1) ys ≡ take i ys ++ x ∷ [] = take_more ys i x below ∙ ap (λ (y : Dot). take i ys ++ y ∷ []) (sym at) in
-    let split : drop i ys ≡ x ∷ drop (i + 1) ys = drop_more ys i x below ∙ ap (λ (y : Dot). y ∷ drop (i + 1) ys) (sym at) in
-    let turned : Walk (with_link (links_of (table m)) d l) d (take i ys ++ x ∷ []) (drop (i + 1) ys ++ cs) =
-    Walk-turns (with_link (links_of (table m)) d l) d (take i ys) x (drop (i + 1) ys) cs (subst (λ (r : List Dot). Walk (with_link (links_of (table m)) d l) d (take i ys) r) split g.walk) children in
+    let front : take (i + 1) ys ≡ take i ys ++ x ∷ [] =
+    take_more ys i x below ∙ ap (λ (y : Dot). take i ys ++ y ∷ []) (sym at) in
+    let split : drop i ys ≡ x ∷ drop (i + 1) ys =
+    drop_more ys i x below ∙ ap (λ (y : Dot). y ∷ drop (i + 1) ys) (sym at) in
+    let turned : Walk (with_link (links_of (table m)) d l) d (take i ys ++ x ∷ [])
+    (drop (i + 1) ys ++ cs) =
+    Walk-turns (with_link (links_of (table m)) d l) d (take i ys) x (drop (i + 1) ys) cs
+    (subst (λ (r : List Dot). Walk (with_link (links_of (table m)) d l) d (take i ys) r) split
+    g.walk) children in
     let in_ys : i + 1 ≤ length ys = omega arith in
-    let new_front : take i ys ++ x ∷ [] ≡ take (i + 1) zs = sym front ∙ (sym (take-append-le (i + 1) ys cs in_ys) ∙ ap (take (i + 1)) (sym after)) in
-    let new_rest : drop (i + 1) ys ++ cs ≡ drop (i + 1) zs = sym (drop-append-le (i + 1) ys cs in_ys) ∙ ap (drop (i + 1)) (sym after) in
+    let new_front : take i ys ++ x ∷ [] ≡ take (i + 1) zs =
+    sym front ∙ (sym (take-append-le (i + 1) ys cs in_ys) ∙ ap (take (i + 1)) (sym after)) in
+    let new_rest : drop (i + 1) ys ++ cs ≡ drop (i + 1) zs =
+    sym (drop-append-le (i + 1) ys cs in_ys) ∙ ap (drop (i + 1)) (sym after) in
     let long : length zs ≡ length ys + length cs = ap length after ∙ length-append ys cs in
     Gathering-from m d l zs (i + 1) row (omega arith)
-    (subst (λ (r : List Dot). Walk (with_link (links_of (table m)) d l) d (take (i + 1) zs) r) new_rest
-    (subst (λ (f : List Dot). Walk (with_link (links_of (table m)) d l) d f (drop (i + 1) ys ++ cs)) new_front turned))
+    (subst (λ (r : List Dot). Walk (with_link (links_of (table m)) d l) d (take (i + 1) zs) r)
+    new_rest
+    (subst (λ (f : List Dot). Walk (with_link (links_of (table m)) d l) d f (drop (i + 1) ys ++ cs))
+    new_front turned))
 
 -- a list that has no room for the children of one of its dots has not room for all rows
-pub Gathering-short : (m : RowMap) (d : Dot) (l : Link) (ys : List Dot) (i room : ℕ) (x : Dot) (above : Link)
+pub Gathering-short : (m : RowMap) (d : Dot) (l : Link) (ys : List Dot) (i room : ℕ) (x : Dot)
+    (above : Link)
     → IsSome (table m d) → i < length ys → x ≡ get_or ys i x
     → ((k : Link) → links_of (table m) d ≡ Some k → k ≡ l)
-    → with_link (links_of (table m)) d l x ≡ Some above → IsShort (links_of (table m)) x above ys room → Gathering m d l ys i → room < map.len m
+    → with_link (links_of (table m)) d l x ≡ Some above
+    → IsShort (links_of (table m)) x above ys room → Gathering m d l ys i → room < map.len m
 Gathering-short m d l ys i room x above row below at other there s g =
     let more : Gathering m d l (ys ++ s.children) (i + 1) =
-    Gathering-turns m d l ys s.children (ys ++ s.children) i x row below at refl (AreChildren-from (links_of (table m)) d l x above s.children other there s.fit) g in
+    Gathering-turns m d l ys s.children (ys ++ s.children) i x row below at refl
+    (AreChildren-from (links_of (table m)) d l x above s.children other there s.fit) g in
     let within : length (ys ++ s.children) ≤ map.len m = more.room in
     let short : room < length (ys ++ s.children) = s.short in
     omega arith
@@ -143,7 +172,8 @@ Gathering-ends m d l ys i above g =
     let none : drop i ys ≡ [] = drop_all i ys above in
     let w : Walk (with_link (links_of (table m)) d l) d ys [] =
     subst (λ (r : List Dot). Walk (with_link (links_of (table m)) d l) d ys r) none
-    (subst (λ (f : List Dot). Walk (with_link (links_of (table m)) d l) d f (drop i ys)) all g.walk) in
+    (subst (λ (f : List Dot). Walk (with_link (links_of (table m)) d l) d f (drop i ys)) all
+    g.walk) in
     let whole : ys ++ [] ≡ ys = append-nil ys in
     record {
       root = subst (λ (zs : List Dot). has zs d ≡ true) whole w.root;

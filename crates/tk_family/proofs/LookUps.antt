@@ -16,9 +16,11 @@ use Rattle.tk_family.proofs.Viewing.{tokens_total}
 -- the link that was put is at its dot, and all other links are where they were
 pub link_put : (m n : map.FinMap dot_cmp Link) (d : Dot) (l : Link) → n ≡ map.insert m d l
     → (q : Dot) → map.get n q ≡ cond (dot_eq q d) (Some l) (map.get m q)
-link_put m n d l h q = ap (λ (x : map.FinMap dot_cmp Link). map.get x q) h ∙ map.get-insert dot_cmp_total m d l q
+link_put m n d l h q =
+    ap (λ (x : map.FinMap dot_cmp Link). map.get x q) h ∙ map.get-insert dot_cmp_total m d l q
 
 -- the token that was marked is marked, and so is each token that was marked before
 pub mark_put : (s t : set.FinSet token_cmp) (j : TokenId) → t ≡ set.insert s j → (k : TokenId)
     → set.contains t k ≡ (eq_by_cmp token_cmp k j || set.contains s k)
-mark_put s t j h k = ap (λ (x : set.FinSet token_cmp). set.contains x k) h ∙ set.contains-insert tokens_total s j k
+mark_put s t j h k =
+    ap (λ (x : set.FinSet token_cmp). set.contains x k) h ∙ set.contains-insert tokens_total s j k

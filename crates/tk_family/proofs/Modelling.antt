@@ -44,30 +44,42 @@ marks_ext : (f g : TokenId → Bool) → ((k : TokenId) → f k ≡ g k) → f �
 marks_ext f g h = λ i k. h k i
 
 pub links_seen : (m : RowMap) (v : ForestFacts) → seen m ≡ v → links_of (table m) ≡ links_at v
-links_seen m v is = links_ext (links_of (table m)) (links_at (seen m)) (λ q. sym (get-links m q)) ∙ ap links_at is
+links_seen m v is =
+    links_ext (links_of (table m)) (links_at (seen m)) (λ q. sym (get-links m q)) ∙ ap links_at is
 
 pub marks_seen : (m : RowMap) (v : ForestFacts) → seen m ≡ v
     → marks_of (table m) ≡ set.contains v.marks
-marks_seen m v is = marks_ext (marks_of (table m)) (set.contains (seen_marks (map.entries m))) (λ k. sym (contains-marks m k)) ∙ ap (λ (x : ForestFacts). set.contains x.marks) is
+marks_seen m v is = marks_ext (marks_of (table m)) (set.contains (seen_marks (map.entries m)))
+    (λ k. sym (contains-marks m k))
+    ∙ ap (λ (x : ForestFacts). set.contains x.marks) is
 
 pub top_seen : (m : RowMap) (v : ForestFacts) → seen m ≡ v → (q : Dot) (t : Top)
     → IsTop (links_of (table m)) (passing (marks_of (table m))) q t
     → IsTop (links_at v) (marks_at v) q t
-top_seen m v is q t h = subst (λ (f : Links). IsTop f (marks_at v) q t) (links_seen m v is) (subst (λ (k : TokenId → Bool). IsTop (links_of (table m)) (passing k) q t) (marks_seen m v is) h)
+top_seen m v is q t h = subst (λ (f : Links). IsTop f (marks_at v) q t) (links_seen m v is)
+    (subst (λ (k : TokenId → Bool). IsTop (links_of (table m)) (passing k) q t)
+    (marks_seen m v is) h)
 
 pub raised_seen : (m n : RowMap) (v : ForestFacts) → seen m ≡ v → (q : Dot)
     → IsRaised (links_of (table m)) (links_of (table n)) q
     → IsRaised (links_at v) (links_at (seen n)) q
-raised_seen m n v is q h = subst (λ (f : Links). IsRaised f (links_at (seen n)) q) (links_seen m v is) (subst (λ (g : Links). IsRaised (links_of (table m)) g q) (links_seen n (seen n) refl) h)
+raised_seen m n v is q h = subst (λ (f : Links). IsRaised f (links_at (seen n)) q)
+    (links_seen m v is)
+    (subst (λ (g : Links). IsRaised (links_of (table m)) g q) (links_seen n (seen n) refl) h)
 
 pub raised_back : (m n : RowMap) (v : ForestFacts) → seen m ≡ v → (q : Dot)
     → IsRaised (links_at v) (links_at (seen n)) q
     → IsRaised (links_of (table m)) (links_of (table n)) q
-raised_back m n v is q h = subst (λ (f : Links). IsRaised f (links_of (table n)) q) (sym (links_seen m v is)) (subst (λ (g : Links). IsRaised (links_at v) g q) (sym (links_seen n (seen n) refl)) h)
+raised_back m n v is q h = subst (λ (f : Links). IsRaised f (links_of (table n)) q)
+    (sym (links_seen m v is))
+    (subst (λ (g : Links). IsRaised (links_at v) g q) (sym (links_seen n (seen n) refl)) h)
 
 pub raised_all : (T N : Rows) (d : Dot) (l : Link) (ys : List Dot) → Puts T N d l ys → (q : Dot)
     → IsRaised (links_of T) (links_of N) q → has ys q ≡ true
-raised_all T N d l ys p q r = elim (p.no_other q r.code r.now) [ inl walked ↦ walked | inr before ↦ absurd (r.before r.code before) ]
+raised_all T N d l ys p q r = elim (p.no_other q r.code r.now) [
+  | inl walked ↦ walked
+  | inr before ↦ absurd (r.before r.code before)
+]
 
 pub if_ok : (r : Result (Vec Dot Global) AllocError) (P Q : Vec Dot Global → Type 0) → IfOk r P
     → ((v : Vec Dot Global) → P v → Q v) → IfOk r Q
@@ -78,7 +90,8 @@ if_ok (Err e) P Q h f = tt
 
 no_flag : (F : Option Row → Kind → Bool) → ((k : Kind) → F None k ≡ false) → (T : Rows)
     → ((q : Dot) → T q ≡ None) → (q : Dot) (k : Kind) → F (T q) k ≡ true → ⊥
-no_flag F none T h q k yes' = true≢false (sym yes' ∙ (ap (λ (o : Option Row). F o k) (h q) ∙ none k))
+no_flag F none T h q k yes' =
+    true≢false (sym yes' ∙ (ap (λ (o : Option Row). F o k) (h q) ∙ none k))
 
 pub IsForest-empty : (T : Rows) → ((q : Dot) → T q ≡ None) → IsForest T
 unfolding IsDistinct
@@ -93,26 +106,35 @@ IsForest-empty T h = record {
     count = ap count_in (h c);
   };
   used = λ k e. absurd (no_flag used_in (λ j. refl) T h k.dot k.kind e);
-  uses = λ k u. absurd (let clash : None ≡ Some k = sym (ap (λ (o : Option Row). use_of (link_in o)) (h u.user)) ∙ u.by in cc);
+  uses = λ k u. absurd
+      (let clash : None ≡ Some k =
+      sym (ap (λ (o : Option Row). use_of (link_in o)) (h u.user)) ∙ u.by in cc);
   again = λ k e. absurd (no_flag again_in (λ j. refl) T h k.dot k.kind e);
-  twice = λ k t. absurd (let clash : None ≡ Some k = sym (ap (λ (o : Option Row). use_of (link_in o)) (h t.one)) ∙ t.by_one in cc);
+  twice = λ k t. absurd
+      (let clash : None ≡ Some k =
+      sym (ap (λ (o : Option Row). use_of (link_in o)) (h t.one)) ∙ t.by_one in cc);
 }
 
 pub Hangs-empty : (T : Rows) (s : BTreeSet Child) → ((q : Dot) → T q ≡ None) → s.keys ≡ []
     → Hangs (links_of T) (firsts_of T) (others_in s)
 Hangs-empty T s h none =
-    let no_entry : (k : TokenId) (e : Dot) → others_in s k e ≡ false = λ k e. ap (λ (cs : List Child). list_any (is_at (child_cmp (child_key k e))) cs) none in
+    let no_entry : (k : TokenId) (e : Dot) → others_in s k e ≡ false =
+    λ k e. ap (λ (cs : List Child). list_any (is_at (child_cmp (child_key k e))) cs) none in
     record {
       named = λ p e is. absurd (let clash : None ≡ Some e = sym (ap first_in (h p)) ∙ is in cc);
-      none = λ p e _ names. (let clash : None ≡ Some p = sym (ap (λ (o : Option Row). named_of (link_in o)) (h e)) ∙ names in cc);
-      rest = λ k e. no_entry k e ∙ sym (ap (λ (o : Option Row). uses_by (link_in o) k && not (has_dot (firsts_of T k.dot) e)) (h e));
+      none = λ p e _ names. (let clash : None ≡ Some p =
+          sym (ap (λ (o : Option Row). named_of (link_in o)) (h e)) ∙ names in cc);
+      rest = λ k e. no_entry k e
+          ∙ sym (ap (λ (o : Option Row).
+          uses_by (link_in o) k && not (has_dot (firsts_of T k.dot) e)) (h e));
       ranged = λ k e at. absurd (true≢false (sym at ∙ no_entry k e));
     }
 
 pub used_seen : (m : RowMap) (v : ForestFacts) → seen m ≡ v → (k : TokenId) (b : Bool)
     → ((b ≡ true) → IsUsed (links_of (table m)) k) × (IsUsed (links_of (table m)) k → (b ≡ true))
     → ((b ≡ true) → IsUsed (links_at v) k) × (IsUsed (links_at v) k → (b ≡ true))
-used_seen m v is k b h = subst (λ (f : Links). ((b ≡ true) → IsUsed f k) × (IsUsed f k → (b ≡ true))) (links_seen m v is) h
+used_seen m v is k b h = subst (λ (f : Links).
+    ((b ≡ true) → IsUsed f k) × (IsUsed f k → (b ≡ true))) (links_seen m v is) h
 
 -- ---- marking a token
 
@@ -120,24 +142,34 @@ tokens_equiv : IsEquivalence (eq_by_cmp token_cmp)
 tokens_equiv = eq_by_cmp_equiv tokens_total
 
 one_mark : (m n : RowMap) (k : TokenId) → MarksOne (table m) (table n) k → (j : TokenId)
-    → marks_of (table n) j ≡ (eq_by_cmp token_cmp j k || set.contains (seen_marks (map.entries m)) j)
-one_mark m n k p j = both_ways (marks_of (table n) j) (eq_by_cmp token_cmp j k || set.contains (seen_marks (map.entries m)) j)
+    → marks_of (table n) j
+    ≡ (eq_by_cmp token_cmp j k || set.contains (seen_marks (map.entries m)) j)
+one_mark m n k p j = both_ways (marks_of (table n) j)
+    (eq_by_cmp token_cmp j k || set.contains (seen_marks (map.entries m)) j)
     (λ h. elim (p.new j h) [
-      | inl same ↦ or_left (eq_by_cmp token_cmp j k) (set.contains (seen_marks (map.entries m)) j) (subst (λ (x : TokenId). eq_by_cmp token_cmp j x ≡ true) same (tokens_equiv.refl j))
-      | inr old ↦ or_right (eq_by_cmp token_cmp j k) (set.contains (seen_marks (map.entries m)) j) (contains-marks m j ∙ old)
+      | inl same ↦ or_left (eq_by_cmp token_cmp j k) (set.contains (seen_marks (map.entries m)) j)
+          (subst (λ (x : TokenId). eq_by_cmp token_cmp j x ≡ true) same (tokens_equiv.refl j))
+      | inr old ↦ or_right (eq_by_cmp token_cmp j k) (set.contains (seen_marks (map.entries m)) j)
+          (contains-marks m j ∙ old)
     ])
-    (λ h. elim (or_cases (eq_by_cmp token_cmp j k) (set.contains (seen_marks (map.entries m)) j) h) [
-      | inl same ↦ subst (λ (x : TokenId). marks_of (table n) x ≡ true) (sym (exact_tokens j k ((Equal-is (token_cmp j k)).0 same))) p.here
+    (λ h. elim (or_cases (eq_by_cmp token_cmp j k) (set.contains (seen_marks (map.entries m)) j)
+    h) [
+      | inl same ↦ subst (λ (x : TokenId). marks_of (table n) x ≡ true)
+          (sym (exact_tokens j k ((Equal-is (token_cmp j k)).0 same))) p.here
       | inr old ↦ p.old j (sym (contains-marks m j) ∙ old)
     ])
 
 pub marks_one : (m n : RowMap) (k : TokenId) → MarksOne (table m) (table n) k
     → seen_marks (map.entries n) ≡ set.insert (seen_marks (map.entries m)) k
-marks_one m n k p = set.same_set tokens_total exact_tokens _ _ (λ j. contains-marks n j ∙ (one_mark m n k p j ∙ sym (set.contains-insert tokens_total (seen_marks (map.entries m)) k j)))
+marks_one m n k p = set.same_set tokens_total exact_tokens _ _
+    (λ j. contains-marks n j
+    ∙ (one_mark m n k p j
+    ∙ sym (set.contains-insert tokens_total (seen_marks (map.entries m)) k j)))
 
 pub links_kept : (m n : RowMap) → ((q : Dot) → links_of (table n) q ≡ links_of (table m) q)
     → seen_links (map.entries n) ≡ seen_links (map.entries m)
-links_kept m n h = map.same_map dot_cmp_total dot_cmp-IsAntisymmetric _ _ (λ q. get-links n q ∙ (h q ∙ sym (get-links m q)))
+links_kept m n h = map.same_map dot_cmp_total dot_cmp-IsAntisymmetric _ _
+    (λ q. get-links n q ∙ (h q ∙ sym (get-links m q)))
 
 pub unit_ok : (r : Result (Unit {0}) AllocError) (P Q : Type 0) → OnOk r P → (P → Q) → OnOk r Q
 unit_ok (Ok v) P Q h f = f h
@@ -155,16 +187,26 @@ unit_both (Err e) P Q R h k f g = g k
 -- ---- a mark less
 
 mark_less : (m n : RowMap) (k : TokenId) → Unmarks (table m) (table n) k → (j : TokenId)
-    → marks_of (table n) j ≡ (not (eq_by_cmp token_cmp j k) && set.contains (seen_marks (map.entries m)) j)
+    → marks_of (table n) j
+    ≡ (not (eq_by_cmp token_cmp j k) && set.contains (seen_marks (map.entries m)) j)
 mark_less m n k p j = elim (cases_Bool (eq_by_cmp token_cmp j k)) [
   | inl same ↦
       let one : j ≡ k = exact_tokens j k ((Equal-is (token_cmp j k)).0 same) in
-      ap (marks_of (table n)) one ∙ (p.gone ∙ sym (ap (λ (b : Bool). not b && set.contains (seen_marks (map.entries m)) j) same))
+      ap (marks_of (table n)) one
+      ∙ (p.gone ∙ sym (ap (λ (b : Bool). not b && set.contains (seen_marks (map.entries m)) j)
+      same))
   | inr apart ↦
-      let ne : j ≢ k = λ one. true≢false (sym (subst (λ (x : TokenId). eq_by_cmp token_cmp j x ≡ true) one (tokens_equiv.refl j)) ∙ apart) in
-      p.others j ne ∙ (sym (contains-marks m j) ∙ sym (ap (λ (b : Bool). not b && set.contains (seen_marks (map.entries m)) j) apart))
+      let ne : j ≢ k = λ one. true≢false
+      (sym (subst (λ (x : TokenId). eq_by_cmp token_cmp j x ≡ true) one (tokens_equiv.refl j))
+      ∙ apart) in
+      p.others j ne
+      ∙ (sym (contains-marks m j)
+      ∙ sym (ap (λ (b : Bool). not b && set.contains (seen_marks (map.entries m)) j) apart))
 ]
 
 pub mark_gone : (m n : RowMap) (k : TokenId) → Unmarks (table m) (table n) k
     → seen_marks (map.entries n) ≡ set.remove (seen_marks (map.entries m)) k
-mark_gone m n k p = set.same_set tokens_total exact_tokens _ _ (λ j. contains-marks n j ∙ (mark_less m n k p j ∙ sym (set.contains-remove tokens_total (seen_marks (map.entries m)) k j)))
+mark_gone m n k p = set.same_set tokens_total exact_tokens _ _
+    (λ j. contains-marks n j
+    ∙ (mark_less m n k p j
+    ∙ sym (set.contains-remove tokens_total (seen_marks (map.entries m)) k j)))

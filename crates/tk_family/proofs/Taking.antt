@@ -1,4 +1,7 @@
--- What the rows of a forest keep is kept when a link is removed, and when a mark is.
+-- What the rows of a forest keep is kept when a link is removed. Key results:
+--   codes_below          the codes of what hangs below the dot
+--   Ready, Ready-whole   the rows after the codes below were cleared
+--   Takes-from           a link is removed; `Takes-seen` with blank rows
 use Rattle.std.proofs.Common.{◌≡◌, ◌≢◌, inl, inr, ℕ, ◌-◌, Bool, true, false, cond, Option, None}
 use Rattle.std.proofs.Common.{Some, List, [], ap, sym, ◌∙◌, refl}
 use Rattle.std.proofs.lemmas.Bool.{true≢false, cases_Bool, cond-true, cond-false}
@@ -7,27 +10,27 @@ use Rattle.std.specs.List.{IsDistinct}
 use Rattle.tk_handle.specs.declared.dot.Dot.{Dot}
 use Rattle.tk_handle.specs.declared.kind.Kind.{Kind}
 use Rattle.tk_handle.specs.declared.kind.Kind.TheVariants as kind
-use Rattle.tk_handle.specs.declared.token_id.TokenId.{TokenId}
 use Rattle.tk_family.specs.declared.link.Link.{Link}
 use Rattle.tk_family.specs.declared.link.Link.TheVariants.{Code}
 use Rattle.tk_family.specs.declared.row.Row.{Row}
-use Rattle.tk_family.specs.Counts.{IsCount, IsCounted, IsCountedAs, AlikeButCount}
+use Rattle.tk_family.specs.Counts.{IsCount, IsCounted, AlikeButCount}
 use Rattle.tk_family.specs.Dots.{dot_eq, has}
 use Rattle.tk_family.specs.Families.{Links, IsUnder, LinksWithin}
 use Rattle.tk_family.specs.Kept.{IsForest}
 use Rattle.tk_family.specs.Puts.{with_link, Gathers, NothingSeen}
 use Rattle.tk_family.specs.Rows.{Rows, link_in, code_in, count_in, first_in, marked_in, used_in}
-use Rattle.tk_family.specs.Rows.{again_in, bad_in, blamed_in, links_of, marks_of}
-use Rattle.tk_family.specs.Takes.{without, HasUses, Unlinks, Clears, Takes, Unmarks}
-use Rattle.tk_family.specs.Writes.{without_code, without_mark, bads, unsettled, cleared}
-use Rattle.tk_family.proofs.DotLaws.{dot_eq-true, dot_eq-same, dot_eq-apart, cases_dots}
+use Rattle.tk_family.specs.Rows.{again_in, blamed_in, links_of, marks_of}
+use Rattle.tk_family.specs.Takes.{without, HasUses, Unlinks, Clears, Takes}
+use Rattle.tk_family.specs.Writes.{without_code, bads, unsettled, cleared}
+use Rattle.tk_family.proofs.DotLaws.{dot_eq-same, dot_eq-apart, cases_dots}
 use Rattle.tk_family.proofs.Adding.{Adds, Within-adds, IsPath-here}
 use Rattle.tk_family.proofs.FamilyLaws.{IsParent-within, IsUnder-within}
 use Rattle.tk_family.proofs.Growth.{Grown, Grown-walk, Grown-waits}
-use Rattle.tk_family.proofs.Columns.{column, AlikeButMarks, IsForest-kept}
-use Rattle.tk_family.proofs.Counting.{IsCounted-cleared, bad-same, blamed-parts}
-use Rattle.tk_family.proofs.Putting.{AlikeButCount-count, count-here, count-other, RowAt}
-use Rattle.tk_family.proofs.Marking.{token_is, AlikeButMarks-then, IsCountedAs-at}
+use Rattle.tk_family.proofs.Columns.{column}
+use Rattle.tk_family.proofs.Counting.{bad-same, blamed-parts}
+use Rattle.tk_family.proofs.Recounting.{IsCounted-cleared}
+use Rattle.tk_family.proofs.Putting.{AlikeButCount-count, count-here, count-other}
+use Rattle.tk_family.proofs.HungColumns.{RowAt}
 use Rattle.tk_family.proofs.Assembly.{trail_under, trail_free, IsPath-code, row_with}
 use Rattle.tk_family.proofs.Gathering.{with_link-here, with_link-other}
 use Rattle.tk_family.proofs.HangLaws.{without-here}
@@ -57,18 +60,26 @@ Below-whole T d l c0 ys t here code got =
     let there : LinksWithin (with_link g d l) g = λ q k h. sym (link_again g d l here q) ∙ h in
     let back : LinksWithin g (with_link g d l) = λ q k h. link_again g d l here q ∙ h in
     let up : LinksWithin f (with_link g d l) = λ q k h. back q k (Within-adds f g d l a q k h) in
-    let u : IsUnder (with_link g d l) d c0 = IsUnder-within g (with_link g d l) back d c0 (t.under d c0 code) in
+    let u : IsUnder (with_link g d l) d c0 =
+    IsUnder-within g (with_link g d l) back d c0 (t.under d c0 code) in
     record {
       grown = Grown-walk f g d l c0 ys a got.root
-          (λ x e walked par. got.closed x e walked (IsParent-within g (with_link g d l) back e x par))
-          (λ q walked. IsUnder-within (with_link g d l) g there q c0 (trail_under (with_link g d l) q d (got.below q walked).path c0 (got.below q walked).leads u));
-      free = λ q walked c below. trail_free f (with_link g d l) q d (got.below q walked).path up (without-here g d) (got.below q walked).leads c below.path below.leads;
+          (λ x e walked par.
+          got.closed x e walked (IsParent-within g (with_link g d l) back e x par))
+          (λ q walked.
+          IsUnder-within (with_link g d l) g there q c0
+          (trail_under (with_link g d l) q d (got.below q walked).path c0 (got.below q walked).leads
+          u));
+      free = λ q walked c below. trail_free f (with_link g d l) q d (got.below q walked).path up
+          (without-here g d) (got.below q walked).leads c below.path below.leads;
     }
 
 pub Below-none : (T : Rows) (d : Dot) (l : Link) → IsForest T → links_of T d ≡ Some l
     → code_in (T d) ≡ None → Below (without (links_of T) d) (links_of T) d []
 Below-none T d l t here none = record {
-  grown = Grown-waits (without (links_of T) d) (links_of T) d l d (Adds-without (links_of T) d l here) (λ c under. (let clash : Some c ≡ None = sym (t.memo d c under) ∙ none in cc));
+  grown = Grown-waits (without (links_of T) d) (links_of T) d l d
+      (Adds-without (links_of T) d l here)
+      (λ c under. (let clash : Some c ≡ None = sym (t.memo d c under) ∙ none in cc));
   free = λ q h. absurd (true≢false (sym h));
 }
 
@@ -76,7 +87,8 @@ Below-none T d l t here none = record {
 pub codes_below : (T : Rows) (d : Dot) (l : Link) (c0 : Dot) (ys : List Dot) → IsForest T
     → links_of T d ≡ Some l → code_in (T d) ≡ Some c0 → Gathers (links_of T) d l ys → (q : Dot)
     → has ys q ≡ true → code_in (T q) ≡ Some c0
-codes_below T d l c0 ys t here code got q walked = t.memo q c0 ((Below-whole T d l c0 ys t here code got).grown.sound q walked)
+codes_below T d l c0 ys t here code got q walked =
+    t.memo q c0 ((Below-whole T d l c0 ys t here code got).grown.sound q walked)
 
 -- ---- the codes below are cleared
 
@@ -90,12 +102,14 @@ pub record Cleared (T A : Rows) (ys : List Dot) : Type 0 where
   pub again : (q : Dot) (k : Kind) → again_in (A q) k ≡ again_in (T q) k
 
 uncoded_cols : (o : Option Row)
-    → (link_in (without_code o) ≡ link_in o) × (code_in (without_code o) ≡ None) × (count_in (without_code o) ≡ count_in o) × (first_in (without_code o) ≡ first_in o)
+    → (link_in (without_code o) ≡ link_in o) × (code_in (without_code o) ≡ None)
+    × (count_in (without_code o) ≡ count_in o) × (first_in (without_code o) ≡ first_in o)
 uncoded_cols None = (refl, refl, refl, refl)
 uncoded_cols (Some r) = (refl, refl, refl, refl)
 
 uncoded_flags : (o : Option Row) (k : Kind)
-    → (marked_in (without_code o) k ≡ marked_in o k) × (used_in (without_code o) k ≡ used_in o k) × (again_in (without_code o) k ≡ again_in o k)
+    → (marked_in (without_code o) k ≡ marked_in o k) × (used_in (without_code o) k ≡ used_in o k)
+    × (again_in (without_code o) k ≡ again_in o k)
 uncoded_flags None k = (refl, refl, refl)
 uncoded_flags (Some r) kind.Code = (refl, refl, refl)
 uncoded_flags (Some r) kind.Access = (refl, refl, refl)
@@ -105,13 +119,18 @@ Cleared-unsettled : (T : Rows) (ys : List Dot) → Cleared T (unsettled T ys) ys
 Cleared-unsettled T ys = record {
   link = λ q. column link_in (has ys q) (without_code (T q)) (T q) (uncoded_cols (T q)).0;
   code = λ q. elim (cases_Bool (has ys q)) [
-    | inl walked ↦ ap code_in (cond-true (has ys q) (without_code (T q)) (T q) walked) ∙ ((uncoded_cols (T q)).1 ∙ sym (cond-true (has ys q) None (code_in (T q)) walked))
-    | inr passed ↦ ap code_in (cond-false (has ys q) (without_code (T q)) (T q) passed) ∙ sym (cond-false (has ys q) None (code_in (T q)) passed)
+    | inl walked ↦ ap code_in (cond-true (has ys q) (without_code (T q)) (T q) walked)
+        ∙ ((uncoded_cols (T q)).1 ∙ sym (cond-true (has ys q) None (code_in (T q)) walked))
+    | inr passed ↦ ap code_in (cond-false (has ys q) (without_code (T q)) (T q) passed)
+        ∙ sym (cond-false (has ys q) None (code_in (T q)) passed)
   ];
   first = λ q. column first_in (has ys q) (without_code (T q)) (T q) (uncoded_cols (T q)).3;
-  marked = λ q k. column (λ (o : Option Row). marked_in o k) (has ys q) (without_code (T q)) (T q) (uncoded_flags (T q) k).0;
-  used = λ q k. column (λ (o : Option Row). used_in o k) (has ys q) (without_code (T q)) (T q) (uncoded_flags (T q) k).1;
-  again = λ q k. column (λ (o : Option Row). again_in o k) (has ys q) (without_code (T q)) (T q) (uncoded_flags (T q) k).2;
+  marked = λ q k. column (λ (o : Option Row). marked_in o k) (has ys q) (without_code (T q)) (T q)
+      (uncoded_flags (T q) k).0;
+  used = λ q k. column (λ (o : Option Row). used_in o k) (has ys q) (without_code (T q)) (T q)
+      (uncoded_flags (T q) k).1;
+  again = λ q k. column (λ (o : Option Row). again_in o k) (has ys q) (without_code (T q)) (T q)
+      (uncoded_flags (T q) k).2;
 }
 
 Cleared-alike : (T S A : Rows) (ys : List Dot) → Cleared T S ys → AlikeButCount S A → Cleared T A ys
@@ -126,10 +145,18 @@ Cleared-alike T S A ys x a = record {
 
 pub Cleared-from : (T A : Rows) (c0 : Dot) (ys : List Dot) → ((q : Dot) → A q ≡ cleared T ys c0 q)
     → Cleared T A ys
-Cleared-from T A c0 ys h = Cleared-alike T (unsettled T ys) A ys (Cleared-unsettled T ys) (AlikeButCount-count (unsettled T ys) A c0 (count_in (T c0) - bads T ys) h)
+Cleared-from T A c0 ys h = Cleared-alike T (unsettled T ys) A ys (Cleared-unsettled T ys)
+    (AlikeButCount-count (unsettled T ys) A c0 (count_in (T c0) - bads T ys) h)
 
 pub Cleared-none : (T : Rows) → Cleared T T []
-Cleared-none T = record { link = λ q. refl; code = λ q. refl; first = λ q. refl; marked = λ q k. refl; used = λ q k. refl; again = λ q k. refl }
+Cleared-none T = record {
+  link = λ q. refl;
+  code = λ q. refl;
+  first = λ q. refl;
+  marked = λ q k. refl;
+  used = λ q k. refl;
+  again = λ q k. refl;
+}
 
 uncoded_row : (o : Option Row) (b : Bool) → RowAt o → RowAt (cond b (without_code o) o)
 uncoded_row o true r = record { row = record r.row { code = None }; is = ap without_code r.is }
@@ -144,15 +171,19 @@ IsCounted-clear T A d l c0 t here code x =
     let n : ℕ = count_in (T c0) - bads T ys in
     let k : Cleared T A ys = Cleared-from T A c0 ys x.rows in
     let u : IsUnder (links_of T) d c0 = t.under d c0 code in
-    let row : RowAt (S c0) = uncoded_row (T c0) (has ys c0) (row_with (T c0) Code (IsPath-code (links_of T) d u.path c0 u.leads)) in
-    IsCounted-cleared T A c0 ys t.bads x.got.distinct (codes_below T d l c0 ys t here code x.got) (λ q. bad-same (T q) (A q) (k.link q) (k.marked q) (k.again q)) k.code
+    let row : RowAt (S c0) = uncoded_row (T c0) (has ys c0)
+    (row_with (T c0) Code (IsPath-code (links_of T) d u.path c0 u.leads)) in
+    IsCounted-cleared T A c0 ys t.bads x.got.distinct (codes_below T d l c0 ys t here code x.got)
+    (λ q. bad-same (T q) (A q) (k.link q) (k.marked q) (k.again q)) k.code
     (count-here S A c0 n row x.rows)
-    (λ c ne. count-other S A c0 n x.rows c ne ∙ column count_in (has ys c) (without_code (T c)) (T c) (uncoded_cols (T c)).2)
+    (λ c ne. count-other S A c0 n x.rows c ne
+    ∙ column count_in (has ys c) (without_code (T c)) (T c) (uncoded_cols (T c)).2)
 
 -- the uses are as they were
 pub HasUses-cleared : (T A : Rows) (ys : List Dot) → IsForest T → Cleared T A ys
     → HasUses (links_of A) A
-HasUses-cleared T A ys t x = HasUses-kept (links_of T) (links_of A) T A (HasUses-forest T t) (λ q. sym (x.link q)) (λ k. x.used k.dot k.kind) (λ k. x.again k.dot k.kind)
+HasUses-cleared T A ys t x = HasUses-kept (links_of T) (links_of A) T A (HasUses-forest T t)
+    (λ q. sym (x.link q)) (λ k. x.used k.dot k.kind) (λ k. x.again k.dot k.kind)
 
 none_passes : (b : Bool) (o : Option Dot) (c : Dot) → cond b None o ≡ Some c
     → (b ≡ false) × (o ≡ Some c)
@@ -163,7 +194,8 @@ none_passes false o c h = (refl, h)
 pub codes_links : (T A : Rows) (ys : List Dot) → IsForest T → Cleared T A ys → (q c : Dot)
     → code_in (A q) ≡ Some c → links_of A c ≡ Some Code
 codes_links T A ys t x q c h =
-    let u : IsUnder (links_of T) q c = t.under q c (none_passes (has ys q) (code_in (T q)) c (sym (x.code q) ∙ h)).1 in
+    let u : IsUnder (links_of T) q c =
+    t.under q c (none_passes (has ys q) (code_in (T q)) c (sym (x.code q) ∙ h)).1 in
     x.link c ∙ IsPath-code (links_of T) q u.path c u.leads
 
 -- ---- a link is removed
@@ -175,14 +207,18 @@ pub IsForest-take : (T A N : Rows) (d : Dot) (l : Link) (c0 : Dot) (ys : List Do
 unfolding IsDistinct
 IsForest-take T A N d l c0 ys t here b x u counted =
     let f : Links = without (links_of T) d in
-    let links : (q : Dot) → links_of N q ≡ f q = λ q. u.links q ∙ ap (λ (o : Option Link). cond (dot_eq d q) None o) (x.link q) in
+    let links : (q : Dot) → links_of N q ≡ f q =
+    λ q. u.links q ∙ ap (λ (o : Option Link). cond (dot_eq d q) None o) (x.link q) in
     let to_N : LinksWithin f (links_of N) = λ q k h. links q ∙ h in
     let from_N : LinksWithin (links_of N) f = λ q k h. sym (links q) ∙ h in
-    let w : LinksWithin f (links_of T) = Within-adds f (links_of T) d l (Adds-without (links_of T) d l here) in
+    let w : LinksWithin f (links_of T) =
+    Within-adds f (links_of T) d l (Adds-without (links_of T) d l here) in
     let gone : links_of N d ≡ None = links d ∙ without-here (links_of T) d in
     let under : (q c : Dot) → code_in (N q) ≡ Some c → IsUnder (links_of N) q c = λ q c h.
-    let ne : q ≢ d = λ same. (let clash : None ≡ Some c = sym (ap (λ (y : Dot). code_in (N y)) same ∙ u.code_here) ∙ h in cc) in
-    let said : (has ys q ≡ false) × (code_in (T q) ≡ Some c) = none_passes (has ys q) (code_in (T q)) c (sym (x.code q) ∙ (sym (u.code q ne) ∙ h)) in
+    let ne : q ≢ d = λ same. (let clash : None ≡ Some c =
+    sym (ap (λ (y : Dot). code_in (N y)) same ∙ u.code_here) ∙ h in cc) in
+    let said : (has ys q ≡ false) × (code_in (T q) ≡ Some c) =
+    none_passes (has ys q) (code_in (T q)) c (sym (x.code q) ∙ (sym (u.code q ne) ∙ h)) in
     elim (b.grown.claim q c (t.under q c said.1)) [
       | inl walked ↦ absurd (true≢false (sym walked ∙ said.0))
       | inr still ↦ IsUnder-within f (links_of N) to_N q c still
@@ -191,16 +227,22 @@ IsForest-take T A N d l c0 ys t here b x u counted =
       under = under;
       memo = λ q c h.
           let in_f : IsUnder f q c = IsUnder-within (links_of N) f from_N q c h in
-          let ne : q ≢ d = λ same. IsPath-here f q in_f.path c in_f.leads (ap f same ∙ without-here (links_of T) d) in
-          let passed : has ys q ≡ false = false_from_ne_true (has ys q) (λ walked. b.free q walked c in_f) in
-          u.code q ne ∙ (x.code q ∙ (cond-false (has ys q) None (code_in (T q)) passed ∙ t.memo q c (IsUnder-within f (links_of T) w q c in_f)));
+          let ne : q ≢ d = λ same.
+          IsPath-here f q in_f.path c in_f.leads (ap f same ∙ without-here (links_of T) d) in
+          let passed : has ys q ≡ false =
+          false_from_ne_true (has ys q) (λ walked. b.free q walked c in_f) in
+          u.code q ne ∙ (x.code q
+          ∙ (cond-false (has ys q) None (code_in (T q)) passed
+          ∙ t.memo q c (IsUnder-within f (links_of T) w q c in_f)));
       bads = λ c. elim (cases_dots c d) [
         | inl same ↦ record {
           list = [];
           sound = λ q h. absurd (true≢false (sym h));
           all = λ q h.
               let v : IsUnder (links_of N) q c = under q c (blamed-parts (N q) c h).1 in
-              absurd (let clash : None ≡ Some Code = sym (ap (links_of N) same ∙ gone) ∙ IsPath-code (links_of N) q v.path c v.leads in cc);
+              absurd (let clash : None ≡ Some Code =
+              sym (ap (links_of N) same ∙ gone) ∙ IsPath-code (links_of N) q v.path c v.leads in
+              cc);
           distinct = tt;
           count = ap (λ (y : Dot). count_in (N y)) same ∙ u.count_here;
         }
@@ -220,8 +262,14 @@ Takes-from T A N d l c0 ys t here b x u counted = record {
   forest = IsForest-take T A N d l c0 ys t here b x u counted;
   links = λ q. u.links q ∙ ap (λ (o : Option Link). cond (dot_eq d q) None o) (x.link q);
   marks = λ k. elim (cases_dots k.dot d) [
-    | inl same ↦ ap (λ (y : Dot). marked_in (N y) k.kind) same ∙ (u.marked_here k.kind ∙ sym (cond-true (dot_eq d k.dot) false (marks_of T k) (ap (dot_eq d) same ∙ dot_eq-same d)))
-    | inr ne ↦ u.marked k.dot k.kind ne ∙ (x.marked k.dot k.kind ∙ sym (cond-false (dot_eq d k.dot) false (marks_of T k) (dot_eq-apart d k.dot (λ same. ne (sym same)))))
+    | inl same ↦ ap (λ (y : Dot). marked_in (N y) k.kind) same
+        ∙ (u.marked_here k.kind
+        ∙ sym (cond-true (dot_eq d k.dot) false (marks_of T k)
+        (ap (dot_eq d) same ∙ dot_eq-same d)))
+    | inr ne ↦ u.marked k.dot k.kind ne
+        ∙ (x.marked k.dot k.kind
+        ∙ sym (cond-false (dot_eq d k.dot) false (marks_of T k)
+        (dot_eq-apart d k.dot (λ same. ne (sym same)))))
   ];
 }
 
@@ -245,83 +293,17 @@ Ready-whole T A d l c0 t here code x = record {
 
 pub Ready-none : (T : Rows) (d : Dot) (l : Link) → IsForest T → links_of T d ≡ Some l
     → code_in (T d) ≡ None → Ready T T d l
-Ready-none T d l t here code = record { code = d; list = []; below = Below-none T d l t here code; cleared = Cleared-none T; counted = t.bads }
-
--- ---- a mark is removed
-
-unmarked_cols : (o : Option Row) (k : Kind)
-    → (link_in (without_mark o k) ≡ link_in o) × (code_in (without_mark o k) ≡ code_in o) × (count_in (without_mark o k) ≡ count_in o) × (first_in (without_mark o k) ≡ first_in o)
-unmarked_cols None k = (refl, refl, refl, refl)
-unmarked_cols (Some r) kind.Code = (refl, refl, refl, refl)
-unmarked_cols (Some r) kind.Access = (refl, refl, refl, refl)
-unmarked_cols (Some r) kind.Refresh = (refl, refl, refl, refl)
-
-unmarked_flags : (o : Option Row) (k j : Kind)
-    → (used_in (without_mark o k) j ≡ used_in o j) × (again_in (without_mark o k) j ≡ again_in o j)
-unmarked_flags None k j = (refl, refl)
-unmarked_flags (Some r) kind.Code kind.Code = (refl, refl)
-unmarked_flags (Some r) kind.Code kind.Access = (refl, refl)
-unmarked_flags (Some r) kind.Code kind.Refresh = (refl, refl)
-unmarked_flags (Some r) kind.Access kind.Code = (refl, refl)
-unmarked_flags (Some r) kind.Access kind.Access = (refl, refl)
-unmarked_flags (Some r) kind.Access kind.Refresh = (refl, refl)
-unmarked_flags (Some r) kind.Refresh kind.Code = (refl, refl)
-unmarked_flags (Some r) kind.Refresh kind.Access = (refl, refl)
-unmarked_flags (Some r) kind.Refresh kind.Refresh = (refl, refl)
-
-unmarked_gone : (o : Option Row) (k : Kind) → marked_in (without_mark o k) k ≡ false
-unmarked_gone None k = refl
-unmarked_gone (Some r) kind.Code = refl
-unmarked_gone (Some r) kind.Access = refl
-unmarked_gone (Some r) kind.Refresh = refl
-
-unmarked_kept : (o : Option Row) (k j : Kind) → j ≢ k
-    → marked_in (without_mark o k) j ≡ marked_in o j
-unmarked_kept None k j ne = refl
-unmarked_kept (Some r) kind.Code kind.Code ne = absurd (ne refl)
-unmarked_kept (Some r) kind.Code kind.Access ne = refl
-unmarked_kept (Some r) kind.Code kind.Refresh ne = refl
-unmarked_kept (Some r) kind.Access kind.Code ne = refl
-unmarked_kept (Some r) kind.Access kind.Access ne = absurd (ne refl)
-unmarked_kept (Some r) kind.Access kind.Refresh ne = refl
-unmarked_kept (Some r) kind.Refresh kind.Code ne = refl
-unmarked_kept (Some r) kind.Refresh kind.Access ne = refl
-unmarked_kept (Some r) kind.Refresh kind.Refresh ne = absurd (ne refl)
-
--- the other columns are as they were
-pub AlikeButMarks-unmarked : (T S : Rows) (k : TokenId)
-    → ((q : Dot) → S q ≡ cond (dot_eq k.dot q) (without_mark (T q) k.kind) (T q))
-    → AlikeButMarks T S
-AlikeButMarks-unmarked T S k h = record {
-  link = λ q. ap link_in (h q) ∙ column link_in (dot_eq k.dot q) (without_mark (T q) k.kind) (T q) (unmarked_cols (T q) k.kind).0;
-  code = λ q. ap code_in (h q) ∙ column code_in (dot_eq k.dot q) (without_mark (T q) k.kind) (T q) (unmarked_cols (T q) k.kind).1;
-  first = λ q. ap first_in (h q) ∙ column first_in (dot_eq k.dot q) (without_mark (T q) k.kind) (T q) (unmarked_cols (T q) k.kind).3;
-  used = λ q j. ap (λ (o : Option Row). used_in o j) (h q) ∙ column (λ (o : Option Row). used_in o j) (dot_eq k.dot q) (without_mark (T q) k.kind) (T q) (unmarked_flags (T q) k.kind j).0;
-  again = λ q j. ap (λ (o : Option Row). again_in o j) (h q) ∙ column (λ (o : Option Row). again_in o j) (dot_eq k.dot q) (without_mark (T q) k.kind) (T q) (unmarked_flags (T q) k.kind j).1;
+Ready-none T d l t here code = record {
+  code = d;
+  list = [];
+  below = Below-none T d l t here code;
+  cleared = Cleared-none T;
+  counted = t.bads;
 }
 
-pub IsCountedAs-unmarked : (T S : Rows) (k : TokenId) → IsForest T
-    → ((q : Dot) → S q ≡ cond (dot_eq k.dot q) (without_mark (T q) k.kind) (T q))
-    → IsCountedAs S k.dot (bad_in (T k.dot))
-IsCountedAs-unmarked T S k t h = IsCountedAs-at T S k.dot t.bads (AlikeButMarks-unmarked T S k h)
-    (λ q. ap count_in (h q) ∙ column count_in (dot_eq k.dot q) (without_mark (T q) k.kind) (T q) (unmarked_cols (T q) k.kind).2)
-    (λ q ne. h q ∙ cond-false _ _ _ (dot_eq-apart k.dot q ne))
-
-pub Unmarks-from : (T S N : Rows) (k : TokenId) → IsForest T
-    → ((q : Dot) → S q ≡ cond (dot_eq k.dot q) (without_mark (T q) k.kind) (T q))
-    → AlikeButCount S N → IsCounted N → Unmarks T N k
-Unmarks-from T S N k t h alike counted =
-    let a : AlikeButMarks T N = AlikeButMarks-then T S N (AlikeButMarks-unmarked T S k h) alike in
-    record {
-      forest = IsForest-kept T N t a counted;
-      first = a.first;
-      links = a.link;
-      gone = alike.marked k.dot k.kind ∙ (ap (λ (o : Option Row). marked_in o k.kind) (h k.dot ∙ cond-true _ _ _ (dot_eq-same k.dot)) ∙ unmarked_gone (T k.dot) k.kind);
-      others = λ j ne. alike.marked j.dot j.kind ∙ (elim (cases_Bool (dot_eq k.dot j.dot)) [
-        | inl same ↦ ap (λ (o : Option Row). marked_in o j.kind) (h j.dot ∙ cond-true _ _ _ same) ∙ unmarked_kept (T j.dot) k.kind j.kind (λ one. ne (token_is j k (sym (dot_eq-true k.dot j.dot same)) one))
-        | inr apart ↦ ap (λ (o : Option Row). marked_in o j.kind) (h j.dot ∙ cond-false _ _ _ apart)
-      ]);
-    }
-
 pub Takes-seen : (T M N : Rows) (d : Dot) → Takes T M d → NothingSeen M N → Takes T N d
-Takes-seen T M N d x seen = record { forest = seen.forest; links = λ q. seen.links q ∙ x.links q; marks = λ k. seen.marks k ∙ x.marks k }
+Takes-seen T M N d x seen = record {
+  forest = seen.forest;
+  links = λ q. seen.links q ∙ x.links q;
+  marks = λ k. seen.marks k ∙ x.marks k;
+}

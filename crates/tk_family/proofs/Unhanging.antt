@@ -35,13 +35,16 @@ use Rattle.tk_family.proofs.Growth.{IsUsed-adds, IsTwice-adds}
 use Rattle.tk_family.proofs.FamilyLaws.{use_of-within, IsTwice-within}
 use Rattle.tk_family.proofs.UseLaws.{uses_by-true, use_of-uses}
 use Rattle.tk_family.proofs.ChildLaws.{dots_of, users-has, has-users, users-distinct}
-use Rattle.tk_family.proofs.HangLaws.{without-here, without-other, first_here}
+use Rattle.tk_family.proofs.HangLaws.{without-here, without-other}
+use Rattle.tk_family.proofs.HangRemovalLaws.{first_here}
 
 pub Adds-without : (f : Links) (d : Dot) (l : Link) → f d ≡ Some l → Adds (without f d) f d l
-Adds-without f d l here = record { free = without-here f d; here = here; others = λ q ne. sym (without-other f d q ne) }
+Adds-without f d l here =
+    record { free = without-here f d; here = here; others = λ q ne. sym (without-other f d q ne) }
 
 pub used-within : (f g : Links) → LinksWithin f g → (k : TokenId) → IsUsed f k → IsUsed g k
-used-within f g w k u = record { user = u.user; by = use_of-within f g w u.user (f u.user) k refl u.by }
+used-within f g w k u =
+    record { user = u.user; by = use_of-within f g w u.user (f u.user) k refl u.by }
 
 -- ---- the uses are as they were
 
@@ -68,9 +71,15 @@ HasUses-code f T d here h =
     let a : Adds (without f d) f d Code = Adds-without f d Code here in
     let w : LinksWithin (without f d) f = Within-adds (without f d) f d Code a in
     record {
-      used = λ k at. elim (IsUsed-adds (without f d) f d Code a k (h.used k at)) [ inl now ↦ absurd (let clash : None ≡ Some k = now in cc) | inr old ↦ old ];
+      used = λ k at. elim (IsUsed-adds (without f d) f d Code a k (h.used k at)) [
+        | inl now ↦ absurd (let clash : None ≡ Some k = now in cc)
+        | inr old ↦ old
+      ];
       uses = λ k u. h.uses k (used-within (without f d) f w k u);
-      again = λ k at. elim (IsTwice-adds (without f d) f d Code a k (h.again k at)) [ inl now ↦ absurd (let clash : None ≡ Some k = now.0 in cc) | inr old ↦ old ];
+      again = λ k at. elim (IsTwice-adds (without f d) f d Code a k (h.again k at)) [
+        | inl now ↦ absurd (let clash : None ≡ Some k = now.0 in cc)
+        | inr old ↦ old
+      ];
       twice = λ k u. h.twice k (IsTwice-within (without f d) f w k u);
     }
 
@@ -115,7 +124,9 @@ count_two true (x ∷ xs) distinct h = inl (refl, x.child, has-here x.child (dot
 count_two false [] distinct h = absurd (true≢false (sym h))
 count_two false (x ∷ []) distinct h = absurd (true≢false (sym h))
 count_two false (x ∷ (y ∷ ys)) distinct h =
-    let none : has (y.child ∷ dots_of ys) x.child ≡ false = list_none x.child (y.child ∷ dots_of ys) (IsDistinct-head dot_eq x.child (y.child ∷ dots_of ys) distinct) in
+    let none : has (y.child ∷ dots_of ys) x.child ≡ false =
+    list_none x.child (y.child ∷ dots_of ys)
+    (IsDistinct-head dot_eq x.child (y.child ∷ dots_of ys) distinct) in
     let second : has (y.child ∷ dots_of ys) y.child ≡ true = has-here y.child (dots_of ys) in
     inr (record {
       one = x.child;
@@ -137,7 +148,8 @@ two_first true (x ∷ (y ∷ ys)) e first h = refl
 two_first false cs e first h = absurd (true≢false (sym first))
 
 only : (x a : Dot) → has (x ∷ []) a ≡ true → a ≡ x
-only x a h = elim (has-cons x [] a h) [ inl same ↦ same | inr none ↦ absurd (true≢false (sym none)) ]
+only x a h =
+    elim (has-cons x [] a h) [ inl same ↦ same | inr none ↦ absurd (true≢false (sym none)) ]
 
 two_more : (b : Bool) (cs : List Child) (x y : Dot) → x ≢ y → has (dots_of cs) x ≡ true
     → has (dots_of cs) y ≡ true → is_often (as_uses (total b cs)) ≡ true
@@ -149,7 +161,8 @@ two_more false (c ∷ (e ∷ es)) x y ne at_x at_y = refl
 -- ---- the uses of a token, counted anew
 
 -- d is no child any more: o is now the first child of t's dot, and the set s has the others
-pub record Recounts (f : Links) (first : Dot → Option Dot) (s : BTreeSet Child) (d : Dot) (t : TokenId) (o : Option Dot) : Type 0 where
+pub record Recounts (f : Links) (first : Dot → Option Dot) (s : BTreeSet Child) (d : Dot)
+    (t : TokenId) (o : Option Dot) : Type 0 where
   pub uses : uses_by (f d) t ≡ true
   pub hangs : Hangs (without f d) (with_first first t.dot o) (others_in s)
   pub ordered : IsOrdered child_cmp s
@@ -157,86 +170,115 @@ pub record Recounts (f : Links) (first : Dot → Option Dot) (s : BTreeSet Child
 kept_link : (f : Links) (d e : Dot) (k : TokenId) → uses_by (without f d e) k ≡ true
     → without f d e ≡ f e
 kept_link f d e k by = elim (cases_dots e d) [
-  | inl same ↦ absurd (true≢false (sym by ∙ ap (λ (l : Option Link). uses_by l k) (ap (without f d) same ∙ without-here f d)))
+  | inl same ↦ absurd
+      (true≢false
+      (sym by ∙ ap (λ (l : Option Link). uses_by l k) (ap (without f d) same ∙ without-here f d)))
   | inr ne ↦ without-other f d e ne
 ]
 
 -- the first child and the set have the users of t
-in_set : (f : Links) (first : Dot → Option Dot) (s : BTreeSet Child) (d : Dot) (t : TokenId) (o : Option Dot)
+in_set : (f : Links) (first : Dot → Option Dot) (s : BTreeSet Child) (d : Dot) (t : TokenId)
+    (o : Option Dot)
     → Recounts f first s d t o → (e : Dot) → uses_by (without f d e) t ≡ true → has_dot o e ≡ false
     → has (dots_of (users_in s t)) e ≡ true
 in_set f first s d t o x e by apart =
-    let at : others_in s t e ≡ true = x.hangs.rest t e ∙ and_from _ _ by (ap (λ (q : Option Dot). not (has_dot q e)) (first_here first t.dot o) ∙ ap not apart) in
+    let at : others_in s t e ≡ true = x.hangs.rest t e
+    ∙ and_from _ _ by (ap (λ (q : Option Dot). not (has_dot q e)) (first_here first t.dot o)
+    ∙ ap not apart) in
     users-has s t e at (x.hangs.ranged t e at)
 
-of_set : (f : Links) (first : Dot → Option Dot) (s : BTreeSet Child) (d : Dot) (t : TokenId) (o : Option Dot)
+of_set : (f : Links) (first : Dot → Option Dot) (s : BTreeSet Child) (d : Dot) (t : TokenId)
+    (o : Option Dot)
     → Recounts f first s d t o → (e : Dot) → has (dots_of (users_in s t)) e ≡ true
     → (uses_by (without f d e) t ≡ true) × (has_dot o e ≡ false)
 of_set f first s d t o x e e_in =
-    let parts = and_parts _ _ (sym (x.hangs.rest t e) ∙ has-users s t e e_in) in
-    (parts.0, not_true (has_dot o e) (ap (λ (q : Option Dot). not (has_dot q e)) (sym (first_here first t.dot o)) ∙ parts.1))
+    let parts = and_parts _ _ (sym (x.hangs.rest t e) ∙ has-users s t e e_in) in (
+      parts.0,
+      not_true (has_dot o e)
+          (ap (λ (q : Option Dot). not (has_dot q e)) (sym (first_here first t.dot o)) ∙ parts.1),
+    )
   where
     not_true : (b : Bool) → not b ≡ true → b ≡ false
     not_true true h = absurd (true≢false (sym h))
     not_true false h = refl
 
-of_first : (f : Links) (first : Dot → Option Dot) (s : BTreeSet Child) (d : Dot) (t : TokenId) (o : Option Dot)
+of_first : (f : Links) (first : Dot → Option Dot) (s : BTreeSet Child) (d : Dot) (t : TokenId)
+    (o : Option Dot)
     → Recounts f first s d t o → first_uses f o t ≡ true
     → (e : Dot) × (uses_by (without f d e) t ≡ true) × (has_dot o e ≡ true)
 of_first f first s d t None x h = absurd (true≢false (sym h))
 of_first f first s d t (Some e) x h =
-    let names : named_of (without f d e) ≡ Some t.dot = x.hangs.named t.dot e (first_here first t.dot (Some e)) in
-    let ne : e ≢ d = λ same. (let clash : None ≡ Some t.dot = sym (ap named_of (ap (without f d) same ∙ without-here f d)) ∙ names in cc) in
+    let names : named_of (without f d e) ≡ Some t.dot =
+    x.hangs.named t.dot e (first_here first t.dot (Some e)) in
+    let ne : e ≢ d = λ same. (let clash : None ≡ Some t.dot =
+    sym (ap named_of (ap (without f d) same ∙ without-here f d)) ∙ names in cc) in
     (e, ap (λ (l : Option Link). uses_by l t) (without-other f d e ne) ∙ h, dot_eq-same e)
 
 by_first : (f : Links) (d : Dot) (t : TokenId) (o : Option Dot) (e : Dot)
     → uses_by (without f d e) t ≡ true → has_dot o e ≡ true → first_uses f o t ≡ true
 by_first f d t None e by at = absurd (true≢false (sym at))
-by_first f d t (Some x) e by at = subst (λ (y : Dot). uses_by (f y) t ≡ true) (sym (dot_eq-true x e at)) (ap (λ (l : Option Link). uses_by l t) (sym (kept_link f d e t by)) ∙ by)
+by_first f d t (Some x) e by at = subst (λ (y : Dot). uses_by (f y) t ≡ true)
+    (sym (dot_eq-true x e at))
+    (ap (λ (l : Option Link). uses_by l t) (sym (kept_link f d e t by)) ∙ by)
 
 one_dot : (o : Option Dot) (x y : Dot) → has_dot o x ≡ true → has_dot o y ≡ true → x ≡ y
 one_dot None x y h i = absurd (true≢false (sym h))
 one_dot (Some e) x y h i = sym (dot_eq-true e x h) ∙ dot_eq-true e y i
 
-pub counted_used : (f : Links) (first : Dot → Option Dot) (s : BTreeSet Child) (d : Dot) (t : TokenId) (o : Option Dot)
+pub counted_used : (f : Links) (first : Dot → Option Dot) (s : BTreeSet Child) (d : Dot)
+    (t : TokenId) (o : Option Dot)
     → Recounts f first s d t o → is_some_use (counted f o s t) ≡ true → IsUsed (without f d) t
 counted_used f first s d t o x h = elim (count_some (first_uses f o t) (users_in s t) h) [
-  | inl now ↦ let r : (e : Dot) × (uses_by (without f d e) t ≡ true) × (has_dot o e ≡ true) = of_first f first s d t o x now in record { user = r.0; by = uses_by-true (without f d r.0) t r.1 }
-  | inr more ↦ record { user = more.0; by = uses_by-true (without f d more.0) t (of_set f first s d t o x more.0 more.1).0 }
+  | inl now ↦ let r : (e : Dot) × (uses_by (without f d e) t ≡ true) × (has_dot o e ≡ true) =
+      of_first f first s d t o x now in
+      record { user = r.0; by = uses_by-true (without f d r.0) t r.1 }
+  | inr more ↦ record {
+    user = more.0;
+    by = uses_by-true (without f d more.0) t (of_set f first s d t o x more.0 more.1).0;
+  }
 ]
 
-pub used_counted : (f : Links) (first : Dot → Option Dot) (s : BTreeSet Child) (d : Dot) (t : TokenId) (o : Option Dot)
+pub used_counted : (f : Links) (first : Dot → Option Dot) (s : BTreeSet Child) (d : Dot)
+    (t : TokenId) (o : Option Dot)
     → Recounts f first s d t o → IsUsed (without f d) t → is_some_use (counted f o s t) ≡ true
 used_counted f first s d t o x u =
     let by : uses_by (without f d u.user) t ≡ true = use_of-uses (without f d u.user) t u.by in
     elim (cases_Bool (has_dot o u.user)) [
       | inl at ↦ some_first (first_uses f o t) (users_in s t) (by_first f d t o u.user by at)
-      | inr apart ↦ some_more (first_uses f o t) (users_in s t) u.user (in_set f first s d t o x u.user by apart)
+      | inr apart ↦ some_more (first_uses f o t) (users_in s t) u.user
+          (in_set f first s d t o x u.user by apart)
     ]
 
-pub counted_twice : (f : Links) (first : Dot → Option Dot) (s : BTreeSet Child) (d : Dot) (t : TokenId) (o : Option Dot)
+pub counted_twice : (f : Links) (first : Dot → Option Dot) (s : BTreeSet Child) (d : Dot)
+    (t : TokenId) (o : Option Dot)
     → Recounts f first s d t o → is_often (counted f o s t) ≡ true → IsTwice (without f d) t
-counted_twice f first s d t o x h = elim (count_two (first_uses f o t) (users_in s t) (users-distinct s t x.ordered) h) [
-  | inl now ↦
-      let r : (e : Dot) × (uses_by (without f d e) t ≡ true) × (has_dot o e ≡ true) = of_first f first s d t o x now.0 in
-      let more : (uses_by (without f d now.1) t ≡ true) × (has_dot o now.1 ≡ false) = of_set f first s d t o x now.1 now.2 in
-      record {
-        one = r.0;
-        two = now.1;
-        apart = λ same. true≢false (sym r.2 ∙ (ap (has_dot o) same ∙ more.1));
-        by_one = uses_by-true (without f d r.0) t r.1;
-        by_two = uses_by-true (without f d now.1) t more.0;
+counted_twice f first s d t o x h =
+    elim (count_two (first_uses f o t) (users_in s t) (users-distinct s t x.ordered) h) [
+      | inl now ↦
+          let r : (e : Dot) × (uses_by (without f d e) t ≡ true) × (has_dot o e ≡ true) =
+          of_first f first s d t o x now.0 in
+          let more : (uses_by (without f d now.1) t ≡ true) × (has_dot o now.1 ≡ false) =
+          of_set f first s d t o x now.1 now.2 in
+          record {
+            one = r.0;
+            two = now.1;
+            apart = λ same. true≢false (sym r.2 ∙ (ap (has_dot o) same ∙ more.1));
+            by_one = uses_by-true (without f d r.0) t r.1;
+            by_two = uses_by-true (without f d now.1) t more.0;
+          }
+      | inr both ↦ record {
+        one = both.one;
+        two = both.two;
+        apart = both.apart;
+        by_one =
+            uses_by-true (without f d both.one) t (of_set f first s d t o x both.one both.one_in).0;
+        by_two =
+            uses_by-true (without f d both.two) t (of_set f first s d t o x both.two both.two_in).0;
       }
-  | inr both ↦ record {
-    one = both.one;
-    two = both.two;
-    apart = both.apart;
-    by_one = uses_by-true (without f d both.one) t (of_set f first s d t o x both.one both.one_in).0;
-    by_two = uses_by-true (without f d both.two) t (of_set f first s d t o x both.two both.two_in).0;
-  }
-]
+    ]
 
-pub twice_counted : (f : Links) (first : Dot → Option Dot) (s : BTreeSet Child) (d : Dot) (t : TokenId) (o : Option Dot)
+pub twice_counted : (f : Links) (first : Dot → Option Dot) (s : BTreeSet Child) (d : Dot)
+    (t : TokenId) (o : Option Dot)
     → Recounts f first s d t o → IsTwice (without f d) t → is_often (counted f o s t) ≡ true
 twice_counted f first s d t o x u =
     let b : Bool = first_uses f o t in
@@ -246,18 +288,23 @@ twice_counted f first s d t o x u =
     elim (cases_Bool (has_dot o u.one)) [
       | inl at_one ↦ elim (cases_Bool (has_dot o u.two)) [
         | inl at_two ↦ absurd (u.apart (one_dot o u.one u.two at_one at_two))
-        | inr apart ↦ two_first b cs u.two (by_first f d t o u.one one at_one) (in_set f first s d t o x u.two two apart)
+        | inr apart ↦ two_first b cs u.two (by_first f d t o u.one one at_one)
+            (in_set f first s d t o x u.two two apart)
       ]
       | inr apart_one ↦ elim (cases_Bool (has_dot o u.two)) [
-        | inl at_two ↦ two_first b cs u.one (by_first f d t o u.two two at_two) (in_set f first s d t o x u.one one apart_one)
-        | inr apart_two ↦ two_more b cs u.one u.two u.apart (in_set f first s d t o x u.one one apart_one) (in_set f first s d t o x u.two two apart_two)
+        | inl at_two ↦ two_first b cs u.one (by_first f d t o u.two two at_two)
+            (in_set f first s d t o x u.one one apart_one)
+        | inr apart_two ↦ two_more b cs u.one u.two u.apart
+            (in_set f first s d t o x u.one one apart_one)
+            (in_set f first s d t o x u.two two apart_two)
       ]
     ]
 
 -- ---- the row of the dot
 
 pub users_cols : (o : Option Row) (e : Option Dot) (k : Kind) (u : Uses)
-    → (link_in (with_users o e k u) ≡ link_in o) × (code_in (with_users o e k u) ≡ code_in o) × (count_in (with_users o e k u) ≡ count_in o)
+    → (link_in (with_users o e k u) ≡ link_in o) × (code_in (with_users o e k u) ≡ code_in o)
+    × (count_in (with_users o e k u) ≡ count_in o)
 users_cols None e k u = (refl, refl, refl)
 users_cols (Some r) e kind.Code u = (refl, refl, refl)
 users_cols (Some r) e kind.Access u = (refl, refl, refl)
@@ -284,13 +331,15 @@ users_first r e kind.Refresh u = refl
 
 pub users_here : (r : Row) (e : Option Dot) (k : Kind) (u : Uses)
     → (is_code k || is_refresh k) ≡ true
-    → (used_in (with_users (Some r) e k u) k ≡ is_some_use u) × (again_in (with_users (Some r) e k u) k ≡ is_often u)
+    → (used_in (with_users (Some r) e k u) k ≡ is_some_use u)
+    × (again_in (with_users (Some r) e k u) k ≡ is_often u)
 users_here r e kind.Code u h = (refl, refl)
 users_here r e kind.Access u h = absurd (true≢false (sym h))
 users_here r e kind.Refresh u h = (refl, refl)
 
 pub users_apart : (o : Option Row) (e : Option Dot) (k : Kind) (u : Uses) (j : Kind) → j ≢ k
-    → (used_in (with_users o e k u) j ≡ used_in o j) × (again_in (with_users o e k u) j ≡ again_in o j)
+    → (used_in (with_users o e k u) j ≡ used_in o j)
+    × (again_in (with_users o e k u) j ≡ again_in o j)
 users_apart None e k u j ne = (refl, refl)
 users_apart (Some r) e kind.Code u kind.Code ne = absurd (ne refl)
 users_apart (Some r) e kind.Code u kind.Access ne = (refl, refl)

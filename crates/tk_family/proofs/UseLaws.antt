@@ -26,15 +26,19 @@ uses_it-apart Code p k names ne = refl
 uses_it-apart (Redeems c) p k names ne =
     let both : Some c ≡ Some p = names in
     let same : c ≡ p = cc in
-    false_from_ne_true (uses_it (Redeems c) k) (λ h. let parts = and_parts _ _ h in ne (sym (dot_eq-true c k.dot parts.0) ∙ same))
+    false_from_ne_true (uses_it (Redeems c) k)
+    (λ h. let parts = and_parts _ _ h in ne (sym (dot_eq-true c k.dot parts.0) ∙ same))
 uses_it-apart (Rotates c g) p k names ne =
     let both : Some c ≡ Some p = names in
     let same : c ≡ p = cc in
-    false_from_ne_true (uses_it (Rotates c g) k) (λ h. let parts = and_parts _ _ h in ne (sym (dot_eq-true c k.dot parts.0) ∙ same))
+    false_from_ne_true (uses_it (Rotates c g) k)
+    (λ h. let parts = and_parts _ _ h in ne (sym (dot_eq-true c k.dot parts.0) ∙ same))
 
 -- a link that uses a token names the token's dot
 pub uses_named : (o : Option Link) (k : TokenId) → uses_by o k ≡ true → named_of o ≡ Some k.dot
 uses_named None k h = absurd (true≢false (sym h))
 uses_named (Some Code) k h = absurd (true≢false (sym h))
-uses_named (Some (Redeems c)) k h = let parts = and_parts _ _ h in ap (λ (y : Dot). Some y) (dot_eq-true c k.dot parts.0)
-uses_named (Some (Rotates c g)) k h = let parts = and_parts _ _ h in ap (λ (y : Dot). Some y) (dot_eq-true c k.dot parts.0)
+uses_named (Some (Redeems c)) k h = let parts = and_parts _ _ h in
+    ap (λ (y : Dot). Some y) (dot_eq-true c k.dot parts.0)
+uses_named (Some (Rotates c g)) k h = let parts = and_parts _ _ h in
+    ap (λ (y : Dot). Some y) (dot_eq-true c k.dot parts.0)

@@ -24,7 +24,14 @@ named-sound f d l (Some r) p at names h = elim (cases_Bool (fits_over l (f r))) 
       let both : Some r ≡ Some p = sym (cond-true _ _ _ fit) ∙ h in
       let same : r ≡ p = cc in
       let k : (k : Link) × (f r ≡ Some k) × (fits l k ≡ true) = over_some l (f r) fit in
-      record { link = l; above = k.0; here = at; names = names ∙ both; there = ap f (sym same) ∙ k.1; fitting = k.2 }
+      record {
+        link = l;
+        above = k.0;
+        here = at;
+        names = names ∙ both;
+        there = ap f (sym same) ∙ k.1;
+        fitting = k.2;
+      }
   | inr none ↦ absurd (let clash : None ≡ Some p = sym (cond-false _ _ _ none) ∙ h in cc)
 ]
 
@@ -37,7 +44,9 @@ pub parent_of-sound : (f : Links) (d p : Dot) → parent_of f d ≡ Some p → I
 parent_of-sound f d p h = by-sound f d (f d) p refl h
 
 pub parent_of-complete : (f : Links) (d p : Dot) → IsParent f d p → parent_of f d ≡ Some p
-parent_of-complete f d p a = ap (parent_by f) a.here ∙ (ap (parent_named f a.link) a.names ∙ cond-true _ _ _ (ap (fits_over a.link) a.there ∙ a.fitting))
+parent_of-complete f d p a = ap (parent_by f) a.here
+    ∙ (ap (parent_named f a.link) a.names
+    ∙ cond-true _ _ _ (ap (fits_over a.link) a.there ∙ a.fitting))
 
 is_code-sound : (o : Option Link) → is_code_link o ≡ true → o ≡ Some Code
 is_code-sound None h = absurd (true≢false (sym h))
@@ -46,13 +55,15 @@ is_code-sound (Some (Redeems d)) h = absurd (true≢false (sym h))
 is_code-sound (Some (Rotates d g)) h = absurd (true≢false (sym h))
 
 here-sound : (f : Links) (d c : Dot) → is_code_link (f d) ≡ true → Some d ≡ Some c → IsUnder f d c
-here-sound f d c is h = let same : d ≡ c = cc in record { path = []; leads = (same, ap f (sym same) ∙ is_code-sound (f d) is) }
+here-sound f d c is h = let same : d ≡ c = cc in
+    record { path = []; leads = (same, ap f (sym same) ∙ is_code-sound (f d) is) }
 
 step-sound : (f : Links) (n : ℕ) (d c : Dot) (o : Option Dot)
     → ((q : Dot) → code_by f n q ≡ Some c → IsUnder f q c) → parent_of f d ≡ o
     → option_and_then (code_by f n) o ≡ Some c → IsUnder f d c
 step-sound f n d c None rest at h = absurd (cc)
-step-sound f n d c (Some p) rest at h = let u : IsUnder f p c = rest p h in record { path = p ∷ u.path; leads = ((parent_of-sound f d p at, u.leads.0), u.leads.1) }
+step-sound f n d c (Some p) rest at h = let u : IsUnder f p c = rest p h in
+    record { path = p ∷ u.path; leads = ((parent_of-sound f d p at, u.leads.0), u.leads.1) }
 
 pub code_by-sound : (f : Links) (n : ℕ) (d c : Dot) → code_by f n d ≡ Some c → IsUnder f d c
 code_by-sound f zero d c h = elim (cases_Bool (is_code_link (f d))) [
@@ -61,7 +72,8 @@ code_by-sound f zero d c h = elim (cases_Bool (is_code_link (f d))) [
 ]
 code_by-sound f (suc n) d c h = elim (cases_Bool (is_code_link (f d))) [
   | inl is ↦ here-sound f d c is (sym (cond-true _ _ _ is) ∙ h)
-  | inr none ↦ step-sound f n d c (parent_of f d) (λ q e. code_by-sound f n q c e) refl (sym (cond-false _ _ _ none) ∙ h)
+  | inr none ↦ step-sound f n d c (parent_of f d) (λ q e. code_by-sound f n q c e) refl
+      (sym (cond-false _ _ _ none) ∙ h)
 ]
 
 -- a code ends the walk at once
@@ -76,15 +88,19 @@ code_more : (f : Links) (n : ℕ) (d p c : Dot) → IsParent f d p → 1 ≤ n
     → ((m : ℕ) → m + 1 ≡ n → code_by f m p ≡ Some c) → code_by f n d ≡ Some c
 code_more f zero d p c a low rest = absurd (omega arith)
 code_more f (suc m) d p c a low rest =
-    let none : is_code_link (f d) ≡ false = false_from_ne_true (is_code_link (f d)) (not_code f d p a) in
-    cond-false _ _ _ none ∙ (ap (option_and_then (code_by f m)) (parent_of-complete f d p a) ∙ rest m (omega arith))
+    let none : is_code_link (f d) ≡ false =
+    false_from_ne_true (is_code_link (f d)) (not_code f d p a) in
+    cond-false _ _ _ none
+    ∙ (ap (option_and_then (code_by f m)) (parent_of-complete f d p a) ∙ rest m (omega arith))
 
 pub code_by-complete : (f : Links) (n : ℕ) (d : Dot) (ps : List Dot) (c : Dot) → IsPath f d ps c
     → rank_of (f d) ≤ n → code_by f n d ≡ Some c
-code_by-complete f n d [] c m low = code_here f n d (ap is_code_link (ap f m.0 ∙ m.1)) ∙ ap (λ (x : Dot). Some x) m.0
+code_by-complete f n d [] c m low =
+    code_here f n d (ap is_code_link (ap f m.0 ∙ m.1)) ∙ ap (λ (x : Dot). Some x) m.0
 code_by-complete f n d (p ∷ ps) c m low =
     let r : rank_of (f d) ≡ rank_of (f p) + 1 = IsParent-rank f d p m.0.0 in
-    code_more f n d p c m.0.0 (omega arith) (λ k e. code_by-complete f k p ps c (m.0.1, m.1) (omega arith))
+    code_more f n d p c m.0.0 (omega arith)
+    (λ k e. code_by-complete f k p ps c (m.0.1, m.1) (omega arith))
 
 -- ---- the code that a dot is under, both ways
 

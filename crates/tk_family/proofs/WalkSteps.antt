@@ -19,4 +19,5 @@ pub walk_on : (f : Links) (n i : ℕ) (d p : Dot) (total : Option Dot) → i < n
     → false ≡ is_code_link (f d) → parent_of f d ≡ Some p → code_by f (n - i) d ≡ total
     → code_by f (n - (i + 1)) p ≡ total
 walk_on f n i d p total lt other above so_far =
-    sym (left f n i d lt (sym other) ∙ ap (option_and_then (code_by f (n - (i + 1)))) above) ∙ so_far
+    sym (left f n i d lt (sym other) ∙ ap (option_and_then (code_by f (n - (i + 1)))) above)
+    ∙ so_far

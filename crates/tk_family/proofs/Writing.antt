@@ -21,8 +21,12 @@ pub changed : (T N : Rows) (at : Dot) (r row : Row) (F : Option Row → Option R
 changed T N at r row F here written new q = elim (cases_Bool (dot_eq at q)) [
   | inl same ↦
       let e : T q ≡ Some r = sym (ap T (dot_eq-true at q same)) ∙ here in
-      new q ∙ (cond-true (dot_eq at q) (option_map (λ _. row) (T q)) (T q) same ∙ (ap (option_map (λ _. row)) e ∙ (sym written ∙ (ap F (sym e) ∙ sym (cond-true (dot_eq at q) (F (T q)) (T q) same)))))
-  | inr apart ↦ new q ∙ (cond-false (dot_eq at q) (option_map (λ _. row) (T q)) (T q) apart ∙ sym (cond-false (dot_eq at q) (F (T q)) (T q) apart))
+      new q ∙ (cond-true (dot_eq at q) (option_map (λ _. row) (T q)) (T q) same
+      ∙ (ap (option_map (λ _. row)) e
+      ∙ (sym written ∙ (ap F (sym e) ∙ sym (cond-true (dot_eq at q) (F (T q)) (T q) same)))))
+  | inr apart ↦ new q
+      ∙ (cond-false (dot_eq at q) (option_map (λ _. row) (T q)) (T q) apart
+      ∙ sym (cond-false (dot_eq at q) (F (T q)) (T q) apart))
 ]
 
 -- ---- a row is written at each dot of a list
@@ -38,21 +42,28 @@ twice_cleared (Some r) = refl
 -- a row is written at each dot of a list, where to write it twice is to write it once
 listed-more : (F : Option Row → Option Row) → ((o : Option Row) → F (F o) ≡ F o)
     → (T M N : Rows) (list : List Dot) (x : Dot)
-    → ((q : Dot) → M q ≡ cond (has list q) (F (T q)) (T q)) → ((q : Dot) → N q ≡ cond (dot_eq x q) (F (M q)) (M q)) → (q : Dot) → N q ≡ cond (has (list ++ x ∷ []) q) (F (T q)) (T q)
+    → ((q : Dot) → M q ≡ cond (has list q) (F (T q)) (T q))
+    → ((q : Dot) → N q ≡ cond (dot_eq x q) (F (M q)) (M q)) → (q : Dot)
+    → N q ≡ cond (has (list ++ x ∷ []) q) (F (T q)) (T q)
 listed-more F twice T M N list x before now q = elim (cases_Bool (dot_eq x q)) [
   | inl same ↦
-      let new : has (list ++ x ∷ []) q ≡ true = subst (λ (y : Dot). has (list ++ x ∷ []) y ≡ true) (dot_eq-true x q same) (has-right list (x ∷ []) x (has-here x [])) in
+      let new : has (list ++ x ∷ []) q ≡ true =
+      subst (λ (y : Dot). has (list ++ x ∷ []) y ≡ true) (dot_eq-true x q same)
+      (has-right list (x ∷ []) x (has-here x [])) in
       now q ∙ (cond-true _ _ _ same ∙ (elim (cases_Bool (has list q)) [
-        | inl old ↦ ap F (before q ∙ cond-true _ _ _ old) ∙ (twice (T q) ∙ sym (cond-true _ _ _ new))
+        | inl old ↦
+            ap F (before q ∙ cond-true _ _ _ old) ∙ (twice (T q) ∙ sym (cond-true _ _ _ new))
         | inr fresh ↦ ap F (before q ∙ cond-false _ _ _ fresh) ∙ sym (cond-true _ _ _ new)
       ]))
   | inr apart ↦ now q ∙ (cond-false _ _ _ apart ∙ (before q ∙ (elim (cases_Bool (has list q)) [
     | inl old ↦ cond-true _ _ _ old ∙ sym (cond-true _ _ _ (has-left list (x ∷ []) q old))
     | inr fresh ↦
-        let still : has (list ++ x ∷ []) q ≡ false = false_from_ne_true (has (list ++ x ∷ []) q) (λ h. elim (has-append list (x ∷ []) q h) [
+        let still : has (list ++ x ∷ []) q ≡ false =
+        false_from_ne_true (has (list ++ x ∷ []) q) (λ h. elim (has-append list (x ∷ []) q h) [
           | inl old ↦ true≢false (sym old ∙ fresh)
           | inr one ↦ elim (has-cons x [] q one) [
-            | inl same ↦ true≢false (sym (subst (λ (y : Dot). dot_eq x y ≡ true) (sym same) (dot_eq-same x)) ∙ apart)
+            | inl same ↦ true≢false
+                (sym (subst (λ (y : Dot). dot_eq x y ≡ true) (sym same) (dot_eq-same x)) ∙ apart)
             | inr none ↦ true≢false (sym none)
           ]
         ]) in
@@ -64,24 +75,29 @@ pub settled-more : (T M N : Rows) (list : List Dot) (x c : Dot)
     → ((q : Dot) → M q ≡ settled T list c q)
     → ((q : Dot) → N q ≡ cond (dot_eq x q) (with_code (M q) c) (M q)) → (q : Dot)
     → N q ≡ settled T (list ++ x ∷ []) c q
-settled-more T M N list x c before now q = listed-more (λ o. with_code o c) (λ o. twice_coded o c) T M N list x before now q
+settled-more T M N list x c before now q =
+    listed-more (λ o. with_code o c) (λ o. twice_coded o c) T M N list x before now q
 
 pub unsettled-more : (T M N : Rows) (list : List Dot) (x : Dot)
     → ((q : Dot) → M q ≡ unsettled T list q)
     → ((q : Dot) → N q ≡ cond (dot_eq x q) (without_code (M q)) (M q)) → (q : Dot)
     → N q ≡ unsettled T (list ++ x ∷ []) q
-unsettled-more T M N list x before now q = listed-more without_code twice_cleared T M N list x before now q
+unsettled-more T M N list x before now q =
+    listed-more without_code twice_cleared T M N list x before now q
 
 -- a blank row is put at a dot that has none
 pub added : (m n : RowMap) (at : Dot) (r : Row) → n ≡ map.insert m at r → map.get m at ≡ None
     → r ≡ blank → (q : Dot) → table n q ≡ cond (dot_eq at q) (or_blank (table m q)) (table m q)
 added m n at r is none empty q =
-    ap (λ (x : RowMap). map.get x q) is ∙ map.get-insert dot_cmp_total m at r q ∙ ap (λ (b : Bool). cond b (Some r) (map.get m q)) (dots_equiv.symm q at)
+    ap (λ (x : RowMap). map.get x q) is ∙ map.get-insert dot_cmp_total m at r q
+    ∙ ap (λ (b : Bool). cond b (Some r) (map.get m q)) (dots_equiv.symm q at)
     ∙ elim (cases_Bool (dot_eq at q)) [
       | inl same ↦
           cond-true (dot_eq at q) (Some r) (map.get m q) same ∙ ap (λ (x : Row). Some x) empty
-          ∙ ap or_blank (sym (ap (map.get m) (sym (dot_eq-true at q same)) ∙ none)) ∙ sym (cond-true (dot_eq at q) (or_blank (table m q)) (table m q) same)
-      | inr apart ↦ cond-false (dot_eq at q) (Some r) (map.get m q) apart ∙ sym (cond-false (dot_eq at q) (or_blank (table m q)) (table m q) apart)
+          ∙ ap or_blank (sym (ap (map.get m) (sym (dot_eq-true at q same)) ∙ none))
+          ∙ sym (cond-true (dot_eq at q) (or_blank (table m q)) (table m q) same)
+      | inr apart ↦ cond-false (dot_eq at q) (Some r) (map.get m q) apart
+          ∙ sym (cond-false (dot_eq at q) (or_blank (table m q)) (table m q) apart)
     ]
 
 -- ---- how many rows there are
@@ -99,17 +115,25 @@ same_maps m n h = map.same_map dot_cmp_total dot_cmp-IsAntisymmetric n m h
 
 -- a row in place of another makes no more rows
 pub same_len : (m n : RowMap) (at : Dot) (row : Row)
-    → ((q : Dot) → map.get n q ≡ cond (dot_eq q at) (option_map (λ _. row) (map.get m q)) (map.get m q))
+    → ((q : Dot)
+    → map.get n q ≡ cond (dot_eq q at) (option_map (λ _. row) (map.get m q)) (map.get m q))
     → map.len n ≡ map.len m
 same_len m n at row h = elim (cases_Bool (map.contains_key m at)) [
   | inl there ↦
-      let is : n ≡ map.insert m at row = same_maps (map.insert m at row) n (λ q. h q ∙ (elim (cases_Bool (dot_eq q at)) [
-        | inl same ↦ cond-true _ _ _ same ∙ (some_mapped (map.get m q) row (subst (λ (x : Dot). is_some (map.get m x) ≡ true) (sym (dot_eq-true q at same)) there) ∙ sym (map.get-insert dot_cmp_total m at row q ∙ cond-true _ _ _ same))
-        | inr apart ↦ cond-false _ _ _ apart ∙ sym (map.get-insert dot_cmp_total m at row q ∙ cond-false _ _ _ apart)
+      let is : n ≡ map.insert m at row =
+      same_maps (map.insert m at row) n (λ q. h q ∙ (elim (cases_Bool (dot_eq q at)) [
+        | inl same ↦ cond-true _ _ _ same
+            ∙ (some_mapped (map.get m q) row
+            (subst (λ (x : Dot). is_some (map.get m x) ≡ true) (sym (dot_eq-true q at same)) there)
+            ∙ sym (map.get-insert dot_cmp_total m at row q ∙ cond-true _ _ _ same))
+        | inr apart ↦ cond-false _ _ _ apart
+            ∙ sym (map.get-insert dot_cmp_total m at row q ∙ cond-false _ _ _ apart)
       ])) in
       ap map.len is ∙ (map.len-insert dot_cmp_total m at row ∙ cond-true _ _ _ there)
   | inr none ↦ ap map.len (same_maps m n (λ q. h q ∙ (elim (cases_Bool (dot_eq q at)) [
-    | inl same ↦ cond-true _ _ _ same ∙ none_mapped (map.get m q) row (subst (λ (x : Dot). is_some (map.get m x) ≡ false) (sym (dot_eq-true q at same)) none)
+    | inl same ↦ cond-true _ _ _ same
+        ∙ none_mapped (map.get m q) row
+        (subst (λ (x : Dot). is_some (map.get m x) ≡ false) (sym (dot_eq-true q at same)) none)
     | inr apart ↦ cond-false _ _ _ apart
   ])))
 ]
@@ -120,16 +144,20 @@ one_more false x y h = omega arith
 
 pub longer : (m n : RowMap) (at : Dot) (row : Row) → n ≡ map.insert m at row
     → map.len n ≤ map.len m + 1
-longer m n at row is = one_more (map.contains_key m at) (map.len n) (map.len m) (ap map.len is ∙ map.len-insert dot_cmp_total m at row)
+longer m n at row is = one_more (map.contains_key m at) (map.len n) (map.len m)
+    (ap map.len is ∙ map.len-insert dot_cmp_total m at row)
 
 -- a row is removed
 pub dropped : (m n : RowMap) (at : Dot) → n ≡ map.remove m at → (q : Dot)
     → table n q ≡ cond (dot_eq at q) None (table m q)
-dropped m n at is q = ap (λ (x : RowMap). map.get x q) is ∙ (map.get-remove dot_cmp_total m at q ∙ ap (λ (b : Bool). cond b None (map.get m q)) (dots_equiv.symm q at))
+dropped m n at is q = ap (λ (x : RowMap). map.get x q) is
+    ∙ (map.get-remove dot_cmp_total m at q
+    ∙ ap (λ (b : Bool). cond b None (map.get m q)) (dots_equiv.symm q at))
 
 less_one : (b : Bool) (x y : ℕ) → x ≡ cond b (y - 1) y → x ≤ y
 less_one true x y h = omega arith
 less_one false x y h = omega arith
 
 pub fewer : (m n : RowMap) (at : Dot) → n ≡ map.remove m at → map.len n ≤ map.len m
-fewer m n at is = less_one (map.contains_key m at) (map.len n) (map.len m) (ap map.len is ∙ map.len-remove dot_cmp_total m at)
+fewer m n at is = less_one (map.contains_key m at) (map.len n) (map.len m)
+    (ap map.len is ∙ map.len-remove dot_cmp_total m at)

@@ -34,7 +34,8 @@ one_number : (text : List ℕ) (r s : Option ℕ) → ReadsDecimal text r → Re
 one_number text None None f g = refl
 one_number text None (Some n) f g = absurd (f n g)
 one_number text (Some m) None f g = absurd (g m f)
-one_number text (Some m) (Some n) f g = ap Some (decimal_injective m n f.fits g.fits (sym f.spelled ∙ g.spelled))
+one_number text (Some m) (Some n) f g =
+    ap Some (decimal_injective m n f.fits g.fits (sym f.spelled ∙ g.spelled))
 
 -- the number of a decimal is the value of its digits
 value_of : (text : List ℕ) (n : ℕ) → IsDecimalOf text n → digits_value 10 text ≡ n
@@ -44,14 +45,20 @@ value_of text n h = ap (digits_value 10) h.spelled ∙ digits_value-decimal own 
 pub decimals_in : (text : List ℕ) → ReadsDecimal text (decimal_in text)
 decimals_in text =
     let n = digits_value 10 text in
-    elim (nat_lt n (2 ^ 64) && bytes_eq (decimal n) text) as (λ b. (nat_lt n (2 ^ 64) && bytes_eq (decimal n) text) ≡ b → ReadsDecimal text (cond b (Some n) None)) [
+    elim (nat_lt n (2 ^ 64) && bytes_eq (decimal n) text) as
+    (λ b. (nat_lt n (2 ^ 64) && bytes_eq (decimal n) text) ≡ b
+    → ReadsDecimal text (cond b (Some n) None)) [
       | true ↦ λ e.
           let p = both_true _ _ e in
-          record { fits = lt_from_test n _ p.0; spelled = sym ((bytes_eq-Decides (decimal n) text).0 p.1) }
+          record {
+            fits = lt_from_test n _ p.0;
+            spelled = sym ((bytes_eq-Decides (decimal n) text).0 p.1);
+          }
       | false ↦ λ e m h.
           let v = value_of text m h in
           let b : nat_lt n (2 ^ 64) ≡ true = test_from_lt n (2 ^ 64) (omega (arith, v, h.fits)) in
-          let d : bytes_eq (decimal n) text ≡ true = (bytes_eq-Decides (decimal n) text).1 (ap decimal v ∙ sym h.spelled) in
+          let d : bytes_eq (decimal n) text ≡ true =
+          (bytes_eq-Decides (decimal n) text).1 (ap decimal v ∙ sym h.spelled) in
           false≢true (sym e ∙ ap (λ t. t && bytes_eq (decimal n) text) b ∙ d)
     ] refl
 
@@ -70,11 +77,13 @@ decimal_found text n e = subst (ReadsDecimal text) e (decimals_in text)
 
 -- a number below 2^64 is found in its decimal
 pub decimal_back : (n : ℕ) → n < 2 ^ 64 → decimal_in (decimal n) ≡ Some n
-decimal_back n fits = sym (is_decimal_in (decimal n) (Some n) (record { fits = fits; spelled = refl }))
+decimal_back n fits =
+    sym (is_decimal_in (decimal n) (Some n) (record { fits = fits; spelled = refl }))
 
 -- a text in which `decimal_in` finds nothing is the decimal of no number below 2^64
 pub no_decimal : (text : List ℕ) (n : ℕ) → decimal_in text ≡ None → n < 2 ^ 64 → text ≢ decimal n
-no_decimal text n none fits same = none_is_not_some n (sym none ∙ ap decimal_in same ∙ decimal_back n fits)
+no_decimal text n none fits same =
+    none_is_not_some n (sym none ∙ ap decimal_in same ∙ decimal_back n fits)
 
 -- ---- reading a decimal by parsing
 
@@ -85,15 +94,22 @@ pub parsed : {E : Type 0} (text : List ℕ) (r : Result ℕ E) → ParsesUnsigne
     → ReadsDecimal text (result_ok r)
 parsed {E} text (Ok n) h plus zero_alone =
     let p = parse_plain own {E = E} 64 text (Ok n) h plus in
-    let same : decimal n ≡ text = ap decimal p.1 ∙ decimal-digits_value own text p.0.0 p.0.1 zero_alone p.0.2 in
+    let same : decimal n ≡ text =
+    ap decimal p.1 ∙ decimal-digits_value own text p.0.0 p.0.1 zero_alone p.0.2 in
     record { fits = omega (arith, p.0.2, p.1); spelled = sym same }
 parsed {E} text (Err e) h plus zero_alone = λ n d.
-    parse_plain own {E = E} 64 text (Err e) h plus (subst (AllDigits 10) (sym d.spelled) (digits_decimal own n d.fits), subst (λ t. 0 < length t) (sym d.spelled) (decimal_nonempty n d.fits), omega (arith, value_of text n d, d.fits))
+    parse_plain own {E = E} 64 text (Err e) h plus (
+      subst (AllDigits 10) (sym d.spelled) (digits_decimal own n d.fits),
+      subst (λ t. 0 < length t) (sym d.spelled) (decimal_nonempty n d.fits),
+      omega (arith, value_of text n d, d.fits),
+    )
 
 -- no decimal begins with a plus
 pub no_plus : (text : List ℕ) → get_or text 0 0 ≡ 43 → IsNoDecimal text
 no_plus text plus n h =
-    not_in_digits own text 43 (subst (AllDigits 10) (sym h.spelled) (digits_decimal own n h.fits)) (λ r. absurd (omega (arith, r.0))) 0 (subst (λ t. 0 < length t) (sym h.spelled) (decimal_nonempty n h.fits)) plus
+    not_in_digits own text 43 (subst (AllDigits 10) (sym h.spelled) (digits_decimal own n h.fits))
+    (λ r. absurd (omega (arith, r.0))) 0
+    (subst (λ t. 0 < length t) (sym h.spelled) (decimal_nonempty n h.fits)) plus
 
 -- no decimal goes on after a leading zero
 pub no_zero : (text : List ℕ) → get_or text 0 0 ≡ 48 → 1 < length text → IsNoDecimal text
@@ -114,4 +130,5 @@ no_nothing text short n h =
 
 -- no decimal is other than UTF-8
 pub no_text : (text : List ℕ) → ¬ (IsUtf8 text) → IsNoDecimal text
-no_text text bad n h = bad (subst IsUtf8 (sym h.spelled) (IsUtf8-from_ascii _ (IsAscii-decimal n h.fits)))
+no_text text bad n h =
+    bad (subst IsUtf8 (sym h.spelled) (IsUtf8-from_ascii _ (IsAscii-decimal n h.fits)))

@@ -18,7 +18,8 @@ digit_in (d ∷ ds) (suc i) e within = digit_in ds i (search rules) (omega (arit
 -- one turn of the loop: the value so far, ten times, plus the next digit, cut at `most`
 pub one_digit_more : (ds : List ℕ) (i most value : ℕ) → i < length ds
     → value ≡ min (digits_value 10 (take i ds)) most
-    → min (value * 10 + digit_value (get_or ds i 0)) most ≡ min (digits_value 10 (take (i + 1) ds)) most
+    → min (value * 10 + digit_value (get_or ds i 0)) most
+    ≡ min (digits_value 10 (take (i + 1) ds)) most
 one_digit_more ds i most value within e =
     let more = digits_value_more 10 ds i within in
     omega (arith, e, more)

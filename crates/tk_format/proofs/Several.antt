@@ -23,17 +23,22 @@ regroup {A} front a (Some x) = ap (λ (xs : List A). Some (xs, x.1)) (simp appen
 regroup front a None = refl
 
 -- a turn of the loop that reads a value keeps the invariant
-pub many_more : {A : Type 0} (read : List ℕ → Option (A × List ℕ)) (front : List A) (count i : ℕ) (bytes : List ℕ) (a : A) (after : List ℕ) (total : Option (List A × List ℕ))
+pub many_more : {A : Type 0} (read : List ℕ → Option (A × List ℕ)) (front : List A) (count i : ℕ)
+    (bytes : List ℕ) (a : A) (after : List ℕ) (total : Option (List A × List ℕ))
     → i < count → read bytes ≡ Some (a, after)
-    → with_front front (read_many read (count - i) bytes) ≡ total → with_front (front ++ a ∷ []) (read_many read (count - (i + 1)) after) ≡ total
+    → with_front front (read_many read (count - i) bytes) ≡ total
+    → with_front (front ++ a ∷ []) (read_many read (count - (i + 1)) after) ≡ total
 unfolding read_many
 many_more read front count i bytes a after total lt h so_far =
     let k : count - i ≡ suc (count - (i + 1)) = omega arith in
-    let one : with_front front (read_many read (count - i) bytes) ≡ with_front (front ++ a ∷ []) (read_many read (count - (i + 1)) after) = rw (k, h) (regroup front a (read_many read (count - (i + 1)) after)) in
+    let one : with_front front (read_many read (count - i) bytes)
+    ≡ with_front (front ++ a ∷ []) (read_many read (count - (i + 1)) after) =
+    rw (k, h) (regroup front a (read_many read (count - (i + 1)) after)) in
     sym one ∙ so_far
 
 -- a turn of the loop whose reader reads nothing: `read_many` reads nothing of all
-pub many_fail : {A : Type 0} (read : List ℕ → Option (A × List ℕ)) (front : List A) (count i : ℕ) (bytes : List ℕ) (total : Option (List A × List ℕ))
+pub many_fail : {A : Type 0} (read : List ℕ → Option (A × List ℕ)) (front : List A) (count i : ℕ)
+    (bytes : List ℕ) (total : Option (List A × List ℕ))
     → i < count → read bytes ≡ None
     → with_front front (read_many read (count - i) bytes) ≡ total → total ≡ None
 unfolding read_many
@@ -43,18 +48,23 @@ many_fail read front count i bytes total lt h so_far =
     sym so_far ∙ one
 
 -- the end of the loop: the values read so far are what `read_many` reads of all
-pub many_done : {A : Type 0} (read : List ℕ → Option (A × List ℕ)) (front : List A) (count i : ℕ) (bytes : List ℕ) (total : Option (List A × List ℕ))
+pub many_done : {A : Type 0} (read : List ℕ → Option (A × List ℕ)) (front : List A) (count i : ℕ)
+    (bytes : List ℕ) (total : Option (List A × List ℕ))
     → count ≤ i → with_front front (read_many read (count - i) bytes) ≡ total
     → total ≡ Some (front, bytes)
 unfolding read_many
 many_done {A} read front count i bytes total le so_far =
     let k : count - i ≡ 0 = omega arith in
-    let one : with_front front (read_many read (count - i) bytes) ≡ Some (front, bytes) = rw k (ap (λ (xs : List A). Some (xs, bytes)) (append-nil front)) in
+    let one : with_front front (read_many read (count - i) bytes) ≡ Some (front, bytes) =
+    rw k (ap (λ (xs : List A). Some (xs, bytes)) (append-nil front)) in
     sym so_far ∙ one
 
 -- a turn of the loop whose reader returns an error: the whole returns that error
-pub many_err_by : {A : Type 0} (read : List ℕ → Option (A × List ℕ)) (e : ReadError) (front : List A) (count i : ℕ) (old now new last : List ℕ)
+pub many_err_by : {A : Type 0} (read : List ℕ → Option (A × List ℕ)) (e : ReadError)
+    (front : List A) (count i : ℕ) (old now new last : List ℕ)
     → i < count → GetsBy read (Err e) now new
-    → with_front front (read_many read (count - i) now) ≡ read_many read count old → GetsManyBy read count (Err e) old last
-many_err_by read Malformed front count i old now new last lt h so_far = many_fail read front count i now (read_many read count old) lt h so_far
+    → with_front front (read_many read (count - i) now) ≡ read_many read count old
+    → GetsManyBy read count (Err e) old last
+many_err_by read Malformed front count i old now new last lt h so_far =
+    many_fail read front count i now (read_many read count old) lt h so_far
 many_err_by read Memory front count i old now new last lt h so_far = tt

@@ -37,7 +37,8 @@ take_left [] ys = refl
 take_left (x ∷ xs) ys = ap (λ l. x ∷ l) (take_left xs ys)
 
 drop_right : (xs ys : List ℕ) (c : ℕ) → drop (length xs + 1) (xs ++ c ∷ ys) ≡ ys
-drop_right xs ys c = subst (λ n. drop n (xs ++ c ∷ ys) ≡ ys) {x = suc (length xs)} (omega arith) (go xs)
+drop_right xs ys c =
+    subst (λ n. drop n (xs ++ c ∷ ys) ≡ ys) {x = suc (length xs)} (omega arith) (go xs)
   where
     go : (xs : List ℕ) → drop (suc (length xs)) (xs ++ c ∷ ys) ≡ ys
     go [] = refl
@@ -68,7 +69,10 @@ numbers_of : (x y : Option ℕ) (d : Dot) → dot_at x y ≡ Some d
 numbers_of None y d h = absurd (none_is_not_some d h)
 numbers_of (Some r) None d h = absurd (none_is_not_some d h)
 numbers_of (Some r) (Some s) d h =
-    elim (is_region r && is_serial s) as (λ t. (is_region r && is_serial s) ≡ t → cond t (Some (record { region = r; serial = s })) None ≡ Some d → (Some r ≡ Some d.region) × (Some s ≡ Some d.serial) × IsDot d) [
+    elim (is_region r && is_serial s) as
+    (λ t. (is_region r && is_serial s) ≡ t
+    → cond t (Some (record { region = r; serial = s })) None ≡ Some d
+    → (Some r ≡ Some d.region) × (Some s ≡ Some d.serial) × IsDot d) [
       | true ↦ λ t k.
           let same : record { region = r; serial = s } ≡ d = some_injective k in
           let region : r ≡ d.region = ap (λ (x : Dot). x.region) same in
@@ -82,7 +86,8 @@ numbers_of (Some r) (Some s) d h =
     some_injective h = cc
 
     ranges : (r s : ℕ) → (is_region r && is_serial s) ≡ true → IsRegion r × IsSerial s
-    ranges r s t = let a : IsRegion r = grind (arith, nat_tests) in let b : IsSerial s = grind (arith, nat_tests) in (a, b)
+    ranges r s t = let a : IsRegion r = grind (arith, nat_tests) in
+        let b : IsSerial s = grind (arith, nat_tests) in (a, b)
 
 -- ---- any byte that is no digit between the numbers
 
@@ -99,21 +104,25 @@ module _ (mark : ℕ) (parts : ¬ (IsInRange 48 57 mark)) where
       let ds = decimal d.serial in
       let l = longer dr ds mark in
       position_or_len_is (λ b. b == mark) (dr ++ mark ∷ ds) (length dr) 0 (omega arith)
-      (λ k lt. ap (λ b. b == mark) (get_or_left dr (mark ∷ ds) k lt) ∙ other_than _ mark (no_mark d.region (region_fits d h) k lt))
+      (λ k lt. ap (λ b. b == mark) (get_or_left dr (mark ∷ ds) k lt)
+      ∙ other_than _ mark (no_mark d.region (region_fits d h) k lt))
       (λ _. ap (λ b. b == mark) (get_or_seam dr ds mark) ∙ itself mark)
 
   -- the two numbers of a dot are the texts before and behind the first `mark`
   pub before_mark : (d : Dot) → IsDot d
       → before_first (λ b. b == mark) (parted_text mark d) ≡ decimal d.region
-  before_mark d h = ap (λ n. take n (parted_text mark d)) (mark_at d h) ∙ take_left (decimal d.region) (mark ∷ decimal d.serial)
+  before_mark d h = ap (λ n. take n (parted_text mark d)) (mark_at d h)
+      ∙ take_left (decimal d.region) (mark ∷ decimal d.serial)
 
   pub after_mark : (d : Dot) → IsDot d
       → after_first (λ b. b == mark) (parted_text mark d) ≡ decimal d.serial
-  after_mark d h = ap (λ n. drop (n + 1) (parted_text mark d)) (mark_at d h) ∙ drop_right (decimal d.region) (decimal d.serial) mark
+  after_mark d h = ap (λ n. drop (n + 1) (parted_text mark d)) (mark_at d h)
+      ∙ drop_right (decimal d.region) (decimal d.serial) mark
 
   pub parted_back : (d : Dot) → IsDot d → parted_in mark (parted_text mark d) ≡ Some d
   parted_back d h =
-      ap (λ t. dot_at (decimal_in t) (decimal_in (after_first (λ b. b == mark) (parted_text mark d)))) (before_mark d h)
+      ap (λ t. dot_at (decimal_in t)
+      (decimal_in (after_first (λ b. b == mark) (parted_text mark d)))) (before_mark d h)
       ∙ ap (λ t. dot_at (decimal_in (decimal d.region)) (decimal_in t)) (after_mark d h)
       ∙ ap (λ o. dot_at o (decimal_in (decimal d.serial))) (decimal_back d.region (region_fits d h))
       ∙ ap (dot_at (Some d.region)) (decimal_back d.serial (serial_fits d h))
@@ -122,7 +131,8 @@ module _ (mark : ℕ) (parts : ¬ (IsInRange 48 57 mark)) where
   -- two dots with one text are equal
   pub parted_injective : (a b : Dot) → IsDot a → IsDot b → parted_text mark a ≡ parted_text mark b
       → a ≡ b
-  parted_injective a b one other same = some_injective (sym (parted_back a one) ∙ ap (parted_in mark) same ∙ parted_back b other)
+  parted_injective a b one other same =
+      some_injective (sym (parted_back a one) ∙ ap (parted_in mark) same ∙ parted_back b other)
     where
       some_injective : {x y : Dot} → Some x ≡ Some y → x ≡ y
       some_injective h = cc
@@ -147,9 +157,13 @@ parted_found mark text d h =
         range = n.2;
         spelled =
             split_at_first (λ b. b == mark) text 0 there
-            ∙ ap (λ (c : ℕ). before_first (λ b. b == mark) text ++ c ∷ after_first (λ b. b == mark) text) (same_number _ mark (passes_at_first (λ b. b == mark) text 0 there))
-            ∙ ap (λ l. l ++ mark ∷ after_first (λ b. b == mark) text) (decimal_found (before_first (λ b. b == mark) text) d.region n.0).spelled
-            ∙ ap (λ l. decimal d.region ++ mark ∷ l) (decimal_found (after_first (λ b. b == mark) text) d.serial n.1).spelled;
+            ∙ ap (λ (c : ℕ).
+            before_first (λ b. b == mark) text ++ c ∷ after_first (λ b. b == mark) text)
+            (same_number _ mark (passes_at_first (λ b. b == mark) text 0 there))
+            ∙ ap (λ l. l ++ mark ∷ after_first (λ b. b == mark) text)
+            (decimal_found (before_first (λ b. b == mark) text) d.region n.0).spelled
+            ∙ ap (λ l. decimal d.region ++ mark ∷ l)
+            (decimal_found (after_first (λ b. b == mark) text) d.serial n.1).spelled;
       }
       | inr absent ↦ absurd (nothing_behind mark text d.serial absent n.1)
     ]
@@ -170,22 +184,30 @@ dot_found text (Some d) e = parted_found colon text d (sym e)
 
 pub dot_none : (text : List ℕ) (r : Option Dot) → r ≡ parted_in colon text
     → IfNone r (IsNoDotText text)
-dot_none text None e = λ d h. none_is_not_some d (e ∙ ap (parted_in colon) h.spelled ∙ parted_back colon colon_parts d h.range)
+dot_none text None e = λ d h. none_is_not_some d
+    (e ∙ ap (parted_in colon) h.spelled ∙ parted_back colon colon_parts d h.range)
 dot_none text (Some d) e = tt
 
 -- ---- ids
 
 pub id_back : (letter : ℕ) (d : Dot) → IsDot d → id_in letter (id_text letter d) ≡ Some d
-id_back letter d h = ap (λ t. cond t (parted_in dash (parted_text dash d)) None) (itself letter) ∙ parted_back dash dash_parts d h
+id_back letter d h = ap (λ t. cond t (parted_in dash (parted_text dash d)) None) (itself letter)
+    ∙ parted_back dash dash_parts d h
 
 pub id_found : (letter : ℕ) (text : List ℕ) (d : Dot) → id_in letter text ≡ Some d
     → IsIdText letter text d
 id_found letter [] d h = absurd (none_is_not_some d h)
 id_found letter (b ∷ rest) d h =
-    elim (b == letter) as (λ t. (b == letter) ≡ t → cond t (parted_in dash rest) None ≡ Some d → IsIdText letter (b ∷ rest) d) [
+    elim (b == letter) as
+    (λ t. (b == letter) ≡ t → cond t (parted_in dash rest) None ≡ Some d
+    → IsIdText letter (b ∷ rest) d) [
       | true ↦ λ t k.
           let p = parted_found dash rest d k in
-          record { range = p.range; spelled = ap (λ (x : ℕ). x ∷ rest) (same_number b letter t) ∙ ap (λ l. letter ∷ l) p.spelled }
+          record {
+            range = p.range;
+            spelled =
+                ap (λ (x : ℕ). x ∷ rest) (same_number b letter t) ∙ ap (λ l. letter ∷ l) p.spelled;
+          }
       | false ↦ λ _ k. absurd (none_is_not_some d k)
     ] refl h
 
@@ -194,4 +216,5 @@ reads_id letter text = go (id_in letter text) refl
   where
     go : (o : Option Dot) → id_in letter text ≡ o → ReadsId letter text o
     go (Some d) e = id_found letter text d e
-    go None e = λ d h. none_is_not_some d (sym e ∙ ap (id_in letter) h.spelled ∙ id_back letter d h.range)
+    go None e =
+        λ d h. none_is_not_some d (sym e ∙ ap (id_in letter) h.spelled ∙ id_back letter d h.range)

@@ -16,7 +16,9 @@ use Rattle.tk_handle.specs.Handle.{version, handle}
 
 -- the law of the format of dots
 pub dot_field_exact : IsExact dot_field
-dot_field_exact = shaped_exact _ _ _ (both_exact _ _ (only_exact is_region _ u16_exact) (only_exact is_serial _ u64_exact)) (λ _. refl) (λ _. refl)
+dot_field_exact = shaped_exact _ _ _
+    (both_exact _ _ (only_exact is_region _ u16_exact) (only_exact is_serial _ u64_exact))
+    (λ _. refl) (λ _. refl)
 
 -- the law of the format of moments
 pub moment_exact : IsExact moment
@@ -25,9 +27,12 @@ moment_exact = only_exact is_moment _ u64_exact
 -- a kind that was found by its number has that number
 number_back : (n : ℕ) (k : Kind) → kind_of n ≡ Some k → kind_number k ≡ n
 number_back n k e =
-    case_takes n 1 (Some Code) (cond (eqb n 2) (Some Access) (cond (eqb n 3) (Some Refresh) None)) k (λ k. kind_number k ≡ n) (λ is h. rw (← some_is Code k h) (sym is))
-    (case_takes n 2 (Some Access) (cond (eqb n 3) (Some Refresh) None) k (λ k. kind_number k ≡ n) (λ is h. rw (← some_is Access k h) (sym is))
-    (case_takes n 3 (Some Refresh) None k (λ k. kind_number k ≡ n) (λ is h. rw (← some_is Refresh k h) (sym is)) (λ h. absurd cc))) e
+    case_takes n 1 (Some Code) (cond (eqb n 2) (Some Access) (cond (eqb n 3) (Some Refresh) None)) k
+    (λ k. kind_number k ≡ n) (λ is h. rw (← some_is Code k h) (sym is))
+    (case_takes n 2 (Some Access) (cond (eqb n 3) (Some Refresh) None) k (λ k. kind_number k ≡ n)
+    (λ is h. rw (← some_is Access k h) (sym is))
+    (case_takes n 3 (Some Refresh) None k (λ k. kind_number k ≡ n)
+    (λ is h. rw (← some_is Refresh k h) (sym is)) (λ h. absurd cc))) e
 
 -- a kind is found by its number
 number_forth : (k : Kind) → kind_of (kind_number k) ≡ Some k
@@ -45,4 +50,7 @@ token_exact = shaped_exact _ _ _ (both_exact _ _ dot_field_exact kind_exact) (λ
 
 -- the law of the format of handles
 pub handle_exact : IsExact handle
-handle_exact = after_exact (version ∷ []) _ (shaped_exact _ _ _ (both_exact _ _ kind_exact (both_exact _ _ dot_field_exact (repeated_exact 3 _ u64_exact))) (λ _. refl) (λ _. refl))
+handle_exact = after_exact (version ∷ []) _
+    (shaped_exact _ _ _
+    (both_exact _ _ kind_exact (both_exact _ _ dot_field_exact (repeated_exact 3 _ u64_exact)))
+    (λ _. refl) (λ _. refl))

@@ -40,21 +40,27 @@ three (a ∷ b ∷ c ∷ d ∷ xs) e = absurd (omega arith)
 pub spelled : (h : Handle) (k : ℕ) (r s a b d : List ℕ) → length h.words ≡ 3
     → k ≡ kind_number h.id.kind → r ≡ to_be_bytes w16 h.id.dot.region
     → s ≡ to_be_bytes w64 h.id.dot.serial
-    → a ≡ to_be_bytes w64 (get_or h.words 0 0) → b ≡ to_be_bytes w64 (get_or h.words 1 0) → d ≡ to_be_bytes w64 (get_or h.words 2 0)
+    → a ≡ to_be_bytes w64 (get_or h.words 0 0) → b ≡ to_be_bytes w64 (get_or h.words 1 0)
+    → d ≡ to_be_bytes w64 (get_or h.words 2 0)
     → 1 ∷ k ∷ r ++ (s ++ (a ++ (b ++ d))) ≡ handle_bytes h
 unfolding number_spelling
 spelled h k r s a b d len ek er es ea eb ed =
-    let same : flat_map (number w64).spell h.words ≡ flat_map (number w64).spell (get_or h.words 0 0 ∷ get_or h.words 1 0 ∷ get_or h.words 2 0 ∷ []) = ap (flat_map (number w64).spell) (three h.words len) in
+    let same : flat_map (number w64).spell h.words
+    ≡ flat_map (number w64).spell
+    (get_or h.words 0 0 ∷ get_or h.words 1 0 ∷ get_or h.words 2 0 ∷ []) =
+    ap (flat_map (number w64).spell) (three h.words len) in
     rw (ek, er, es, ea, eb, ed, same) refl
 
 -- a handle has 36 bytes
 length-handle_bytes : (h : Handle) → length h.words ≡ 3 → length (handle_bytes h) ≡ 36
-length-handle_bytes h len = ap length (sym (spelled h _ _ _ _ _ _ len refl refl refl refl refl refl))
+length-handle_bytes h len =
+    ap length (sym (spelled h _ _ _ _ _ _ len refl refl refl refl refl refl))
 
 -- the words of a handle are spelled in bytes
 words_bytes : (xs : List ℕ) → IsBytes (flat_map (number w64).spell xs)
 words_bytes [] = IsBytes-nil
-words_bytes (x ∷ xs) = IsBytes-append (number_spelling w64 x) (flat_map (number w64).spell xs) (number_bytes w64 x) (words_bytes xs)
+words_bytes (x ∷ xs) = IsBytes-append (number_spelling w64 x) (flat_map (number w64).spell xs)
+    (number_bytes w64 x) (words_bytes xs)
 
 -- a kind's number is a byte
 kind_byte : (k : Kind) → kind_number k < 256
@@ -68,8 +74,11 @@ IsBytes-handle_bytes h =
     let region = number_spelling w16 h.id.dot.region in
     let serial = number_spelling w64 h.id.dot.serial in
     let words = flat_map (number w64).spell h.words in
-    IsBytes-cons 1 (kind_number h.id.kind ∷ ((region ++ serial) ++ words)) (lit< tt) (IsBytes-cons (kind_number h.id.kind) ((region ++ serial) ++ words) (kind_byte h.id.kind)
-    (IsBytes-append (region ++ serial) words (IsBytes-append region serial (number_bytes w16 h.id.dot.region) (number_bytes w64 h.id.dot.serial)) (words_bytes h.words)))
+    IsBytes-cons 1 (kind_number h.id.kind ∷ ((region ++ serial) ++ words)) (lit< tt)
+    (IsBytes-cons (kind_number h.id.kind) ((region ++ serial) ++ words) (kind_byte h.id.kind)
+    (IsBytes-append (region ++ serial) words
+    (IsBytes-append region serial (number_bytes w16 h.id.dot.region)
+    (number_bytes w64 h.id.dot.serial)) (words_bytes h.words)))
 
 -- words below 2 ^ 64 have a spelling in eight bytes each
 pub words_fit : (xs : List ℕ) → ((i : ℕ) → get_or xs i 0 < 2 ^ 64)
@@ -81,14 +90,18 @@ words_fit (x ∷ xs) below = (below 0, words_fit xs (λ i. below (suc i)))
 
 -- the text of a handle has 48 characters
 length-handle_text : (h : Handle) → handle.Fits h → length (handle_text h) ≡ 48
-length-handle_text h fits = ap length (append-nil _) ∙ length-encode_symbols _ (handle_bytes h) ∙ rw (length-handle_bytes h fits.1.1.0) refl
+length-handle_text h fits = ap length (append-nil _) ∙ length-encode_symbols _ (handle_bytes h)
+    ∙ rw (length-handle_bytes h fits.1.1.0) refl
 
 -- the text of a handle is read as the handle
 pub handle_back : (h : Handle) → handle.Fits h → handle_in (handle_text h) ≡ Some h
 handle_back h fits =
     let long = length-handle_text h fits in
-    let decoded = decode_of-encode_of url_safe_no_pad (handle_bytes h) refl (IsBytes-handle_bytes h) in
-    ap (λ (n : ℕ). if n == 48 then result_ok (decode_of url_safe_no_pad (handle_text h)) >>= whole handle else None) long
+    let decoded =
+    decode_of-encode_of url_safe_no_pad (handle_bytes h) refl (IsBytes-handle_bytes h) in
+    ap (λ (n : ℕ).
+    if n == 48 then result_ok (decode_of url_safe_no_pad (handle_text h))
+    >>= whole handle else None) long
     ∙ ap (λ (r : Result (List ℕ) DecodeError). result_ok r >>= whole handle) decoded
     ∙ whole_again handle handle_exact h fits
 
@@ -104,7 +117,8 @@ pub text_found : (text bytes : List ℕ) (r : Option Handle) → IsBytes text
     → IfSome r (λ h. handle.Fits h × (text ≡ handle_text h))
 text_found text bytes None fits decoded found = tt
 text_found text bytes (Some h) fits decoded found =
-    let encoded : text ≡ encode_of url_safe_no_pad bytes = decode_of_strict url_safe_no_pad text bytes (refl, refl) fits decoded in
+    let encoded : text ≡ encode_of url_safe_no_pad bytes =
+    decode_of_strict url_safe_no_pad text bytes (refl, refl) fits decoded in
     (found.0, encoded ∙ ap (encode_of url_safe_no_pad) found.1)
 
 -- a text that is read as no handle is the text of no handle

@@ -12,7 +12,8 @@ use Rattle.tk_handle.specs.Dot.{IsDot, dot_cmp, least_dot, greatest_dot}
 
 -- a number that isn't above another is below it or equal
 pub number_le : (a b : ℕ) → a ≤ b → (nat_cmp a b ≡ Less) ⊎ (nat_cmp a b ≡ Equal)
-number_le a b le = by_ranked (a < b) (a ≡ b) (b < a) (nat_cmp a b) (ranked a b (nat_cmp a b) refl) (λ o _. inl o) (λ o _. inr o) (λ _ h. absurd (apart a b le h))
+number_le a b le = by_ranked (a < b) (a ≡ b) (b < a) (nat_cmp a b) (ranked a b (nat_cmp a b) refl)
+    (λ o _. inl o) (λ o _. inr o) (λ _ h. absurd (apart a b le h))
   where
     apart : (a b : ℕ) → a ≤ b → ¬ (b < a)
     apart a b le h = omega arith
@@ -21,10 +22,11 @@ number_le a b le = by_ranked (a < b) (a ≡ b) (b < a) (nat_cmp a b) (ranked a b
 dot_le : (a b : Dot) → a.region ≤ b.region → a.serial ≤ b.serial → is_le (dot_cmp a b) ≡ true
 dot_le a b r s = elim (number_le a.region b.region r) [
   | inl less ↦ ap (λ o. is_le (ordering_then o (nat_cmp a.serial b.serial))) less
-  | inr same ↦ ap (λ o. is_le (ordering_then o (nat_cmp a.serial b.serial))) same ∙ elim (number_le a.serial b.serial s) [
-    | inl less ↦ ap is_le less
-    | inr equal ↦ ap is_le equal
-  ]
+  | inr same ↦ ap (λ o. is_le (ordering_then o (nat_cmp a.serial b.serial))) same
+      ∙ elim (number_le a.serial b.serial s) [
+        | inl less ↦ ap is_le less
+        | inr equal ↦ ap is_le equal
+      ]
 ]
 
 -- what isn't past an end isn't below it the other way round

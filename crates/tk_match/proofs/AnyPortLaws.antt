@@ -20,13 +20,16 @@ use Rattle.tk_match.specs.AnyPort.{DiffersInPort}
 starts : (start text rest : List ℕ) (b : Bool) → bytes_eq (take (length start) text) start ≡ b
     → cond b (Some (drop (length start) text)) None ≡ Some rest → text ≡ start ++ rest
 starts start text rest true is h =
-    let same : take (length start) text ≡ start = (bytes_eq-Decides (take (length start) text) start).0 is in
+    let same : take (length start) text ≡ start =
+    (bytes_eq-Decides (take (length start) text) start).0 is in
     let more : drop (length start) text ≡ rest = cc in
-    sym (take-append-drop (length start) text) ∙ ap (λ x. x ++ drop (length start) text) same ∙ ap (λ x. start ++ x) more
+    sym (take-append-drop (length start) text) ∙ ap (λ x. x ++ drop (length start) text) same
+    ∙ ap (λ x. start ++ x) more
 starts start text rest false is h = cc
 
 behind_is : (start text rest : List ℕ) → behind start text ≡ Some rest → text ≡ start ++ rest
-behind_is start text rest h = starts start text rest (bytes_eq (take (length start) text) start) refl h
+behind_is start text rest h =
+    starts start text rest (bytes_eq (take (length start) text) start) refl h
 
 -- a path is the text that it is found in
 path_is : (text path : List ℕ) → path_in text ≡ Some path → text ≡ path
@@ -47,14 +50,19 @@ any_port_is uri host path h = by_host (behind host uri) refl h
         → (uri ≡ host ++ codes ":*" ++ path) × (path_in path ≡ Some path)
     by_star rest at None is e = cc
     by_star rest at (Some text) is e =
-        let same : text ≡ path = path_is text path e in
-        (at ∙ ap (λ x. host ++ x) (behind_is (codes ":*") rest text is ∙ ap (λ x. codes ":*" ++ x) same) ∙ sym (append_assoc host (codes ":*") path), subst (λ x. path_in x ≡ Some path) same e)
+        let same : text ≡ path = path_is text path e in (
+          at ∙ ap (λ x. host ++ x)
+              (behind_is (codes ":*") rest text is ∙ ap (λ x. codes ":*" ++ x) same)
+              ∙ sym (append_assoc host (codes ":*") path),
+          subst (λ x. path_in x ≡ Some path) same e,
+        )
 
     by_host : (o : Option (List ℕ)) → behind host uri ≡ o
         → option_and_then path_in (option_and_then (behind (codes ":*")) o) ≡ Some path
         → (uri ≡ host ++ codes ":*" ++ path) × (path_in path ≡ Some path)
     by_host None is e = cc
-    by_host (Some rest) is e = by_star rest (behind_is host uri rest is) (behind (codes ":*") rest) refl e
+    by_host (Some rest) is e =
+        by_star rest (behind_is host uri rest is) (behind (codes ":*") rest) refl e
 
 -- a port is the decimal of a number from 1 to the greatest
 port_is : (text : List ℕ) → is_port text ≡ true
@@ -98,22 +106,31 @@ at_host registered sent host on (Some path) (Some text) is rest h =
       is_port = port_part_is (take n text) p.1;
       is_path = r.1;
       registered_is = r.0;
-      sent_is = behind_is host sent text rest ∙ ap (λ x. host ++ x) (sym (take-append-drop n text) ∙ ap (λ x. take n text ++ x) ends) ∙ sym (append_assoc host (take n text) path);
+      sent_is = behind_is host sent text rest
+          ∙ ap (λ x. host ++ x) (sym (take-append-drop n text) ∙ ap (λ x. take n text ++ x) ends)
+          ∙ sym (append_assoc host (take n text) path);
     }
 
 -- a sent URI that matches an any-port URI differs from it in the port alone
 pub differs_in_port : (registered sent : List ℕ) → matches_any_port registered sent ≡ true
     → DiffersInPort registered sent
 differs_in_port registered sent h =
-    elim (or_cases (test (codes "http://127.0.0.1")) (test (codes "http://[::1]") || (test (codes "http://localhost") || false)) h) [
-      | inl e ↦ at_host registered sent (codes "http://127.0.0.1") (0, omega arith, refl) _ _ refl refl e
-      | inr more ↦ elim (or_cases (test (codes "http://[::1]")) (test (codes "http://localhost") || false) more) [
-        | inl e ↦ at_host registered sent (codes "http://[::1]") (1, omega arith, refl) _ _ refl refl e
-        | inr last ↦ elim (or_cases (test (codes "http://localhost")) false last) [
-          | inl e ↦ at_host registered sent (codes "http://localhost") (2, omega arith, refl) _ _ refl refl e
-          | inr none ↦ absurd (false≢true none)
-        ]
-      ]
+    elim (or_cases (test (codes "http://127.0.0.1"))
+    (test (codes "http://[::1]") || (test (codes "http://localhost") || false)) h) [
+      | inl e ↦
+          at_host registered sent (codes "http://127.0.0.1") (0, omega arith, refl) _ _ refl refl e
+      | inr more ↦ elim (or_cases (test (codes "http://[::1]"))
+          (test (codes "http://localhost") || false) more) [
+            | inl e ↦
+                at_host registered sent (codes "http://[::1]") (1, omega arith, refl) _ _ refl refl
+                e
+            | inr last ↦ elim (or_cases (test (codes "http://localhost")) false last) [
+              | inl e ↦
+                  at_host registered sent (codes "http://localhost") (2, omega arith, refl) _ _
+                  refl refl e
+              | inr none ↦ absurd (false≢true none)
+            ]
+          ]
     ]
   where
     test : List ℕ → Bool

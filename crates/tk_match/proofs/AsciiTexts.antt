@@ -27,8 +27,10 @@ unreserved_ascii b h = grind (arith, nat_tests)
 
 -- a redirection URI is UTF-8
 pub uri_utf8 : (text : List ℕ) → is_uri text ≡ true → IsUtf8 text
-uri_utf8 text h = IsUtf8-from_ascii text (IsAscii-list_all is_uri_byte uri_byte_ascii text (both_true _ _ h).1)
+uri_utf8 text h =
+    IsUtf8-from_ascii text (IsAscii-list_all is_uri_byte uri_byte_ascii text (both_true _ _ h).1)
 
 -- a verifier is UTF-8; a challenge has the same grammar
 pub verifier_utf8 : (text : List ℕ) → is_verifier text ≡ true → IsUtf8 text
-verifier_utf8 text h = IsUtf8-from_ascii text (IsAscii-list_all is_unreserved unreserved_ascii text (both_true _ _ h).1)
+verifier_utf8 text h = IsUtf8-from_ascii text
+    (IsAscii-list_all is_unreserved unreserved_ascii text (both_true _ _ h).1)

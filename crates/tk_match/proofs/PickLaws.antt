@@ -34,8 +34,10 @@ sent_matches : (uris : List (List ℕ)) (sent uri : List ℕ) (b : Bool)
     → MatchesSome uris uri
 sent_matches uris sent uri true is h =
     let same : sent ≡ uri = cc in
-    let found = Any-from_list_any (λ x. matches x sent) uris (and_parts (is_uri sent) (list_any (λ x. matches x sent) uris) is).1 in
-    subst (MatchesSome uris) same (found.0, found.1, found.2, found.3, matches_is found.1 sent found.4)
+    let found = Any-from_list_any (λ x. matches x sent) uris
+    (and_parts (is_uri sent) (list_any (λ x. matches x sent) uris) is).1 in
+    subst (MatchesSome uris) same
+    (found.0, found.1, found.2, found.3, matches_is found.1 sent found.4)
 sent_matches uris sent uri false is h = cc
 
 own_matches : (x uri : List ℕ) (b : Bool) → is_any_port x ≡ b → cond b Missing (Uri x) ≡ Uri uri
@@ -53,7 +55,8 @@ only_matches (x ∷ y ∷ uris) uri h = cc
 pub picked_matches : (uris : List (List ℕ)) (sent : Option (List ℕ)) (uri : List ℕ)
     → picked uris sent ≡ Uri uri → MatchesSome uris uri
 picked_matches uris None uri h = only_matches uris uri h
-picked_matches uris (Some sent) uri h = sent_matches uris sent uri (is_uri sent && list_any (λ x. matches x sent) uris) refl h
+picked_matches uris (Some sent) uri h =
+    sent_matches uris sent uri (is_uri sent && list_any (λ x. matches x sent) uris) refl h
 
 sent_meant : (sent uri : List ℕ) (b : Bool) → cond b (Uri sent) Unknown ≡ Uri uri → sent ≡ uri
 sent_meant sent uri true h = cc
@@ -72,7 +75,8 @@ only_meant (x ∷ y ∷ uris) uri h = cc
 pub picked_meant : (uris : List (List ℕ)) (sent : Option (List ℕ)) (uri : List ℕ)
     → picked uris sent ≡ Uri uri → (sent ≡ Some uri) ⊎ ((sent ≡ None) × (uris ≡ uri ∷ []))
 picked_meant uris None uri h = inr (refl, only_meant uris uri h)
-picked_meant uris (Some sent) uri h = inl (ap Some (sent_meant sent uri (is_uri sent && list_any (λ x. matches x sent) uris) h))
+picked_meant uris (Some sent) uri h =
+    inl (ap Some (sent_meant sent uri (is_uri sent && list_any (λ x. matches x sent) uris) h))
 
 -- the URI of a pick matches one of the list
 pub pick_matches : (uris : List (List ℕ)) (sent : Option (List ℕ)) (p : Pick)

@@ -14,7 +14,8 @@ use Rattle.tk_match.specs.Redirects.{is_uri, is_absolute, ReadsAsUrl}
 -- a list with a text that may not be kept does not pass `is_uri` throughout
 pub bad_text : (texts : List (Bor (List ℕ))) (i : ℕ) (d : Bor (List ℕ)) → i < length texts
     → is_uri (get_or texts i d).now ≡ false → list_all is_uri (map (λ x. x.now) texts) ≡ false
-bad_text texts i d lt h = list_all-map is_uri (λ x. x.now) texts ∙ list_all_at (λ x. is_uri x.now) texts i d lt h
+bad_text texts i d lt h =
+    list_all-map is_uri (λ x. x.now) texts ∙ list_all_at (λ x. is_uri x.now) texts i d lt h
 
 -- a text that passes `is_absolute` is read as a URL
 reads : (text : List ℕ) → is_absolute text ≡ true → ReadsAsUrl text

@@ -24,7 +24,8 @@ same_part text more i j low high =
 same_pair : (text more : List ℕ) (p : Place) → IsPlace text p
     → pair_at (text ++ more) p ≡ pair_at text p
 same_pair text more p h =
-    ap₂ (λ (name value : List ℕ). (name, value)) (same_part text more p.start p.middle h.starts (omega (arith, h.parted, h.within)))
+    ap₂ (λ (name value : List ℕ). (name, value))
+    (same_part text more p.start p.middle h.starts (omega (arith, h.parted, h.within)))
     (same_part text more p.middle p.end h.parted h.within)
 
 stays : (text more : List ℕ) (p : Place) → IsPlace text p → IsPlace (text ++ more) p
@@ -60,19 +61,26 @@ new_pair : (text name value : List ℕ) (p : Place) → p.start ≡ length text
 new_pair text name value p e1 e2 e3 =
     let front : length (text ++ name) ≡ p.middle = omega (arith, length-append text name) in
     let behind : drop p.start ((text ++ name) ++ value) ≡ name ++ value =
-    ap (drop p.start) (append_assoc text name value) ∙ ap (λ n. drop n (text ++ (name ++ value))) e1 ∙ drop-append_seam text (name ++ value) in
+    ap (drop p.start) (append_assoc text name value) ∙ ap (λ n. drop n (text ++ (name ++ value))) e1
+    ∙ drop-append_seam text (name ++ value) in
     let first : slice_range ((text ++ name) ++ value) p.start p.middle ≡ name =
-    ap (take (p.middle - p.start)) behind ∙ ap (λ n. take n (name ++ value)) (let n : p.middle - p.start ≡ length name = omega arith in n) ∙ take-append_seam name value in
+    ap (take (p.middle - p.start)) behind
+    ∙ ap (λ n. take n (name ++ value)) (let n : p.middle - p.start ≡ length name = omega arith in n)
+    ∙ take-append_seam name value in
     let rest : drop p.middle ((text ++ name) ++ value) ≡ value =
-    ap (λ n. drop n ((text ++ name) ++ value)) (sym front) ∙ drop-append_seam (text ++ name) value in
+    ap (λ n. drop n ((text ++ name) ++ value)) (sym front)
+    ∙ drop-append_seam (text ++ name) value in
     let second : slice_range ((text ++ name) ++ value) p.middle p.end ≡ value =
-    ap (take (p.end - p.middle)) rest ∙ ap (λ n. take n value) (let n : p.end - p.middle ≡ length value = omega arith in n) ∙ take-length value in
+    ap (take (p.end - p.middle)) rest
+    ∙ ap (λ n. take n value) (let n : p.end - p.middle ≡ length value = omega arith in n)
+    ∙ take-length value in
     ap₂ (λ (x y : List ℕ). (x, y)) first second
 
 -- a pair that is added behind the others is at a place
 pub all_added : (text name value : List ℕ) (places : List Place) (p : Place) → p.start ≡ length text
     → p.middle ≡ length text + length name → p.end ≡ length text + length name + length value
-    → IsUtf8 value → All (IsPlace text) places → All (IsPlace ((text ++ name) ++ value)) (places ++ p ∷ [])
+    → IsUtf8 value → All (IsPlace text) places
+    → All (IsPlace ((text ++ name) ++ value)) (places ++ p ∷ [])
 all_added text name value places p e1 e2 e3 utf8 all =
     let here : IsPlace ((text ++ name) ++ value) p = record {
       starts = omega arith;
@@ -80,14 +88,19 @@ all_added text name value places p e1 e2 e3 utf8 all =
       within = omega (arith, length-append (text ++ name) value, length-append text name);
       utf8 = subst IsUtf8 (sym (ap (λ pair. pair.1) (new_pair text name value p e1 e2 e3))) utf8;
     } in
-    All-append (IsPlace ((text ++ name) ++ value)) places (p ∷ []) (all_stay (text ++ name) value places (all_stay text name places all)) (alone ((text ++ name) ++ value) p here)
+    All-append (IsPlace ((text ++ name) ++ value)) places (p ∷ [])
+    (all_stay (text ++ name) value places (all_stay text name places all))
+    (alone ((text ++ name) ++ value) p here)
 
 -- a pair that is added behind the others is the last
 pub one_more : (text name value : List ℕ) (places : List Place) (p : Place) → p.start ≡ length text
     → p.middle ≡ length text + length name → p.end ≡ length text + length name + length value
-    → All (IsPlace text) places → pairs_at ((text ++ name) ++ value) (places ++ p ∷ []) ≡ pairs_at text places ++ (name, value) ∷ []
+    → All (IsPlace text) places
+    → pairs_at ((text ++ name) ++ value) (places ++ p ∷ [])
+    ≡ pairs_at text places ++ (name, value) ∷ []
 one_more text name value places p e1 e2 e3 all =
     map-append _ places (p ∷ [])
     ∙ ap₂ (λ pairs pair. pairs ++ pair ∷ [])
-    (same_pairs (text ++ name) value places (all_stay text name places all) ∙ same_pairs text name places all)
+    (same_pairs (text ++ name) value places (all_stay text name places all)
+    ∙ same_pairs text name places all)
     (new_pair text name value p e1 e2 e3)

@@ -32,7 +32,7 @@ impl<'a> Model for Credentials<'a> {
 pub enum CredentialsError {
     /// The request uses more than one method (RFC 6749, 2.3): the body has a secret although there
     /// is a header, whatever that header is, or header and body name two clients.
-    Both,
+    Mixed,
     /// The header is not the Basic scheme with a readable id and secret (RFC 7617, 2).
     Basic,
     /// Memory ran out.
@@ -71,7 +71,7 @@ impl<'a> Credentials<'a> {
     ) -> Result<Credentials<'a>, CredentialsError>
         ensures ok { IfOk result
             (λ c. spec.presented_in (option_copied header.entry) params.now ≡ spec.Presents c) }
-        ensures both { IsErrOf result CredentialsError.Both
+        ensures mixed { IsErrOf result CredentialsError.Mixed
             → spec.presented_in (option_copied header.entry) params.now ≡ spec.Mixed }
         ensures basic { IsErrOf result CredentialsError.Basic
             → spec.presented_in (option_copied header.entry) params.now ≡ spec.Unreadable }
@@ -126,13 +126,13 @@ fn of_header<'a>(
 ) -> Result<Credentials<'a>, CredentialsError>
     ensures ok { IfOk result
         (λ c. spec.presented_in (Some header.now) params.now ≡ spec.Presents c) }
-    ensures both { IsErrOf result CredentialsError.Both
+    ensures mixed { IsErrOf result CredentialsError.Mixed
         → spec.presented_in (Some header.now) params.now ≡ spec.Mixed }
     ensures basic { IsErrOf result CredentialsError.Basic
         → spec.presented_in (Some header.now) params.now ≡ spec.Unreadable }
 {
     if params.value("client_secret").is_some() {
-        return Err(CredentialsError::Both);
+        return Err(CredentialsError::Mixed);
     }
     match read_basic(alloc, header)? {
         Some(basic) => beside_body(basic, params.value("client_id")),
@@ -144,13 +144,13 @@ fn of_header<'a>(
 fn beside_body<'a>(basic: Basic, id: Option<&str>) -> Result<Credentials<'a>, CredentialsError>
     ensures ok { IfOk result
         (λ c. spec.beside_body basic (option_copied id.entry) ≡ spec.Presents c) }
-    ensures both { IsErrOf result CredentialsError.Both
+    ensures mixed { IsErrOf result CredentialsError.Mixed
         → spec.beside_body basic (option_copied id.entry) ≡ spec.Mixed }
     ensures basic { IsErrOf result CredentialsError.Basic
         → spec.beside_body basic (option_copied id.entry) ≡ spec.Unreadable }
 {
     match id {
-        Some(id) if basic.id() != id => Err(CredentialsError::Both),
+        Some(id) if basic.id() != id => Err(CredentialsError::Mixed),
         _ => Ok(of_basic(basic)),
     }
 }

@@ -18,7 +18,8 @@ pub front_more : (old mid new : Option (List ℕ)) (before text rest all : List 
 front_more old mid new before text rest all done begun same = record {
   front = before ++ begun.front;
   rest = begun.rest ++ rest;
-  parts = same ∙ ap (λ t. before ++ (t ++ rest)) begun.parts ∙ ap (λ t. before ++ t) (append_assoc begun.front begun.rest rest)
+  parts = same ∙ ap (λ t. before ++ (t ++ rest)) begun.parts
+      ∙ ap (λ t. before ++ t) (append_assoc begun.front begun.rest rest)
       ∙ sym (append_assoc before begun.front (begun.rest ++ rest));
   appended = Appends-trans old mid new before begun.front done begun.appended;
 }
@@ -41,35 +42,51 @@ pub put_step : (old mid new : Option (List ℕ)) (bytes rest : List ℕ) (m n : 
     → Appends old mid (take m bytes) → Appends mid new (take n rest)
     → Appends old new (take (m + n) bytes)
 put_step old mid new bytes rest m n is before here =
-    subst (Appends old new) (ap (λ (t : List ℕ). take m bytes ++ take n t) is ∙ take_further bytes m n) (Appends-trans old mid new (take m bytes) (take n rest) before here)
+    subst (Appends old new)
+    (ap (λ (t : List ℕ). take m bytes ++ take n t) is ∙ take_further bytes m n)
+    (Appends-trans old mid new (take m bytes) (take n rest) before here)
 
 -- the first bytes were written
 pub front_taken : (old new : Option (List ℕ)) (bytes : List ℕ) (m : ℕ)
     → Appends old new (take m bytes) → AppendsFront old new bytes
-front_taken old new bytes m done = record { front = take m bytes; rest = drop m bytes; parts = sym (take-append-drop m bytes); appended = done }
+front_taken old new bytes m done = record {
+  front = take m bytes;
+  rest = drop m bytes;
+  parts = sym (take-append-drop m bytes);
+  appended = done;
+}
 
 -- ---- pieces
 
 pieces_at : (ps : List (Bor (List ℕ))) (i : ℕ) (d : Bor (List ℕ)) → i < length ps
-    → joined_text ps ≡ joined_text (take i ps) ++ ((get_or ps i d).now ++ joined_text (drop (suc i) ps))
+    → joined_text ps
+    ≡ joined_text (take i ps) ++ ((get_or ps i d).now ++ joined_text (drop (suc i) ps))
 pieces_at [] i d lt = absurd (omega arith)
 pieces_at (q ∷ ps) zero d lt = refl
 pieces_at (q ∷ ps) (suc i) d lt =
     ap (λ (t : List ℕ). q.now ++ t) (pieces_at ps i d (omega arith))
-    ∙ sym (append_assoc q.now (joined_text (take i ps)) ((get_or ps i d).now ++ joined_text (drop (suc i) ps)))
+    ∙ sym (append_assoc q.now (joined_text (take i ps))
+    ((get_or ps i d).now ++ joined_text (drop (suc i) ps)))
 
 pub pieces_to : (ps : List (Bor (List ℕ))) (i : ℕ) (d : Bor (List ℕ)) → i < length ps
     → joined_text (take i ps) ++ (get_or ps i d).now ≡ joined_text (take (suc i) ps)
 pieces_to [] i d lt = absurd (omega arith)
 pieces_to (q ∷ ps) zero d lt = sym (append-nil q.now)
-pieces_to (q ∷ ps) (suc i) d lt = append_assoc q.now (joined_text (take i ps)) (get_or ps i d).now ∙ ap (λ (t : List ℕ). q.now ++ t) (pieces_to ps i d (omega arith))
+pieces_to (q ∷ ps) (suc i) d lt = append_assoc q.now (joined_text (take i ps)) (get_or ps i d).now
+    ∙ ap (λ (t : List ℕ). q.now ++ t) (pieces_to ps i d (omega arith))
 
 pub put_more : (old mid new : Option (List ℕ)) (ps : List (Bor (List ℕ))) (i : ℕ) (d : Bor (List ℕ))
     → i < length ps
-    → Appends old mid (joined_text (take i ps)) → Appends mid new (get_or ps i d).now → Appends old new (joined_text (take (i + 1) ps))
-put_more old mid new ps i d lt before here = rw add-one (subst (Appends old new) (pieces_to ps i d lt) (Appends-trans old mid new _ _ before here))
+    → Appends old mid (joined_text (take i ps)) → Appends mid new (get_or ps i d).now
+    → Appends old new (joined_text (take (i + 1) ps))
+put_more old mid new ps i d lt before here =
+    rw add-one
+    (subst (Appends old new) (pieces_to ps i d lt) (Appends-trans old mid new _ _ before here))
 
-pub put_failed : (old mid new : Option (List ℕ)) (ps : List (Bor (List ℕ))) (i : ℕ) (d : Bor (List ℕ))
+pub put_failed : (old mid new : Option (List ℕ)) (ps : List (Bor (List ℕ))) (i : ℕ)
+    (d : Bor (List ℕ))
     → i < length ps
-    → Appends old mid (joined_text (take i ps)) → AppendsFront mid new (get_or ps i d).now → AppendsFront old new (joined_text ps)
-put_failed old mid new ps i d lt before here = front_more old mid new _ (get_or ps i d).now _ _ before here (pieces_at ps i d lt)
+    → Appends old mid (joined_text (take i ps)) → AppendsFront mid new (get_or ps i d).now
+    → AppendsFront old new (joined_text ps)
+put_failed old mid new ps i d lt before here =
+    front_more old mid new _ (get_or ps i d).now _ _ before here (pieces_at ps i d lt)

@@ -52,7 +52,8 @@ second_fails true c x y h = ap (λ t. cond (not t) x y) h
 second_fails false c x y h = refl
 
 -- the outcome for a token that is not active
-quiet : (P : StoreFields) (seen : RefreshSeen) (now : ℕ) (client_kind : ClientKind) (asker : Dot) (h : Handle) (k : Kind) (x : Status)
+quiet : (P : StoreFields) (seen : RefreshSeen) (now : ℕ) (client_kind : ClientKind) (asker : Dot)
+    (h : Handle) (k : Kind) (x : Status)
     → status_here P now h ≡ x → h.id.kind ≢ kind.Code → ¬ IsActive (map.get (held_facts P)) now h
     → introspected_by_status seen client_kind asker k x ≡ Inactive
 quiet P seen now client_kind asker h k Unseen e nc n = refl
@@ -60,7 +61,9 @@ quiet P seen now client_kind asker h k Wrong e nc n = refl
 quiet P seen now client_kind asker h k (Broken t) e nc n = refl
 quiet P seen now client_kind asker h k (Known s) e nc n =
     second_fails (sees seen client_kind k asker s.client) (is_live s.state) Inactive (active k s)
-    (false_from_ne_true (is_live s.state) (λ l. n (live_is_active (held_facts P) now h s nc (here_known P now h s e) (live_state s.state l))))
+    (false_from_ne_true (is_live s.state)
+    (λ l. n (live_is_active (held_facts P) now h s nc (here_known P now h s e)
+    (live_state s.state l))))
 
 no_code : (k : Kind) → k ≡ kind.Access → k ≢ kind.Code
 no_code k a c = let e : kind.Access ≡ kind.Code = sym a ∙ c in cc
@@ -68,17 +71,24 @@ no_code k a c = let e : kind.Access ≡ kind.Code = sym a ∙ c in cc
 no_code_either : (k : Kind) → k ≡ kind.Refresh → k ≢ kind.Code
 no_code_either k a c = let e : kind.Refresh ≡ kind.Code = sym a ∙ c in cc
 
-quiet_by_kind : (P : StoreFields) (seen : RefreshSeen) (now : ℕ) (client_kind : ClientKind) (asker : Dot) (h : Handle) (k : Kind)
+quiet_by_kind : (P : StoreFields) (seen : RefreshSeen) (now : ℕ) (client_kind : ClientKind)
+    (asker : Dot) (h : Handle) (k : Kind)
     → h.id.kind ≡ k → ¬ IsActive (map.get (held_facts P)) now h
     → introspected_by_kind P seen now client_kind asker h k ≡ Inactive
 quiet_by_kind P seen now client_kind asker h kind.Code e n = refl
-quiet_by_kind P seen now client_kind asker h kind.Access e n = quiet P seen now client_kind asker h kind.Access (status_here P now h) refl (no_code h.id.kind e) n
-quiet_by_kind P seen now client_kind asker h kind.Refresh e n = quiet P seen now client_kind asker h kind.Refresh (status_here P now h) refl (no_code_either h.id.kind e) n
+quiet_by_kind P seen now client_kind asker h kind.Access e n =
+    quiet P seen now client_kind asker h kind.Access (status_here P now h) refl
+    (no_code h.id.kind e) n
+quiet_by_kind P seen now client_kind asker h kind.Refresh e n =
+    quiet P seen now client_kind asker h kind.Refresh (status_here P now h) refl
+    (no_code_either h.id.kind e) n
 
-pub says_nothing : (P : StoreFields) (seen : RefreshSeen) (now : ℕ) (client_kind : ClientKind) (asker : Dot) (h : Handle)
+pub says_nothing : (P : StoreFields) (seen : RefreshSeen) (now : ℕ) (client_kind : ClientKind)
+    (asker : Dot) (h : Handle)
     → ¬ IsActive (map.get (held_facts P)) now h
     → told_to P seen now client_kind asker h ≡ inactive_reply
-says_nothing P seen now client_kind asker h n = ap told (quiet_by_kind P seen now client_kind asker h h.id.kind refl n)
+says_nothing P seen now client_kind asker h n =
+    ap told (quiet_by_kind P seen now client_kind asker h h.id.kind refl n)
 
 -- ---- the reply for a refresh token that resource servers don't see
 
@@ -98,7 +108,8 @@ hides_refresh P now digest asker h is =
 -- ---- the reply for an active token
 
 -- the fields of a standing that the reply for an active token has
-pub record Tells (P : StoreFields) (now : ℕ) (h : Handle) (a : IsActive (map.get (held_facts P)) now h) (s : StandingFields) : Type 0 where
+pub record Tells (P : StoreFields) (now : ℕ) (h : Handle)
+    (a : IsActive (map.get (held_facts P)) now h) (s : StandingFields) : Type 0 where
   pub is : status_here P now h ≡ Known s
   pub live : s.state ≡ state.Live
   pub client : s.client ≡ a.issued.client
@@ -111,20 +122,28 @@ pub record Tells (P : StoreFields) (now : ℕ) (h : Handle) (a : IsActive (map.g
 tells : (P : StoreFields) (now : ℕ) (h : Handle) (a : IsActive (map.get (held_facts P)) now h)
     → (s : StandingFields) × Tells P now h a s
 tells P now h a =
-    let y : (s : StandingFields) × (status_in (held_facts P) now h ≡ Known s) × (s.state ≡ state.Live) = active_is_live (held_facts P) now h a in
+    let y : (s : StandingFields) × (status_in (held_facts P) now h ≡ Known s)
+    × (s.state ≡ state.Live) = active_is_live (held_facts P) now h a in
     let x : Knows (held_facts P) now h y.0 = known_parts (held_facts P) now h y.0 y.1 in
     let m : x.minted ≡ a.minted = some_injective x.minted a.minted (sym x.mints ∙ a.mints) in
-    let c : x.root.code ≡ a.code = IsUnder-one (links_in (map.get (held_facts P))) (anchor_in (map.get (held_facts P)) h.id.dot) x.root.code a.code x.under a.under in
-    let i : x.root.issued ≡ a.issued = some_injective x.root.issued a.issued (sym x.issues ∙ ap (issued_at (map.get (held_facts P))) c ∙ a.issues) in (
+    let c : x.root.code ≡ a.code = IsUnder-one (links_in (map.get (held_facts P)))
+    (anchor_in (map.get (held_facts P)) h.id.dot) x.root.code a.code x.under a.under in
+    let i : x.root.issued ≡ a.issued = some_injective x.root.issued a.issued
+    (sym x.issues ∙ ap (issued_at (map.get (held_facts P))) c ∙ a.issues) in (
       y.0,
       record {
         is = active_here P now h a ∙ y.1;
         live = y.2;
-        client = sym (ap (λ (z : StandingFields). z.client) x.standing) ∙ ap (λ (z : issued.CodeIssued). z.client) i;
-        expiry = sym (ap (λ (z : StandingFields). z.expiry) x.standing) ∙ ap (λ (z : MintedFields). z.expiry) m;
-        start = sym (ap (λ (z : StandingFields). z.start) x.standing) ∙ ap (λ (z : MintedFields). z.start) m;
-        scope = sym (ap (λ (z : StandingFields). z.scope) x.standing) ∙ ap (λ (z : MintedFields). z.scope) m;
-        subject = sym (ap (λ (z : StandingFields). z.subject) x.standing) ∙ ap (λ (z : issued.CodeIssued). z.subject) i;
+        client = sym (ap (λ (z : StandingFields). z.client) x.standing)
+            ∙ ap (λ (z : issued.CodeIssued). z.client) i;
+        expiry = sym (ap (λ (z : StandingFields). z.expiry) x.standing)
+            ∙ ap (λ (z : MintedFields). z.expiry) m;
+        start = sym (ap (λ (z : StandingFields). z.start) x.standing)
+            ∙ ap (λ (z : MintedFields). z.start) m;
+        scope = sym (ap (λ (z : StandingFields). z.scope) x.standing)
+            ∙ ap (λ (z : MintedFields). z.scope) m;
+        subject = sym (ap (λ (z : StandingFields). z.subject) x.standing)
+            ∙ ap (λ (z : issued.CodeIssued). z.subject) i;
       },
     )
 
@@ -132,12 +151,14 @@ both_hold : (a b : Bool) (x y : Introspected) → a ≡ true → b ≡ true → 
 both_hold a b x y h i = rw (h, i) refl
 
 -- the outcome for an active token by its standing
-loud_as : (P : StoreFields) (seen : RefreshSeen) (now : ℕ) (client_kind : ClientKind) (asker : Dot) (h : Handle) (a : IsActive (map.get (held_facts P)) now h) (s : StandingFields)
+loud_as : (P : StoreFields) (seen : RefreshSeen) (now : ℕ) (client_kind : ClientKind) (asker : Dot)
+    (h : Handle) (a : IsActive (map.get (held_facts P)) now h) (s : StandingFields)
     → Tells P now h a s → (k : Kind) → sees seen client_kind k asker a.issued.client ≡ true
     → introspected_by_status seen client_kind asker k (status_here P now h) ≡ active k s
 loud_as P seen now client_kind asker h a s t k may =
     ap (introspected_by_status seen client_kind asker k) t.is
-    ∙ both_hold (sees seen client_kind k asker s.client) (is_live s.state) Inactive (active k s) (ap (sees seen client_kind k asker) t.client ∙ may) (ap is_live t.live)
+    ∙ both_hold (sees seen client_kind k asker s.client) (is_live s.state) Inactive (active k s)
+    (ap (sees seen client_kind k asker) t.client ∙ may) (ap is_live t.live)
 
 -- the reply for an active token by the fields of its standing
 told_fields : (k : Kind) (s : StandingFields)
@@ -146,22 +167,30 @@ told_fields kind.Code s = refl
 told_fields kind.Access s = refl
 told_fields kind.Refresh s = refl
 
-same_fields : (P : StoreFields) (now : ℕ) (h : Handle) (a : IsActive (map.get (held_facts P)) now h) (s : StandingFields)
+same_fields : (P : StoreFields) (now : ℕ) (h : Handle) (a : IsActive (map.get (held_facts P)) now h)
+    (s : StandingFields)
     → Tells P now h a s → (k : Kind)
-    → told_by_kind k s.client s.expiry s.start s.scope s.subject ≡ told_by_kind k a.issued.client a.minted.expiry a.minted.start a.minted.scope a.issued.subject
+    → told_by_kind k s.client s.expiry s.start s.scope s.subject
+    ≡ told_by_kind k a.issued.client a.minted.expiry a.minted.start a.minted.scope a.issued.subject
 same_fields P now h a s t k = rw (t.client, t.expiry, t.start, t.scope, t.subject) refl
 
 -- the outcome for an active token by its kind
-loud_by_kind : (P : StoreFields) (seen : RefreshSeen) (now : ℕ) (client_kind : ClientKind) (asker : Dot) (h : Handle) (a : IsActive (map.get (held_facts P)) now h) (s : StandingFields)
+loud_by_kind : (P : StoreFields) (seen : RefreshSeen) (now : ℕ) (client_kind : ClientKind)
+    (asker : Dot) (h : Handle) (a : IsActive (map.get (held_facts P)) now h) (s : StandingFields)
     → Tells P now h a s → (k : Kind) → sees seen client_kind k asker a.issued.client ≡ true
     → h.id.kind ≡ k → introspected_by_kind P seen now client_kind asker h k ≡ active k s
 loud_by_kind P seen now client_kind asker h a s t kind.Code may e = absurd (a.no_code e)
-loud_by_kind P seen now client_kind asker h a s t kind.Access may e = loud_as P seen now client_kind asker h a s t kind.Access may
-loud_by_kind P seen now client_kind asker h a s t kind.Refresh may e = loud_as P seen now client_kind asker h a s t kind.Refresh may
+loud_by_kind P seen now client_kind asker h a s t kind.Access may e =
+    loud_as P seen now client_kind asker h a s t kind.Access may
+loud_by_kind P seen now client_kind asker h a s t kind.Refresh may e =
+    loud_as P seen now client_kind asker h a s t kind.Refresh may
 
-pub says_active : (P : StoreFields) (seen : RefreshSeen) (now : ℕ) (client_kind : ClientKind) (asker : Dot) (h : Handle) (a : IsActive (map.get (held_facts P)) now h)
+pub says_active : (P : StoreFields) (seen : RefreshSeen) (now : ℕ) (client_kind : ClientKind)
+    (asker : Dot) (h : Handle) (a : IsActive (map.get (held_facts P)) now h)
     → sees seen client_kind h.id.kind asker a.issued.client ≡ true
-    → told_to P seen now client_kind asker h ≡ told_by_kind h.id.kind a.issued.client a.minted.expiry a.minted.start a.minted.scope a.issued.subject
+    → told_to P seen now client_kind asker h
+    ≡ told_by_kind h.id.kind a.issued.client a.minted.expiry a.minted.start a.minted.scope
+    a.issued.subject
 says_active P seen now client_kind asker h a may =
     let x : (s : StandingFields) × Tells P now h a s = tells P now h a in
     ap told (loud_by_kind P seen now client_kind asker h a x.0 x.1 h.id.kind may refl)

@@ -72,45 +72,66 @@ second_fails true c x y h = ap (λ t. cond (not t) x y) h
 second_fails false c x y h = refl
 
 -- a lost token is inactive
-lost_inactive : (seen : RefreshSeen) (client_kind : ClientKind) (asker : Dot) (k : Kind) (now : ℕ) (h : Handle) (s : Status)
+lost_inactive : (seen : RefreshSeen) (client_kind : ClientKind) (asker : Dot) (k : Kind) (now : ℕ)
+    (h : Handle) (s : Status)
     → IsLost now h s → introspected_by_status seen client_kind asker k s ≡ Inactive
 lost_inactive seen client_kind asker k now h Unseen lost = absurd lost
 lost_inactive seen client_kind asker k now h Wrong lost = refl
 lost_inactive seen client_kind asker k now h (Broken expiry) lost = refl
-lost_inactive seen client_kind asker k now h (Known s) lost = second_fails (sees seen client_kind k asker s.client) (is_live s.state) Inactive (active k s) (closed_asleep s.state lost.0)
+lost_inactive seen client_kind asker k now h (Known s) lost =
+    second_fails (sees seen client_kind k asker s.client) (is_live s.state) Inactive (active k s)
+    (closed_asleep s.state lost.0)
 
-alike_told : (seen : RefreshSeen) (client_kind : ClientKind) (asker : Dot) (k : Kind) (now : ℕ) (h : Handle) (s r : Status)
+alike_told : (seen : RefreshSeen) (client_kind : ClientKind) (asker : Dot) (k : Kind) (now : ℕ)
+    (h : Handle) (s r : Status)
     → AnsweredAlike now h s r
-    → introspected_by_status seen client_kind asker k s ≡ introspected_by_status seen client_kind asker k r
-alike_told seen client_kind asker k now h s r (inl same) = ap (introspected_by_status seen client_kind asker k) same
-alike_told seen client_kind asker k now h s r (inr lost) = lost_inactive seen client_kind asker k now h s lost.0 ∙ sym (lost_inactive seen client_kind asker k now h r lost.1)
+    → introspected_by_status seen client_kind asker k s
+    ≡ introspected_by_status seen client_kind asker k r
+alike_told seen client_kind asker k now h s r (inl same) =
+    ap (introspected_by_status seen client_kind asker k) same
+alike_told seen client_kind asker k now h s r (inr lost) =
+    lost_inactive seen client_kind asker k now h s lost.0
+    ∙ sym (lost_inactive seen client_kind asker k now h r lost.1)
 
-module _ (P Q : StoreFields) (seen : RefreshSeen) (now : ℕ) (alike : (h : Handle) → AnsweredAlike now h (status_here P now h) (status_here Q now h)) where
+module _ (P Q : StoreFields) (seen : RefreshSeen) (now : ℕ)
+    (alike : (h : Handle) → AnsweredAlike now h (status_here P now h) (status_here Q now h)) where
   told_by_kind : (client_kind : ClientKind) (asker : Dot) (h : Handle) (k : Kind)
-      → introspected_by_kind P seen now client_kind asker h k ≡ introspected_by_kind Q seen now client_kind asker h k
+      → introspected_by_kind P seen now client_kind asker h k
+      ≡ introspected_by_kind Q seen now client_kind asker h k
   told_by_kind client_kind asker h kind.Code = refl
-  told_by_kind client_kind asker h kind.Access = alike_told seen client_kind asker kind.Access now h (status_here P now h) (status_here Q now h) (alike h)
-  told_by_kind client_kind asker h kind.Refresh = alike_told seen client_kind asker kind.Refresh now h (status_here P now h) (status_here Q now h) (alike h)
+  told_by_kind client_kind asker h kind.Access =
+      alike_told seen client_kind asker kind.Access now h (status_here P now h)
+      (status_here Q now h) (alike h)
+  told_by_kind client_kind asker h kind.Refresh =
+      alike_told seen client_kind asker kind.Refresh now h (status_here P now h)
+      (status_here Q now h) (alike h)
 
   told_by_handle : (client_kind : ClientKind) (asker : Dot) (o : Option Handle)
-      → introspected_by_handle P seen now client_kind asker o ≡ introspected_by_handle Q seen now client_kind asker o
+      → introspected_by_handle P seen now client_kind asker o
+      ≡ introspected_by_handle Q seen now client_kind asker o
   told_by_handle client_kind asker None = refl
   told_by_handle client_kind asker (Some h) = told_by_kind client_kind asker h h.id.kind
 
   told_by_text : (client_kind : ClientKind) (asker : Dot) (o : Option (List ℕ))
-      → introspected_by_text P seen now client_kind asker o ≡ introspected_by_text Q seen now client_kind asker o
+      → introspected_by_text P seen now client_kind asker o
+      ≡ introspected_by_text Q seen now client_kind asker o
   told_by_text client_kind asker None = refl
   told_by_text client_kind asker (Some text) = told_by_handle client_kind asker (handle_in text)
 
   told_as : (params : Pairs) (asker : Dot) (client_kind : ClientKind)
-      → introspected_as P seen now params asker client_kind ≡ introspected_as Q seen now params asker client_kind
+      → introspected_as P seen now params asker client_kind
+      ≡ introspected_as Q seen now params asker client_kind
   told_as params asker Public = refl
-  told_as params asker (Confidential digest) = told_by_text (Confidential digest) asker (value_of (codes "token") params)
-  told_as params asker (Resource digest) = told_by_text (Resource digest) asker (value_of (codes "token") params)
-  told_as params asker (Keeping digest) = told_by_text (Keeping digest) asker (value_of (codes "token") params)
+  told_as params asker (Confidential digest) =
+      told_by_text (Confidential digest) asker (value_of (codes "token") params)
+  told_as params asker (Resource digest) =
+      told_by_text (Resource digest) asker (value_of (codes "token") params)
+  told_as params asker (Keeping digest) =
+      told_by_text (Keeping digest) asker (value_of (codes "token") params)
 
   told_by_client : (params : Pairs) (asker : Dot) (o : Option ClientFields)
-      → introspected_by_client P seen now params asker o ≡ introspected_by_client Q seen now params asker o
+      → introspected_by_client P seen now params asker o
+      ≡ introspected_by_client Q seen now params asker o
   told_by_client params asker None = refl
   told_by_client params asker (Some client) = told_as params asker client.client_kind
 
@@ -120,16 +141,21 @@ module _ (P Q : StoreFields) (seen : RefreshSeen) (now : ℕ) (alike : (h : Hand
   told_by_caller views params caller.DuplicateParameter = refl
   told_by_caller views params caller.MixedCredentials = refl
   told_by_caller views params caller.InvalidClient = refl
-  told_by_caller views params (caller.Client asker) = told_by_client params asker (client_view (held_facts P) asker) ∙ ap (introspected_by_client Q seen now params asker) (views asker)
+  told_by_caller views params (caller.Client asker) =
+      told_by_client params asker (client_view (held_facts P) asker)
+      ∙ ap (introspected_by_client Q seen now params asker) (views asker)
 
-pub introspections_alike : (P Q : StoreFields) (seen : RefreshSeen) (now : ℕ) (request : RequestFields)
+pub introspections_alike : (P Q : StoreFields) (seen : RefreshSeen) (now : ℕ)
+    (request : RequestFields)
     → ((h : Handle) → AnsweredAlike now h (status_here P now h) (status_here Q now h))
     → ((d : Dot) → client_view (held_facts P) d ≡ client_view (held_facts Q) d)
     → caller_of (held_facts P) known_names request ≡ caller_of (held_facts Q) known_names request
     → introspection_of P seen now request ≡ introspection_of Q seen now request
 introspections_alike P Q seen now request alike views same =
     ap (λ (c : Caller). told (introspected_by_caller P seen now request.params c)) same
-    ∙ ap told (told_by_caller P Q seen now alike views request.params (caller_of (held_facts Q) known_names request))
+    ∙ ap told
+    (told_by_caller P Q seen now alike views request.params
+    (caller_of (held_facts Q) known_names request))
 
 -- ---- revocation
 
@@ -137,21 +163,29 @@ introspections_alike P Q seen now request alike views same =
 abbrev decides : Revocation → Decision
 decides = whole.revoked_by
 
-past_done : (F : FactSet) (choice : UnseenRevocation) (own : Bool) (now : ℕ) (fact : TokenRevoked) (h : Handle) (s : Status)
+past_done : (F : FactSet) (choice : UnseenRevocation) (own : Bool) (now : ℕ) (fact : TokenRevoked)
+    (h : Handle) (s : Status)
     → h.id.kind ≢ kind.Code → IsLost now h s
     → decides (revoked_by_status F choice own now fact s) ≡ answered (empty_reply Ok)
 past_done F choice own now fact h Unseen other lost = absurd lost
 past_done F choice own now fact h Wrong other lost = refl
-past_done F choice own now fact h (Broken expiry) other lost = ap (λ t. decides (cond t (Done idle.Past) (revoked_unless_held F fact))) (le-leb expiry now lost.1)
-past_done F choice own now fact h (Known s) other lost = ap (λ t. decides (cond t (Done idle.Past) (revoked_by_state F fact s.client s.state))) (le-leb s.expiry now (lost.1 other))
+past_done F choice own now fact h (Broken expiry) other lost =
+    ap (λ t. decides (cond t (Done idle.Past) (revoked_unless_held F fact)))
+    (le-leb expiry now lost.1)
+past_done F choice own now fact h (Known s) other lost =
+    ap (λ t. decides (cond t (Done idle.Past) (revoked_by_state F fact s.client s.state)))
+    (le-leb s.expiry now (lost.1 other))
 
-module _ (F G : FactSet) (fact : TokenRevoked) (held : is_revoked F fact.token fact.digest fact.client ≡ is_revoked G fact.token fact.digest fact.client) where
+module _ (F G : FactSet) (fact : TokenRevoked)
+    (held : is_revoked F fact.token fact.digest fact.client
+    ≡ is_revoked G fact.token fact.digest fact.client) where
   unless_same : revoked_unless_held F fact ≡ revoked_unless_held G fact
   unless_same = ap (λ t. cond t (Done idle.Revoked) (Revokes fact)) held
 
   of_client_same : (client : Dot)
       → revoked_of_client F fact client ≡ revoked_of_client G fact client
-  of_client_same client = ap (λ (x : Revocation). cond (is_same_dot client fact.client) x (Refused refusal.ForeignToken)) unless_same
+  of_client_same client = ap (λ (x : Revocation).
+      cond (is_same_dot client fact.client) x (Refused refusal.ForeignToken)) unless_same
 
   by_state_same : (client : Dot) (x : State)
       → revoked_by_state F fact client x ≡ revoked_by_state G fact client x
@@ -166,8 +200,11 @@ module _ (F G : FactSet) (fact : TokenRevoked) (held : is_revoked F fact.token f
   unseen_same : client_view F fact.client ≡ client_view G fact.client → (choice : UnseenRevocation)
       → revoked_unseen F choice fact ≡ revoked_unseen G choice fact
   unseen_same viewed choice =
-      ap (λ (o : Option ClientFields). cond (may_revoke_unseen choice o) (revoked_unless_held F fact) (cond (is_revoked F fact.token fact.digest fact.client) (Done idle.Revoked) Later)) viewed
-      ∙ ap (λ t. cond (may_revoke_unseen choice (client_view G fact.client)) (cond t (Done idle.Revoked) (Revokes fact)) (cond t (Done idle.Revoked) Later)) held
+      ap (λ (o : Option ClientFields).
+      cond (may_revoke_unseen choice o) (revoked_unless_held F fact)
+      (cond (is_revoked F fact.token fact.digest fact.client) (Done idle.Revoked) Later)) viewed
+      ∙ ap (λ t. cond (may_revoke_unseen choice (client_view G fact.client))
+      (cond t (Done idle.Revoked) (Revokes fact)) (cond t (Done idle.Revoked) Later)) held
 
 -- the outcome by facts that have no revocation of the token
 unseen_first : (F G : FactSet) (fact : TokenRevoked)
@@ -175,21 +212,30 @@ unseen_first : (F G : FactSet) (fact : TokenRevoked)
     → client_view F fact.client ≡ client_view G fact.client → (choice : UnseenRevocation)
     → revoked_unseen F choice fact ≡ revoked_first choice (client_view G fact.client) fact
 unseen_first F G fact none viewed choice =
-    ap (λ t. cond (may_revoke_unseen choice (client_view F fact.client)) (cond t (Done idle.Revoked) (Revokes fact)) (cond t (Done idle.Revoked) Later)) none
-    ∙ ap (λ (o : Option ClientFields). cond (may_revoke_unseen choice o) (Revokes fact) Later) viewed
+    ap (λ t. cond (may_revoke_unseen choice (client_view F fact.client))
+    (cond t (Done idle.Revoked) (Revokes fact)) (cond t (Done idle.Revoked) Later)) none
+    ∙ ap (λ (o : Option ClientFields). cond (may_revoke_unseen choice o) (Revokes fact) Later)
+    viewed
 
 not_past : (now expiry : ℕ) → nat_le expiry now ≡ false → now < expiry
 not_past now expiry h = leb-false expiry now h
 
-module _ (P Q : StoreFields) (place : Place) (now : ℕ) (alike : (h : Handle) → AnsweredAlike now h (status_here P now h) (status_here Q now h))
-    (within : (k : TokenId) (digest : List ℕ) (client : Dot) → is_revoked (held_facts P) k digest client ≡ true → is_revoked (held_facts Q) k digest client ≡ true)
-    (held : (h : Handle) (digest : List ℕ) (client : Dot) → h.id.kind ≢ kind.Code → IsEarly now (status_here P now h) → is_revoked (held_facts P) h.id digest client ≡ is_revoked (held_facts Q) h.id digest client)
-    (views : (d : Dot) → client_view (held_facts P) d ≡ client_view (held_facts Q) d) (request : RequestFields) where
+module _ (P Q : StoreFields) (place : Place) (now : ℕ)
+    (alike : (h : Handle) → AnsweredAlike now h (status_here P now h) (status_here Q now h))
+    (within : (k : TokenId) (digest : List ℕ) (client : Dot)
+    → is_revoked (held_facts P) k digest client ≡ true
+    → is_revoked (held_facts Q) k digest client ≡ true)
+    (held : (h : Handle) (digest : List ℕ) (client : Dot) → h.id.kind ≢ kind.Code
+    → IsEarly now (status_here P now h)
+    → is_revoked (held_facts P) h.id digest client ≡ is_revoked (held_facts Q) h.id digest client)
+    (views : (d : Dot) → client_view (held_facts P) d ≡ client_view (held_facts Q) d)
+    (request : RequestFields) where
   -- the decisions are equal, or the one by P is that of a first revocation
   abbrev Alike : Decision → Decision → Type 0
   Alike d e = (d ≡ e) ⊎ IsAnew Q place now request d
 
-  module _ (client : Dot) (h : Handle) (asks : AsksToRevoke Q request client h) (other : h.id.kind ≢ kind.Code) where
+  module _ (client : Dot) (h : Handle) (asks : AsksToRevoke Q request client h)
+      (other : h.id.kind ≢ kind.Code) where
     abbrev fact : TokenRevoked
     fact = revocation_of h h.id.kind client
 
@@ -197,7 +243,8 @@ module _ (P Q : StoreFields) (place : Place) (now : ℕ) (alike : (h : Handle) �
     held_by R = is_revoked (held_facts R) h.id (digest_of h) client
 
     abbrev outcome : StoreFields → Status → Decision
-    outcome R s = decides (revoked_by_status (held_facts R) place.choices.unseen (is_own place.number h) now fact s)
+    outcome R s = decides
+        (revoked_by_status (held_facts R) place.choices.unseen (is_own place.number h) now fact s)
 
     same_held : (b : Bool) → held_by P ≡ b
         → held_by P ≡ held_by Q ⊎ ((held_by P ≡ false) × (held_by Q ≡ true))
@@ -208,10 +255,17 @@ module _ (P Q : StoreFields) (place : Place) (now : ℕ) (alike : (h : Handle) �
     ]
 
     unseen_alike : (own : Bool) → is_own place.number h ≡ own → status_here Q now h ≡ Unseen
-        → Alike (decides (cond own (Done idle.NeverMinted) (revoked_unseen (held_facts P) place.choices.unseen fact))) (decides (cond own (Done idle.NeverMinted) (revoked_unseen (held_facts Q) place.choices.unseen fact)))
+        → Alike (decides
+        (cond own (Done idle.NeverMinted)
+        (revoked_unseen (held_facts P) place.choices.unseen fact)))
+        (decides
+        (cond own (Done idle.NeverMinted)
+        (revoked_unseen (held_facts Q) place.choices.unseen fact)))
     unseen_alike true own unseen = inl refl
     unseen_alike false own unseen = elim (same_held (held_by P) refl) [
-      | inl same ↦ inl (ap decides (unseen_same (held_facts P) (held_facts Q) fact same (views client) place.choices.unseen))
+      | inl same ↦ inl
+          (ap decides
+          (unseen_same (held_facts P) (held_facts Q) fact same (views client) place.choices.unseen))
       | inr differ ↦ inr (record {
         client = client;
         handle = h;
@@ -220,7 +274,9 @@ module _ (P Q : StoreFields) (place : Place) (now : ℕ) (alike : (h : Handle) �
         foreign = own;
         unseen = unseen;
         before = differ.1;
-        decided = ap decides (unseen_first (held_facts P) (held_facts Q) fact differ.0 (views client) place.choices.unseen);
+        decided = ap decides
+            (unseen_first (held_facts P) (held_facts Q) fact differ.0
+            (views client) place.choices.unseen);
       })
     ]
 
@@ -231,22 +287,38 @@ module _ (P Q : StoreFields) (place : Place) (now : ℕ) (alike : (h : Handle) �
     by_same (Broken expiry) p q = by (nat_le expiry now) refl
       where
         by : (t : Bool) → nat_le expiry now ≡ t
-            → Alike (decides (cond t (Done idle.Past) (revoked_unless_held (held_facts P) fact))) (decides (cond t (Done idle.Past) (revoked_unless_held (held_facts Q) fact)))
+            → Alike (decides (cond t (Done idle.Past) (revoked_unless_held (held_facts P) fact)))
+            (decides (cond t (Done idle.Past) (revoked_unless_held (held_facts Q) fact)))
         by true past = inl refl
-        by false past = inl (ap decides (unless_same (held_facts P) (held_facts Q) fact (held h (digest_of h) client other (subst (IsEarly now) (sym p) (not_past now expiry past)))))
+        by false past = inl
+            (ap decides
+            (unless_same (held_facts P) (held_facts Q) fact
+            (held h (digest_of h) client other
+            (subst (IsEarly now) (sym p) (not_past now expiry past)))))
     by_same (Known s) p q = by (nat_le s.expiry now) refl
       where
         by : (t : Bool) → nat_le s.expiry now ≡ t
-            → Alike (decides (cond t (Done idle.Past) (revoked_by_state (held_facts P) fact s.client s.state))) (decides (cond t (Done idle.Past) (revoked_by_state (held_facts Q) fact s.client s.state)))
+            → Alike (decides
+            (cond t (Done idle.Past) (revoked_by_state (held_facts P) fact s.client s.state)))
+            (decides
+            (cond t (Done idle.Past) (revoked_by_state (held_facts Q) fact s.client s.state)))
         by true past = inl refl
-        by false past = inl (ap decides (by_state_same (held_facts P) (held_facts Q) fact (held h (digest_of h) client other (subst (IsEarly now) (sym p) (not_past now s.expiry past))) s.client s.state))
+        by false past = inl
+            (ap decides
+            (by_state_same (held_facts P) (held_facts Q) fact
+            (held h (digest_of h) client other
+            (subst (IsEarly now) (sym p) (not_past now s.expiry past))) s.client s.state))
 
     by_status : AnsweredAlike now h (status_here P now h) (status_here Q now h)
         → Alike (outcome P (status_here P now h)) (outcome Q (status_here Q now h))
-    by_status (inl same) = subst (λ (s : Status). Alike (outcome P (status_here P now h)) (outcome Q s)) same (by_same (status_here P now h) refl (sym same))
+    by_status (inl same) = subst (λ (s : Status).
+        Alike (outcome P (status_here P now h)) (outcome Q s)) same
+        (by_same (status_here P now h) refl (sym same))
     by_status (inr lost) = inl (
-        past_done (held_facts P) place.choices.unseen (is_own place.number h) now fact h (status_here P now h) other lost.0
-        ∙ sym (past_done (held_facts Q) place.choices.unseen (is_own place.number h) now fact h (status_here Q now h) other lost.1))
+        past_done (held_facts P) place.choices.unseen (is_own place.number h) now fact h
+        (status_here P now h) other lost.0
+        ∙ sym (past_done (held_facts Q) place.choices.unseen (is_own place.number h) now fact h
+        (status_here Q now h) other lost.1))
 
   -- the outcome by the handle's own kind
   abbrev by_own : StoreFields → Dot → Handle → Kind → Decision
@@ -256,38 +328,68 @@ module _ (P Q : StoreFields) (place : Place) (now : ℕ) (alike : (h : Handle) �
       → h.id.kind ≡ k → Alike (by_own P client h k) (by_own Q client h k)
   by_kind client h asks kind.Code is = inl refl
   by_kind client h asks kind.Access is =
-      subst (λ (k : Kind). Alike (decides (revoked_by_status (held_facts P) place.choices.unseen (is_own place.number h) now (revocation_of h k client) (status_here P now h))) (decides (revoked_by_status (held_facts Q) place.choices.unseen (is_own place.number h) now (revocation_of h k client) (status_here Q now h)))) is
-      (by_status client h asks (λ code. (let e : kind.Access ≡ kind.Code = sym is ∙ code in cc)) (alike h))
+      subst (λ (k : Kind).
+      Alike (decides
+      (revoked_by_status (held_facts P) place.choices.unseen (is_own place.number h) now
+      (revocation_of h k client) (status_here P now h)))
+      (decides
+      (revoked_by_status (held_facts Q) place.choices.unseen (is_own place.number h) now
+      (revocation_of h k client) (status_here Q now h)))) is
+      (by_status client h asks (λ code. (let e : kind.Access ≡ kind.Code = sym is ∙ code in cc))
+      (alike h))
   by_kind client h asks kind.Refresh is =
-      subst (λ (k : Kind). Alike (decides (revoked_by_status (held_facts P) place.choices.unseen (is_own place.number h) now (revocation_of h k client) (status_here P now h))) (decides (revoked_by_status (held_facts Q) place.choices.unseen (is_own place.number h) now (revocation_of h k client) (status_here Q now h)))) is
-      (by_status client h asks (λ code. (let e : kind.Refresh ≡ kind.Code = sym is ∙ code in cc)) (alike h))
+      subst (λ (k : Kind).
+      Alike (decides
+      (revoked_by_status (held_facts P) place.choices.unseen (is_own place.number h) now
+      (revocation_of h k client) (status_here P now h)))
+      (decides
+      (revoked_by_status (held_facts Q) place.choices.unseen (is_own place.number h) now
+      (revocation_of h k client) (status_here Q now h)))) is
+      (by_status client h asks (λ code. (let e : kind.Refresh ≡ kind.Code = sym is ∙ code in cc))
+      (alike h))
 
-  module _ (client : Dot) (sender : caller_of (held_facts Q) known_names request ≡ caller.Client client) where
+  module _ (client : Dot)
+      (sender : caller_of (held_facts Q) known_names request ≡ caller.Client client) where
     by_handle : (text : List ℕ) → value_of (codes "token") request.params ≡ Some text
         → (o : Option Handle) → handle_in text ≡ o
-        → Alike (decides (revoked_by_handle P place now client o)) (decides (revoked_by_handle Q place now client o))
+        → Alike (decides (revoked_by_handle P place now client o))
+        (decides (revoked_by_handle Q place now client o))
     by_handle text named None reads = inl refl
-    by_handle text named (Some h) reads = by_kind client h (record { sender = sender; text = text; named = named; reads = reads }) h.id.kind refl
+    by_handle text named (Some h) reads = by_kind client h
+        (record { sender = sender; text = text; named = named; reads = reads }) h.id.kind refl
 
     by_text : (o : Option (List ℕ)) → value_of (codes "token") request.params ≡ o
-        → Alike (decides (revoked_by_text P place now client o)) (decides (revoked_by_text Q place now client o))
+        → Alike (decides (revoked_by_text P place now client o))
+        (decides (revoked_by_text Q place now client o))
     by_text None named = inl refl
     by_text (Some text) named = by_handle text named (handle_in text) refl
 
   by_caller : (c : Caller) → caller_of (held_facts Q) known_names request ≡ c
-      → Alike (decides (revoked_by_caller P place now request.params c)) (decides (revoked_by_caller Q place now request.params c))
+      → Alike (decides (revoked_by_caller P place now request.params c))
+      (decides (revoked_by_caller Q place now request.params c))
   by_caller caller.DuplicateParameter sender = inl refl
   by_caller caller.MixedCredentials sender = inl refl
   by_caller caller.InvalidClient sender = inl refl
-  by_caller (caller.Client client) sender = by_text client sender (value_of (codes "token") request.params) refl
+  by_caller (caller.Client client) sender =
+      by_text client sender (value_of (codes "token") request.params) refl
 
 pub revocations_alike : (P Q : StoreFields) (place : Place) (now : ℕ) (request : RequestFields)
     → ((h : Handle) → AnsweredAlike now h (status_here P now h) (status_here Q now h))
-    → ((k : TokenId) (digest : List ℕ) (client : Dot) → is_revoked (held_facts P) k digest client ≡ true → is_revoked (held_facts Q) k digest client ≡ true)
-    → ((h : Handle) (digest : List ℕ) (client : Dot) → h.id.kind ≢ kind.Code → IsEarly now (status_here P now h) → is_revoked (held_facts P) h.id digest client ≡ is_revoked (held_facts Q) h.id digest client)
+    → ((k : TokenId) (digest : List ℕ) (client : Dot)
+    → is_revoked (held_facts P) k digest client ≡ true
+    → is_revoked (held_facts Q) k digest client ≡ true)
+    → ((h : Handle) (digest : List ℕ) (client : Dot) → h.id.kind ≢ kind.Code
+    → IsEarly now (status_here P now h)
+    → is_revoked (held_facts P) h.id digest client ≡ is_revoked (held_facts Q) h.id digest client)
     → ((d : Dot) → client_view (held_facts P) d ≡ client_view (held_facts Q) d)
     → caller_of (held_facts P) known_names request ≡ caller_of (held_facts Q) known_names request
-    → (whole.revocation_of P place now request ≡ whole.revocation_of Q place now request) ⊎ IsAnew Q place now request (whole.revocation_of P place now request)
+    → (whole.revocation_of P place now request ≡ whole.revocation_of Q place now request)
+    ⊎ IsAnew Q place now request (whole.revocation_of P place now request)
 revocations_alike P Q place now request alike within held views same =
-    subst (λ (c : Caller). (decides (revoked_by_caller P place now request.params c) ≡ whole.revocation_of Q place now request) ⊎ IsAnew Q place now request (decides (revoked_by_caller P place now request.params c))) (sym same)
-    (by_caller P Q place now alike within held views request (caller_of (held_facts Q) known_names request) refl)
+    subst (λ (c : Caller).
+    (decides (revoked_by_caller P place now request.params c)
+    ≡ whole.revocation_of Q place now request)
+    ⊎ IsAnew Q place now request (decides (revoked_by_caller P place now request.params c)))
+    (sym same)
+    (by_caller P Q place now alike within held views request
+    (caller_of (held_facts Q) known_names request) refl)

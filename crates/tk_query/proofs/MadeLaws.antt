@@ -26,4 +26,5 @@ revoked_alone (Revokes fact) = (fact, refl)
 
 pub revokes_alone : (P : StoreFields) (place : Place) (now : ℕ) (request : RequestFields)
     → IfSome (revocation_of P place now request).made Revoking
-revokes_alone P place now request = revoked_alone (revoked_by_caller P place now request.params (caller_of (held_facts P) known_names request))
+revokes_alone P place now request = revoked_alone
+    (revoked_by_caller P place now request.params (caller_of (held_facts P) known_names request))

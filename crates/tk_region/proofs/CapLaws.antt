@@ -46,11 +46,14 @@ one_under region r serial rest cap p q = grind (arith, nat_tests)
 all_under : (r : RegionFields) → IsCapped r → (es : Items) → AllIn r.facts.slots es
     → last_serial r.number es ≤ r.settings.cap
 all_under r k [] a = omega arith
-all_under r k (e ∷ es) a = one_under e.0.region r.number e.0.serial (last_serial r.number es) r.settings.cap (k.own e.0 e.1 a.0) (all_under r k es a.1)
+all_under r k (e ∷ es) a = one_under e.0.region r.number e.0.serial (last_serial r.number es)
+    r.settings.cap (k.own e.0 e.1 a.0) (all_under r k es a.1)
 
 last_under : (r : RegionFields) → IsCapped r
     → next_serial r.facts.slots r.number ≤ r.settings.cap + 1
-last_under r k = let most = all_under r k (map.entries r.facts.slots) (AllIn-entries r.facts.slots) in omega arith
+last_under r k =
+    let most = all_under r k (map.entries r.facts.slots) (AllIn-entries r.facts.slots) in
+    omega arith
 
 pub next_under : (r : RegionFields) → IsCapped r
     → next_serial r.facts.slots r.number ≤ greatest_serial
@@ -59,7 +62,9 @@ next_under r k = let most = last_under r k in omega (arith, k.low)
 pub capped_empty : (r : RegionFields) → r.facts ≡ empty_store → r.settings.cap ≤ greatest_cap
     → IsCapped r
 capped_empty r none low = record {
-  own = λ d s h. absurd (none_is_not_some s (sym (map.get-empty dot_cmp d) ∙ ap (λ (P : StoreFields). map.get P.slots d) (sym none) ∙ h));
+  own = λ d s h. absurd
+      (none_is_not_some s
+      (sym (map.get-empty dot_cmp d) ∙ ap (λ (P : StoreFields). map.get P.slots d) (sym none) ∙ h));
   low = low;
 }
 
@@ -71,7 +76,8 @@ under_put : (n cap : ℕ) (S : Slots) (d : Dot) (s : Slot) → (d.region ≡ n �
     → AreUnder n cap S → AreUnder n cap (map.insert S d s)
 under_put n cap S d s low under q t h here =
     of_dot S d s q t (q.serial ≤ cap)
-    (λ same _. subst (λ (e : Dot). e.serial ≤ cap) (sym same) (low (ap (λ (e : Dot). e.region) (sym same) ∙ here)))
+    (λ same _. subst (λ (e : Dot). e.serial ≤ cap) (sym same)
+    (low (ap (λ (e : Dot). e.region) (sym same) ∙ here)))
     (λ there. under q t there here) h
 
 -- an item under the region's number, in a bundle that is not refused, is below the next dot
@@ -87,8 +93,12 @@ module _ (next : Dot) (cap : ℕ) (low : next.serial ≤ cap + 1) where
       → AreUnder next.region cap S → AreUnder next.region cap (with_slots S items)
   under_with [] S h under = under
   under_with (i ∷ items) S h under =
-      under_with items (map.insert S i.0 (joined_slot (map.get S i.0) i.1)) (others (is_unmade next i.0) (has_unmade next items) h)
-      (under_put next.region cap S i.0 (joined_slot (map.get S i.0) i.1) (λ here. let lt = below i.0.region next.region next.serial i.0.serial (has_unmade next items) h here in omega (arith, lt, low)) under)
+      under_with items (map.insert S i.0 (joined_slot (map.get S i.0) i.1))
+      (others (is_unmade next i.0) (has_unmade next items) h)
+      (under_put next.region cap S i.0 (joined_slot (map.get S i.0) i.1)
+      (λ here. let lt =
+      below i.0.region next.region next.serial i.0.serial (has_unmade next items) h here in
+      omega (arith, lt, low)) under)
 
 -- the first items of a bundle that is not refused
 made_take : (next : Dot) (k : ℕ) (items : Items) → has_unmade next items ≡ false
@@ -106,7 +116,8 @@ pub next_unknown : (r : RegionFields) (f : Dot × Body) → IsNextFact r f
     → map.get r.facts.slots f.0 ≡ None
 next_unknown r f i = ap (map.get r.facts.slots) i.next ∙ next_is_free r.facts.slots r.number
 
-module _ (n : ℕ) (s : SettingsFields) (P Q : StoreFields) (k : IsCapped (record { number = n; settings = s; facts = P })) where
+module _ (n : ℕ) (s : SettingsFields) (P Q : StoreFields)
+    (k : IsCapped (record { number = n; settings = s; facts = P })) where
   abbrev r : RegionFields
   r = record { number = n; settings = s; facts = P }
 
@@ -117,13 +128,20 @@ module _ (n : ℕ) (s : SettingsFields) (P Q : StoreFields) (k : IsCapped (recor
   next = next_in (place_in r)
 
   same : Q ≡ P → IsCapped changed
-  same e = subst (λ (R : StoreFields). IsCapped (record { number = n; settings = s; facts = R })) (sym e) k
+  same e = subst (λ (R : StoreFields). IsCapped (record { number = n; settings = s; facts = R }))
+      (sym e) k
 
   taken : (h : Option ℕ) (items : Items) → has_unmade next items ≡ false
       → Q ≡ items_taken (raised P h) items → IsCapped changed
   taken h items made is =
-      let slots : Q.slots ≡ with_slots P.slots items = ap (λ (R : StoreFields). R.slots) is ∙ ap (λ (S : Slots). with_slots S items) (raised_slots P h) in
-      record { own = subst (AreUnder n s.cap) (sym slots) (under_with next s.cap (last_under r k) items P.slots made k.own); low = k.low }
+      let slots : Q.slots ≡ with_slots P.slots items =
+      ap (λ (R : StoreFields). R.slots) is
+      ∙ ap (λ (S : Slots). with_slots S items) (raised_slots P h) in
+      record {
+        own = subst (AreUnder n s.cap) (sym slots)
+            (under_with next s.cap (last_under r k) items P.slots made k.own);
+        low = k.low;
+      }
 
   pub capped_taken : (o : Option BundleFields) (result : Result ℕ TakeError)
       → TakesIn P next o result Q → IsCapped changed
@@ -135,12 +153,16 @@ module _ (n : ℕ) (s : SettingsFields) (P Q : StoreFields) (k : IsCapped (recor
   capped_taken (Some b) (Err OwnNumber) t = same t.1
   capped_taken (Some b) (Err Conflict) t = same t.2
   capped_taken (Some b) (Err Malformed) t = absurd t
-  capped_taken (Some b) (Err Memory) t = elim t [ inl e ↦ same e | inr u ↦ taken b.horizon (take u.2.0 b.items) (made_take next u.2.0 b.items u.0) u.2.1 ]
+  capped_taken (Some b) (Err Memory) t = elim t [
+    | inl e ↦ same e
+    | inr u ↦ taken b.horizon (take u.2.0 b.items) (made_take next u.2.0 b.items u.0) u.2.1
+  ]
   capped_taken (Some b) (Ok m) t = taken b.horizon b.items t.0 t.2.0
 
   pub capped_added : (f : Dot × Body) → IsNextFact r f → Q ≡ with_fact P f.0 f.1 → IsCapped changed
   capped_added f i is =
-      subst (λ (R : StoreFields). IsCapped (record { number = n; settings = s; facts = R })) (sym is)
+      subst (λ (R : StoreFields). IsCapped (record { number = n; settings = s; facts = R }))
+      (sym is)
       (record { own = under_put n s.cap P.slots f.0 _ (λ _. i.under) k.own; low = k.low })
 
   -- a fact that may be skipped was held
@@ -174,14 +196,23 @@ module _ (n : ℕ) (s : SettingsFields) where
 
       by : Goes P d → d.serial ≤ s.cap
       by (inl may) = was (map.get P.slots d) refl may.fact (sym (get_held P.slots d) ∙ may.here)
-      by (inr names) = was (map.get P.slots d) refl names.fact (sym (get_held P.slots d) ∙ names.here)
+      by (inr names) =
+          was (map.get P.slots d) refl names.fact (sym (get_held P.slots d) ∙ names.here)
 
   capped_steps : (P Q : StoreFields) (ds : List Dot) → IsCappedWith P → Steps P ds Q
       → IsCappedWith Q
   capped_steps P Q [] k is = subst IsCappedWith (sym is) k
   capped_steps P Q (d ∷ ds) k steps =
-      capped_steps (with_skipped P d) Q ds (record { own = under_put n s.cap P.slots d Skipped (go_under P d k steps.0) k.own; low = k.low }) steps.1
+      capped_steps (with_skipped P d) Q ds
+      (record {
+        own = under_put n s.cap P.slots d Skipped (go_under P d k steps.0) k.own;
+        low = k.low;
+      })
+      steps.1
 
-  pub capped_sliced : (P Q : StoreFields) (moment : ℕ) (after : Option Dot) (count : ℕ) (slice : Slice)
+  pub capped_sliced : (P Q : StoreFields) (moment : ℕ) (after : Option Dot) (count : ℕ)
+      (slice : Slice)
       → IsCappedWith P → PrunesSome P moment after count slice Q → IsCappedWith Q
-  capped_sliced P Q moment after count slice k looks = capped_steps (with_horizon P moment) Q looks.went.dots (record { own = k.own; low = k.low }) looks.went.steps
+  capped_sliced P Q moment after count slice k looks =
+      capped_steps (with_horizon P moment) Q looks.went.dots (record { own = k.own; low = k.low })
+      looks.went.steps

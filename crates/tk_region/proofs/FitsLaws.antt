@@ -28,19 +28,24 @@ above : (d last : Dot) (items : Items) → dot_cmp d last ≡ Less → ascends (
 above d last [] l h = tt
 above d last (i ∷ items) l h =
     let k = both_true _ _ h in
-    let t : dot_cmp d i.0 ≡ Less = dot_cmp_total.trans d last i.0 l (less _ k.0) in
-    (λ same. not_below_itself d (subst (λ (q : Dot). dot_cmp d q ≡ Less) same t), above d i.0 items t k.1)
+    let t : dot_cmp d i.0 ≡ Less = dot_cmp_total.trans d last i.0 l (less _ k.0) in (
+      λ same. not_below_itself d (subst (λ (q : Dot). dot_cmp d q ≡ Less) same t),
+      above d i.0 items t k.1,
+    )
 
 all_above : (d : Dot) (items : Items) → ascends (Some d) items ≡ true → Avoids d items
 all_above d [] h = tt
 all_above d (i ∷ items) h =
     let k = both_true _ _ h in
-    let t : dot_cmp d i.0 ≡ Less = less _ k.0 in
-    (λ same. not_below_itself d (subst (λ (q : Dot). dot_cmp d q ≡ Less) same t), above d i.0 items t k.1)
+    let t : dot_cmp d i.0 ≡ Less = less _ k.0 in (
+      λ same. not_below_itself d (subst (λ (q : Dot). dot_cmp d q ≡ Less) same t),
+      above d i.0 items t k.1,
+    )
 
 differs_after : (d : Dot) (items : Items) → ascends (Some d) items ≡ true → Differs items
 differs_after d [] h = tt
-differs_after d (i ∷ items) h = let k = both_true _ _ h in (all_above i.0 items k.1, differs_after i.0 items k.1)
+differs_after d (i ∷ items) h = let k = both_true _ _ h in
+    (all_above i.0 items k.1, differs_after i.0 items k.1)
 
 differs : (items : Items) → ascends None items ≡ true → Differs items
 differs [] h = tt

@@ -13,7 +13,8 @@ module _ (r R : RegionFields) (p P : PreparedFields) (same_region : r ≡ R) (sa
   pub next_given : (f : Dot × Body) → p.fact ≡ Some f → IfSome P.fact (IsNextFact R)
       → IsNextFact r f
   next_given f is given =
-      let there = subst (λ (R : RegionFields). IfSome P.fact (IsNextFact R)) (sym same_region) given in
+      let there =
+      subst (λ (R : RegionFields). IfSome P.fact (IsNextFact R)) (sym same_region) given in
       let here = subst (λ (P : PreparedFields). IfSome P.fact (IsNextFact r)) (sym same) there in
       subst (λ (o : Option (Dot × Body)). IfSome o (IsNextFact r)) is here
 

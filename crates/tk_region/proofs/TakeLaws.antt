@@ -42,12 +42,14 @@ one_item P Q e slots horizon = λ i. record { slots = slots i; horizon = horizon
 
 added_one : (P Q : StoreFields) (f : Dot × Body) (a : Added) → AddsTo P f (Ok a) Q
     → Q ≡ items_taken P ((f.0, Held f.1) ∷ [])
-added_one P Q f a adds = one_item P Q (f.0, Held f.1) (added_joins P Q f f a refl adds) (added_horizon P Q f (Ok a) adds)
+added_one P Q f a adds =
+    one_item P Q (f.0, Held f.1) (added_joins P Q f f a refl adds) (added_horizon P Q f (Ok a) adds)
 
 pub puts_fact : (P Q : StoreFields) (f : Dot × Body) (r : Result Added AddError) → AddsTo P f r Q
     → Puts P (f.0, Held f.1) r Q
 puts_fact P Q f (Ok added.New) adds = (adds.0, added_one P Q f added.New adds)
-puts_fact P Q f (Ok added.Held) adds = (known (map.get P.slots f.0) adds.0, added_one P Q f added.Held adds)
+puts_fact P Q f (Ok added.Held) adds =
+    (known (map.get P.slots f.0) adds.0, added_one P Q f added.Held adds)
   where
     known : (o : Option Slot) → HasFact f.1 o → IsSome o
     known None h = absurd h
@@ -62,12 +64,14 @@ puts_fact P Q f (Err error.Memory) adds = adds.1
 
 skipped_one : (P Q : StoreFields) (d : Dot) (a : Added) → Skips P d (Ok a) Q
     → Q ≡ items_taken P ((d, Skipped) ∷ [])
-skipped_one P Q d a skips = one_item P Q (d, Skipped) (skipped_joins P Q d a skips) (skipped_horizon P Q d (Ok a) skips)
+skipped_one P Q d a skips =
+    one_item P Q (d, Skipped) (skipped_joins P Q d a skips) (skipped_horizon P Q d (Ok a) skips)
 
 pub puts_mark : (P Q : StoreFields) (d : Dot) (r : Result Added AddError) → Skips P d r Q
     → Puts P (d, Skipped) r Q
 puts_mark P Q d (Ok added.New) skips = (skips.0, skipped_one P Q d added.New skips)
-puts_mark P Q d (Ok added.Held) skips = (known (map.get P.slots d) skips.0, skipped_one P Q d added.Held skips)
+puts_mark P Q d (Ok added.Held) skips =
+    (known (map.get P.slots d) skips.0, skipped_one P Q d added.Held skips)
   where
     known : (o : Option Slot) → MayGo o → IsSome o
     known None h = absurd h
@@ -91,12 +95,14 @@ item_of_mark (d, Skipped) h = refl
 
 pub counted_new : (P Q : StoreFields) (e : Dot × Slot) → map.get P.slots e.0 ≡ None
     → Q ≡ items_taken P (e ∷ []) → map.len P.slots + 1 ≡ map.len Q.slots
-counted_new P Q e none is = sym (ap (λ (R : StoreFields). map.len R.slots) is ∙ len_new P.slots e.0 (joined_slot (map.get P.slots e.0) e.1) none)
+counted_new P Q e none is = sym (ap (λ (R : StoreFields). map.len R.slots) is
+    ∙ len_new P.slots e.0 (joined_slot (map.get P.slots e.0) e.1) none)
 
 pub counted_held : (P Q : StoreFields) (e : Dot × Slot) → IsSome (map.get P.slots e.0)
     → Q ≡ items_taken P (e ∷ []) → map.len P.slots ≡ map.len Q.slots
 counted_held P Q e known is =
-    sym (ap (λ (R : StoreFields). map.len R.slots) is ∙ map.len-insert dot_cmp_total P.slots e.0 (joined_slot (map.get P.slots e.0) e.1)
+    sym (ap (λ (R : StoreFields). map.len R.slots) is
+    ∙ map.len-insert dot_cmp_total P.slots e.0 (joined_slot (map.get P.slots e.0) e.1)
     ∙ ap (λ t. cond t (map.len P.slots) (map.len P.slots + 1)) known)
 
 -- ---- the next item of a list
@@ -133,7 +139,8 @@ agrees_after S d s (i ∷ items) v a = (
 
 agrees_at : (S : Slots) (items : Items) (i : ℕ) (e : Dot × Slot) → Differs items
     → AgreesWith S items → i < length items
-    → SlotAgrees (map.get (with_slots S (take i items)) (get_or items i e).0) (Some (get_or items i e).1)
+    → SlotAgrees (map.get (with_slots S (take i items)) (get_or items i e).0)
+    (Some (get_or items i e).1)
 agrees_at S [] i e v a lt = absurd (omega arith)
 agrees_at S (x ∷ items) zero e v a lt = a.0
 agrees_at S (x ∷ items) (suc i) e v a lt =
@@ -143,13 +150,17 @@ agrees_at S (x ∷ items) (suc i) e v a lt =
 with_slots-append : (S : Slots) (es fs : Items)
     → with_slots S (es ++ fs) ≡ with_slots (with_slots S es) fs
 with_slots-append S [] fs = refl
-with_slots-append S (e ∷ es) fs = with_slots-append (map.insert S e.0 (joined_slot (map.get S e.0) e.1)) es fs
+with_slots-append S (e ∷ es) fs =
+    with_slots-append (map.insert S e.0 (joined_slot (map.get S e.0) e.1)) es fs
 
-module _ (P Q : StoreFields) (items : Items) (i : ℕ) (e : Dot × Slot) (is : e ≡ get_or items i e) (within : i < length items) (so_far : Q ≡ items_taken P (take i items)) where
-  one_more : with_slots (with_slots P.slots (take i items)) (e ∷ []) ≡ with_slots P.slots (take (i + 1) items)
+module _ (P Q : StoreFields) (items : Items) (i : ℕ) (e : Dot × Slot) (is : e ≡ get_or items i e)
+    (within : i < length items) (so_far : Q ≡ items_taken P (take i items)) where
+  one_more : with_slots (with_slots P.slots (take i items)) (e ∷ [])
+      ≡ with_slots P.slots (take (i + 1) items)
   one_more =
       ap (λ x. with_slots (with_slots P.slots (take i items)) (x ∷ [])) is
-      ∙ sym (ap (with_slots P.slots) (take_at_read items i e within).1 ∙ with_slots-append P.slots (take i items) (get_or items i e ∷ []))
+      ∙ sym (ap (with_slots P.slots) (take_at_read items i e within).1
+      ∙ with_slots-append P.slots (take i items) (get_or items i e ∷ []))
 
   pub taken_more : (R : StoreFields) → R ≡ items_taken Q (e ∷ [])
       → R ≡ items_taken P (take (i + 1) items)
@@ -161,7 +172,8 @@ module _ (P Q : StoreFields) (items : Items) (i : ℕ) (e : Dot × Slot) (is : e
       → SlotAgrees (map.get Q.slots e.0) (Some e.1)
   agrees_now differs agree =
       subst (λ (x : Dot × Slot). SlotAgrees (map.get Q.slots x.0) (Some x.1)) (sym is)
-      (subst (λ (X : StoreFields). SlotAgrees (map.get X.slots (get_or items i e).0) (Some (get_or items i e).1)) (sym so_far)
+      (subst (λ (X : StoreFields).
+      SlotAgrees (map.get X.slots (get_or items i e).0) (Some (get_or items i e).1)) (sym so_far)
       (agrees_at P.slots items i e differs agree within))
 
   pub passes_now : AllPass items → Passes e.1
@@ -187,16 +199,20 @@ raised_slots P (Some moment) = refl
 -- raising the horizon keeps the agreement
 pub raised_agrees : (P Q : StoreFields) (h : Option ℕ) (items : Items) → Q ≡ raised P h
     → AgreesWith P.slots items → AgreesWith Q.slots items
-raised_agrees P Q h items is agree = subst (λ (S : Slots). AgreesWith S items) (sym (ap (λ (R : StoreFields). R.slots) is ∙ raised_slots P h)) agree
+raised_agrees P Q h items is agree = subst (λ (S : Slots). AgreesWith S items)
+    (sym (ap (λ (R : StoreFields). R.slots) is ∙ raised_slots P h)) agree
 
 pub raised_takes : (P Q R : StoreFields) (b : BundleFields) (r : Result ℕ TakeError)
     → Q ≡ raised P b.horizon → Takes Q (record { horizon = None; items = b.items }) r R
     → Takes P b r R
 raised_takes P Q R b (Ok n) is t = (
   t.0 ∙ ap (λ (X : StoreFields). items_taken X b.items) is,
-  ap (λ (S : Slots). map.len S + n) (sym (ap (λ (X : StoreFields). X.slots) is ∙ raised_slots P b.horizon)) ∙ t.1,
+  ap (λ (S : Slots). map.len S + n)
+      (sym (ap (λ (X : StoreFields). X.slots) is ∙ raised_slots P b.horizon))
+      ∙ t.1,
 )
-raised_takes P Q R b (Err Memory) is t = (t.0, t.1 ∙ ap (λ (X : StoreFields). items_taken X (take t.0 b.items)) is)
+raised_takes P Q R b (Err Memory) is t =
+    (t.0, t.1 ∙ ap (λ (X : StoreFields). items_taken X (take t.0 b.items)) is)
 raised_takes P Q R b (Err Malformed) is t = absurd t
 raised_takes P Q R b (Err OwnNumber) is t = absurd t
 raised_takes P Q R b (Err Conflict) is t = absurd t

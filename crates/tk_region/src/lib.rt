@@ -4,8 +4,8 @@
 //!
 //! - `decide` returns the reply to a request, the fact that the request makes, and the record of
 //!   that fact. The region does not change.
-//! - `repeat` gives the reply to a refresh again, and makes no fact. `minted_refresh` says whether a
-//!   refresh can be repeated.
+//! - `repeat` gives the reply to a refresh again, and makes no fact. `minted_refresh` says whether
+//!   a refresh can be repeated.
 //! - `commit` adds the fact, and returns the reply only then. `handle` does both.
 //! - `take_in` takes a bundle's facts and marks into the ledger, or refuses all of them before it
 //!   changes anything.

@@ -39,42 +39,53 @@ use Rattle.tk_retention.specs.Decides.{DecidesFor}
 use Rattle.tk_retention.specs.StandsFor.{StandsFor, AreSound}
 use Rattle.tk_retention.proofs.LastingLaws.{client_view_same, consent_view_same, consent_for_same}
 use Rattle.tk_retention.proofs.LastingLaws.{signed_out_same, revoked_up, caller_same}
-use Rattle.tk_retention.proofs.StatusStandsLaws.{revoked_early, status_stands}
+use Rattle.tk_retention.proofs.EarlyRevocationLaws.{revoked_early}
+use Rattle.tk_retention.proofs.StatusStandsLaws.{status_stands}
 use Rattle.tk_retention.proofs.WholeStatus.{whole_status}
 
-module _ (P : StoreFields) (U F : FactSet) (S : StandsFor P U F) (sound : AreSound U) (place : Place) (now : ℕ) (soon : P.horizon ≤ now) (words : List ℕ) where
+module _ (P : StoreFields) (U F : FactSet) (S : StandsFor P U F) (sound : AreSound U)
+    (place : Place) (now : ℕ) (soon : P.horizon ≤ now) (words : List ℕ) where
   abbrev H : FactSet
   H = held_facts P
 
   alike : (h : Handle)
       → AnsweredAlike now h (status_here P now h) (status_here (whole_store F) now h)
-  alike h = subst (λ (x : Status). AnsweredAlike now h (status_here P now h) x) (sym (whole_status F now h)) (status_stands P U F S sound now soon h)
+  alike h = subst (λ (x : Status). AnsweredAlike now h (status_here P now h) x)
+      (sym (whole_status F now h)) (status_stands P U F S sound now soon h)
 
   back : held_facts (whole_store F) ≡ F
   back = held_whole_store F
 
   caller_back : (names : List (List ℕ)) (request : RequestFields)
       → caller_of H names request ≡ caller_of (held_facts (whole_store F)) names request
-  caller_back names request = caller_same P U F S names request ∙ ap (λ (G : FactSet). caller_of G names request) (sym back)
+  caller_back names request =
+      caller_same P U F S names request ∙ ap (λ (G : FactSet). caller_of G names request) (sym back)
 
   view_back : (d : Dot) → client_view H d ≡ client_view (held_facts (whole_store F)) d
   view_back d = client_view_same P U F S d ∙ ap (λ (G : FactSet). client_view G d) (sym back)
 
   administered : (request : RequestFields)
-      → administration_of H place now request ≡ administration_of (held_facts (whole_store F)) place now request
+      → administration_of H place now request
+      ≡ administration_of (held_facts (whole_store F)) place now request
   administered request =
-      administrations_same H F place now request (client_view_same P U F S) (consent_view_same P U F S) (signed_out_same P U F S) (consent_for_same P U F S)
+      administrations_same H F place now request (client_view_same P U F S)
+      (consent_view_same P U F S) (signed_out_same P U F S) (consent_for_same P U F S)
       ∙ ap (λ (G : FactSet). administration_of G place now request) (sym back)
 
   -- the decision is equal, or that of a first revocation
   abbrev Decides : Endpoint → RequestFields → Decision → Type 0
-  Decides e request d = (d ≡ decision_by e (whole_store F) place now words request) ⊎ ((e ≡ endpoint.Revoke) × IsAnew (whole_store F) place now request d)
+  Decides e request d = (d ≡ decision_by e (whole_store F) place now words request)
+      ⊎ ((e ≡ endpoint.Revoke) × IsAnew (whole_store F) place now request d)
 
   revoked_alike : (request : RequestFields)
       → Decides endpoint.Revoke request (decision_by endpoint.Revoke P place now words request)
   revoked_alike request = elim (revocations_alike P (whole_store F) place now request alike
-      (λ k digest client h. ap (λ (G : FactSet). is_revoked G k digest client) back ∙ revoked_up P U F S k digest client h)
-      (λ h digest client other early. revoked_early P U F S sound now soon h digest client other early ∙ ap (λ (G : FactSet). is_revoked G h.id digest client) (sym back))
+      (λ k digest client h.
+      ap (λ (G : FactSet). is_revoked G k digest client) back
+      ∙ revoked_up P U F S k digest client h)
+      (λ h digest client other early.
+      revoked_early P U F S sound now soon h digest client other early
+      ∙ ap (λ (G : FactSet). is_revoked G h.id digest client) (sym back))
       view_back
       (caller_back queries.known_names request)) [
         | inl same ↦ inl same
@@ -84,10 +95,16 @@ module _ (P : StoreFields) (U F : FactSet) (S : StandsFor P U F) (sound : AreSou
   by_endpoint : (e : Endpoint) (request : RequestFields)
       → Decides e request (decision_by e P place now words request)
   by_endpoint endpoint.Authorize request = inl (
-      authorizations_same H F place now words request (client_view_same P U F S) (consent_for_same P U F S)
+      authorizations_same H F place now words request (client_view_same P U F S)
+      (consent_for_same P U F S)
       ∙ ap (λ (G : FactSet). authorization_of G place now words request) (sym back))
-  by_endpoint endpoint.Token request = inl (grants_alike P (whole_store F) place now words request alike view_back (caller_back grants.known_names request))
-  by_endpoint endpoint.Introspect request = inl (ap answered (introspections_alike P (whole_store F) place.choices.refresh_seen now request alike view_back (caller_back queries.known_names request)))
+  by_endpoint endpoint.Token request = inl
+      (grants_alike P (whole_store F) place now words request alike view_back
+      (caller_back grants.known_names request))
+  by_endpoint endpoint.Introspect request =
+      inl (ap answered
+      (introspections_alike P (whole_store F) place.choices.refresh_seen now request alike view_back
+      (caller_back queries.known_names request)))
   by_endpoint endpoint.Revoke request = revoked_alike request
   by_endpoint endpoint.AddClient request = inl (administered request)
   by_endpoint endpoint.ShowClient request = inl (administered request)
@@ -102,16 +119,21 @@ module _ (P : StoreFields) (U F : FactSet) (S : StandsFor P U F) (sound : AreSou
 pub decision_stands : (P : StoreFields) (U F : FactSet) → StandsFor P U F → AreSound U
     → (place : Place) (now : ℕ) → P.horizon ≤ now → (words : List ℕ) (request : RequestFields)
     → DecidesFor F place now words request (decision_of P place now words request)
-decision_stands P U F S sound place now soon words request = by_endpoint P U F S sound place now soon words request.endpoint request
+decision_stands P U F S sound place now soon words request =
+    by_endpoint P U F S sound place now soon words request.endpoint request
 
 never_before : (now horizon : ℕ) → horizon ≤ now → nat_lt now horizon ≡ false
 never_before now horizon le = grind (arith, nat_tests)
 
 pub region_stands : (r : RegionFields) (U F : FactSet) → StandsFor r.facts U F → AreSound U
     → (now : ℕ) → r.facts.horizon ≤ now → (words : List ℕ) (request : RequestFields)
-    → (d : Decision) × DecidesFor F (place_in r) now words request d × (prepared_of r now words request ≡ prepared_by r.settings.cap (place_in r) d)
+    → (d : Decision) × DecidesFor F (place_in r) now words request d
+    × (prepared_of r now words request ≡ prepared_by r.settings.cap (place_in r) d)
 region_stands r U F S sound now soon words request = (
   decision_of r.facts (place_in r) now words request,
   decision_stands r.facts U F S sound (place_in r) now soon words request,
-  ap (λ t. cond t (early_in (place_in r)) (prepared_by r.settings.cap (place_in r) (decision_of r.facts (place_in r) now words request))) (never_before now r.facts.horizon soon),
+  ap (λ t. cond t (early_in (place_in r))
+      (prepared_by r.settings.cap (place_in r)
+      (decision_of r.facts (place_in r) now words request)))
+      (never_before now r.facts.horizon soon),
 )

@@ -35,39 +35,51 @@ use Rattle.tk_retention.proofs.StandingLaws.{at_skipped, held_made, held_part}
 pub minted_more : (F G : FactSet) → IsSubset F G → (k : TokenId) (o : Option MintedFields)
     → minted_in (map.get F) k ≡ o → o ≢ None → minted_in (map.get G) k ≢ None
 minted_more F G w k None h some = absurd (some refl)
-minted_more F G w k (Some m) h some = λ none. none_some (minted_in (map.get G) k) m none (minted-below F G w k m h)
+minted_more F G w k (Some m) h some =
+    λ none. none_some (minted_in (map.get G) k) m none (minted-below F G w k m h)
 
 link_more : (F G : FactSet) → IsSubset F G → (d : Dot) (o : Option Link)
     → links_in (map.get F) d ≡ o → o ≢ None → links_in (map.get G) d ≢ None
 link_more F G w d None h some = absurd (some refl)
-link_more F G w d (Some l) h some = λ none. none_some (links_in (map.get G) d) l none (links-below F G w d l h)
+link_more F G w d (Some l) h some =
+    λ none. none_some (links_in (map.get G) d) l none (links-below F G w d l h)
 
 -- what may be skipped may be skipped where more facts are made, and later
 pub may_more : (U V : FactSet) → IsSubset U V → (t s : ℕ) → t ≤ s → (d : Dot)
     → MaySkip (map.get U) t d → MaySkip (map.get V) s d
-may_more U V w t s h d may = record { fact = may.fact; here = w d may.fact may.here; token = may.token; kept = may.kept; why = by may.token.dot may.why }
+may_more U V w t s h d may = record {
+  fact = may.fact;
+  here = w d may.fact may.here;
+  token = may.token;
+  kept = may.kept;
+  why = by may.token.dot may.why;
+}
   where
     by : (q : Dot) → IsOverAt (map.get U) t q ⊎ MintsNothing (map.get U) q
         → IsOverAt (map.get V) s q ⊎ MintsNothing (map.get V) q
-    by q (inr none) = inr (record { fact = none.fact; here = w q none.fact none.here; barren = none.barren })
-    by q (inl o) = (let code = from_some issued_in (map.get U o.root) o.code o.issues in inl (record {
-      root = o.root;
-      under = minted-under-below U V w q o.root o.under;
-      code = o.code;
-      issues = ap (option_and_then issued_in) (w o.root code.0 code.1) ∙ code.2;
-      over = (let a = o.over in omega (arith, a, h));
-    }))
+    by q (inr none) =
+        inr (record { fact = none.fact; here = w q none.fact none.here; barren = none.barren })
+    by q (inl o) = (let code = from_some issued_in (map.get U o.root) o.code o.issues in
+        inl (record {
+          root = o.root;
+          under = minted-under-below U V w q o.root o.under;
+          code = o.code;
+          issues = ap (option_and_then issued_in) (w o.root code.0 code.1) ∙ code.2;
+          over = (let a = o.over in omega (arith, a, h));
+        }))
 
 pub slot_more : (U V : FactSet) → IsSubset U V → (t s : ℕ) → t ≤ s
     → (d : Dot) (o : Option Slot) (p : Option Body) → SlotStands U t d o p → SlotStands V s d o p
 slot_more U V w t s h d None p x = x
 slot_more U V w t s h d (Some (Held b)) p x = (x.0, w d b x.1)
-slot_more U V w t s h d (Some Skipped) p x = (x.0 ∙ (x.1.here ∙ sym (w d x.1.fact x.1.here)), may_more U V w t s h d x.1)
+slot_more U V w t s h d (Some Skipped) p x =
+    (x.0 ∙ (x.1.here ∙ sym (w d x.1.fact x.1.here)), may_more U V w t s h d x.1)
 
 -- more facts are made
 pub stands_more : (P : StoreFields) (U V F : FactSet) → IsSubset U V → StandsFor P U F
     → StandsFor P V F
-stands_more P U V F w S d = slot_more U V w P.horizon P.horizon (omega arith) d (map.get P.slots d) (map.get F d) (S d)
+stands_more P U V F w S d =
+    slot_more U V w P.horizon P.horizon (omega arith) d (map.get P.slots d) (map.get F d) (S d)
 
 itself : (U : FactSet) → IsSubset U U
 itself U d b h = h
@@ -82,19 +94,26 @@ pub prune_stands : (old new : StoreFields) (moment n : ℕ) (U F : FactSet) → 
 prune_stands old new moment n U F prunes S d =
     let later : old.horizon ≤ new.horizon = (let raised = prunes.raised in omega (arith, raised)) in
     elim (prunes.keeps d) [
-      | inl same ↦ slot_at U new.horizon d (map.get new.slots d) (map.get old.slots d) (map.get F d) same (slot_more U U (itself U) old.horizon new.horizon later d (map.get old.slots d) (map.get F d) (S d))
+      | inl same ↦ slot_at U new.horizon d (map.get new.slots d) (map.get old.slots d)
+          (map.get F d) same
+          (slot_more U U (itself U) old.horizon new.horizon later d (map.get old.slots d)
+          (map.get F d) (S d))
       | inr may ↦
-          let made = may_more (held_facts old) U (held_made old U F S) new.horizon new.horizon (omega arith) d may in
+          let made = may_more (held_facts old) U (held_made old U F S) new.horizon new.horizon
+          (omega arith) d may in
           let here : map.get F d ≡ Some may.fact = held_part old U F S d may.fact may.here in
-          slot_at U new.horizon d (map.get new.slots d) (Some Skipped) (map.get F d) (prunes.skips d may) (here ∙ sym (held_made old U F S d may.fact may.here), made)
+          slot_at U new.horizon d (map.get new.slots d) (Some Skipped) (map.get F d)
+          (prunes.skips d may) (here ∙ sym (held_made old U F S d may.fact may.here), made)
     ]
 
 -- what stands at a dot after one slot was put there
 pub slot_put : (U : FactSet) (t : ℕ) (T : Slots) (d : Dot) (s : Slot) (G : FactSet)
     → SlotStands U t d (Some s) (map.get G d)
-    → ((q : Dot) → q ≢ d → SlotStands U t q (map.get T q) (map.get G q)) → (q : Dot) → SlotStands U t q (map.get (map.insert T d s) q) (map.get G q)
+    → ((q : Dot) → q ≢ d → SlotStands U t q (map.get T q) (map.get G q)) → (q : Dot)
+    → SlotStands U t q (map.get (map.insert T d s) q) (map.get G q)
 slot_put U t T d s G here others q = elim (cases_dots q d) [
-  | inl same ↦ subst (λ (x : Dot). SlotStands U t x (map.get (map.insert T d s) x) (map.get G x)) (sym same)
+  | inl same ↦
+      subst (λ (x : Dot). SlotStands U t x (map.get (map.insert T d s) x) (map.get G x)) (sym same)
       (slot_at U t d (map.get (map.insert T d s) d) (Some s) (map.get G d) (get_here T d s) here)
   | inr ne ↦ slot_at U t q (map.get (map.insert T d s) q) (map.get T q) (map.get G q)
       (by_dot (λ o. o ≡ map.get T q) T d s q (λ same. absurd (ne same)) refl) (others q ne)
@@ -108,8 +127,10 @@ pub mark_stands : (P : StoreFields) (U F G : FactSet) (horizon : ℕ) (d : Dot)
 mark_stands P U F G horizon d may here others S =
     slot_put U (max P.horizon horizon) P.slots d Skipped G
     (here, may_more U U (itself U) horizon (max P.horizon horizon) (omega arith) d may)
-    (λ q ne. subst (λ (f : Option Body). SlotStands U (max P.horizon horizon) q (map.get P.slots q) f) (sym (others q ne))
-    (slot_more U U (itself U) P.horizon (max P.horizon horizon) (omega arith) q (map.get P.slots q) (map.get F q) (S q)))
+    (λ q ne. subst (λ (f : Option Body).
+    SlotStands U (max P.horizon horizon) q (map.get P.slots q) f) (sym (others q ne))
+    (slot_more U U (itself U) P.horizon (max P.horizon horizon) (omega arith) q (map.get P.slots q)
+    (map.get F q) (S q)))
 
 -- a fact that is made, or taken in at an unknown dot
 pub fact_stands : (P : StoreFields) (U F G : FactSet) (d : Dot) (b : Body) → map.get U d ≡ Some b
@@ -117,16 +138,20 @@ pub fact_stands : (P : StoreFields) (U F G : FactSet) (d : Dot) (b : Body) → m
     → StandsFor (with_fact P d b) U G
 fact_stands P U F G d b made here others S =
     slot_put U P.horizon P.slots d (Held b) G (here, made)
-    (λ q ne. subst (λ (f : Option Body). SlotStands U P.horizon q (map.get P.slots q) f) (sym (others q ne)) (S q))
+    (λ q ne. subst (λ (f : Option Body). SlotStands U P.horizon q (map.get P.slots q) f)
+    (sym (others q ne)) (S q))
 
 -- a fact that is dropped at a skipped dot changes nothing
 pub drop_stands : (P : StoreFields) (U F G : FactSet) (d : Dot) → is_skipped P.slots d ≡ true
     → map.get G d ≡ map.get U d → ((q : Dot) → q ≢ d → map.get G q ≡ map.get F q) → StandsFor P U F
     → StandsFor P U G
 drop_stands P U F G d skipped here others S q = elim (cases_dots q d) [
-  | inl same ↦ subst (λ (x : Dot). SlotStands U P.horizon x (map.get P.slots x) (map.get G x)) (sym same)
-      (subst (λ (f : Option Body). SlotStands U P.horizon d (map.get P.slots d) f) (at_skipped P U F S d skipped ∙ sym here) (S d))
-  | inr ne ↦ subst (λ (f : Option Body). SlotStands U P.horizon q (map.get P.slots q) f) (sym (others q ne)) (S q)
+  | inl same ↦
+      subst (λ (x : Dot). SlotStands U P.horizon x (map.get P.slots x) (map.get G x)) (sym same)
+      (subst (λ (f : Option Body). SlotStands U P.horizon d (map.get P.slots d) f)
+      (at_skipped P U F S d skipped ∙ sym here) (S d))
+  | inr ne ↦ subst (λ (f : Option Body). SlotStands U P.horizon q (map.get P.slots q) f)
+      (sym (others q ne)) (S q)
 ]
 
 -- ---- soundness of all facts made is kept by one more
@@ -155,17 +180,26 @@ module _ (U V : FactSet) (d : Dot) (b : Body) (A : AddsOne U d b V) (sound : Are
   parent_old : (e p : Dot) → e ≢ d → IsParent (links_in (map.get V)) e p → p ≢ d
   parent_old e p ne a same =
       let by = parent_use (links_in (map.get V)) e p a in
-      let u : use_of (links_in (map.get U) e) ≡ Some by.0 = ap use_of (sym (links_old e ne)) ∙ by.1 in
+      let u : use_of (links_in (map.get U) e) ≡ Some by.0 =
+      ap use_of (sym (links_old e ne)) ∙ by.1 in
       let free : map.get U by.0.dot ≡ None = ap (map.get U) (by.2 ∙ same) ∙ A.free in
       let old = sound.parents e by.0 u in
-      none_some (links_in (map.get U) by.0.dot) old.above (ap (option_and_then link_of) free) old.there
+      none_some (links_in (map.get U) by.0.dot) old.above (ap (option_and_then link_of) free)
+      old.there
 
   trail_old : (q : Dot) (ps : List Dot) (c : Dot) → q ≢ d → IsTrail (links_in (map.get V)) q ps c
       → IsTrail (links_in (map.get U)) q ps c
   trail_old q [] c ne m = m
   trail_old q (p ∷ ps) c ne m =
       let other : p ≢ d = parent_old q p ne m.0 in (
-        record { link = m.0.link; above = m.0.above; here = sym (links_old q ne) ∙ m.0.here; names = m.0.names; there = sym (links_old p other) ∙ m.0.there; fitting = m.0.fitting },
+        record {
+          link = m.0.link;
+          above = m.0.above;
+          here = sym (links_old q ne) ∙ m.0.here;
+          names = m.0.names;
+          there = sym (links_old p other) ∙ m.0.there;
+          fitting = m.0.fitting;
+        },
         trail_old p ps c other m.1,
       )
 
@@ -179,7 +213,8 @@ module _ (U V : FactSet) (d : Dot) (b : Body) (A : AddsOne U d b V) (sound : Are
   anchor_old q ne = by (map.get U q) refl
     where
       refreshed : (p : Dot) → links_in (map.get U) p ≢ None → p ≢ d
-      refreshed p some same = some (ap (links_in (map.get U)) same ∙ ap (option_and_then link_of) A.free)
+      refreshed p some same =
+          some (ap (links_in (map.get U)) same ∙ ap (option_and_then link_of) A.free)
 
       by : (o : Option Body) → map.get U q ≡ o → anchor_by q o ≢ d
       by None at = ne
@@ -191,7 +226,11 @@ module _ (U V : FactSet) (d : Dot) (b : Body) (A : AddsOne U d b V) (sound : Are
       → IsUnder (links_in (map.get U)) q c
   under_old q c ne under =
       let away : c ≢ d = root_old q under.path c ne under.leads.0 in
-      record { path = under.path; leads = (trail_old q under.path c ne under.leads.0, sym (links_old c away) ∙ under.leads.1) }
+      record {
+        path = under.path;
+        leads =
+            (trail_old q under.path c ne under.leads.0, sym (links_old c away) ∙ under.leads.1);
+      }
 
   pub sound_stays : MeetsFamily U d V → AreSound V
   sound_stays meets = record {
@@ -199,24 +238,33 @@ module _ (U V : FactSet) (d : Dot) (b : Body) (A : AddsOne U d b V) (sound : Are
       | inl same ↦ meets.cut k m c code same other minted under is
       | inr ne ↦
           let a : Dot = anchor_in (map.get U) k.dot in
-          let old : IsUnder (links_in (map.get V)) a c = subst (λ (x : Dot). IsUnder (links_in (map.get V)) x c) (ap (anchor_by k.dot) (A.others k.dot ne)) under in
+          let old : IsUnder (links_in (map.get V)) a c =
+          subst (λ (x : Dot). IsUnder (links_in (map.get V)) x c)
+          (ap (anchor_by k.dot) (A.others k.dot ne)) under in
           let away : c ≢ d = root_old a old.path c (anchor_old k.dot ne) old.leads.0 in
           sound.ends k m c code other
-          (ap (option_and_then (λ (x : Body). minted_of x k.kind)) (sym (A.others k.dot ne)) ∙ minted)
+          (ap (option_and_then (λ (x : Body). minted_of x k.kind)) (sym (A.others k.dot ne))
+          ∙ minted)
           (under_old a c (anchor_old k.dot ne) old)
           (ap (option_and_then issued_in) (sym (A.others c away)) ∙ is)
     ];
     parents = λ e k u. elim (cases_dots e d) [
-      | inl same ↦ subst (λ (x : Dot). IsParent (links_in (map.get V)) x k.dot) (sym same) (meets.parent k (subst (λ (x : Dot). use_of (links_in (map.get V) x) ≡ Some k) same u))
-      | inr ne ↦ IsParent-within (links_in (map.get U)) (links_in (map.get V)) (links-below U V part) e k.dot (sound.parents e k (ap use_of (sym (links_old e ne)) ∙ u))
+      | inl same ↦ subst (λ (x : Dot). IsParent (links_in (map.get V)) x k.dot) (sym same)
+          (meets.parent k (subst (λ (x : Dot). use_of (links_in (map.get V) x) ≡ Some k) same u))
+      | inr ne ↦ IsParent-within (links_in (map.get U)) (links_in (map.get V))
+          (links-below U V part) e k.dot (sound.parents e k (ap use_of (sym (links_old e ne)) ∙ u))
     ];
     reuses = λ e reuse at. elim (cases_dots e d) [
-      | inl same ↦ minted_more U V part reuse.token (minted_in (map.get U) reuse.token) refl (meets.reused reuse (ap (map.get V) (sym same) ∙ at))
-      | inr ne ↦ minted_more U V part reuse.token (minted_in (map.get U) reuse.token) refl (sound.reuses e reuse (sym (A.others e ne) ∙ at))
+      | inl same ↦ minted_more U V part reuse.token (minted_in (map.get U) reuse.token) refl
+          (meets.reused reuse (ap (map.get V) (sym same) ∙ at))
+      | inr ne ↦ minted_more U V part reuse.token (minted_in (map.get U) reuse.token) refl
+          (sound.reuses e reuse (sym (A.others e ne) ∙ at))
     ];
     refreshed = λ e f at. elim (cases_dots e d) [
-      | inl same ↦ link_more U V part f.parent (links_in (map.get U) f.parent) refl (meets.refreshed f (ap (map.get V) (sym same) ∙ at))
-      | inr ne ↦ link_more U V part f.parent (links_in (map.get U) f.parent) refl (sound.refreshed e f (sym (A.others e ne) ∙ at))
+      | inl same ↦ link_more U V part f.parent (links_in (map.get U) f.parent) refl
+          (meets.refreshed f (ap (map.get V) (sym same) ∙ at))
+      | inr ne ↦ link_more U V part f.parent (links_in (map.get U) f.parent) refl
+          (sound.refreshed e f (sym (A.others e ne) ∙ at))
     ];
   }
     where

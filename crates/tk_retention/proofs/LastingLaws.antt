@@ -49,8 +49,11 @@ module _ (P : StoreFields) (U F : FactSet) (S : StandsFor P U F) where
   pub any_lasting : (p : Dot × Body → Bool)
       → ((d : Dot) (b : Body) → p (d, b) ≡ true → kept_for d b ≡ None) → any_fact p H ≡ any_fact p F
   any_lasting p lasts = same_tests (any_fact p H) (any_fact p F)
-      (λ h. (let x : Passing p H = any_fact-held p H h in any_fact-of p F x.dot x.body (held_part P U F S x.dot x.body x.held) x.passes))
-      (λ h. (let x : Passing p F = any_fact-held p F h in any_fact-of p H x.dot x.body (lasting_held P U F S x.dot x.body (lasts x.dot x.body x.passes) x.held) x.passes))
+      (λ h. (let x : Passing p H = any_fact-held p H h in
+      any_fact-of p F x.dot x.body (held_part P U F S x.dot x.body x.held) x.passes))
+      (λ h. (let x : Passing p F = any_fact-held p F h in
+      any_fact-of p H x.dot x.body
+      (lasting_held P U F S x.dot x.body (lasts x.dot x.body x.passes) x.held) x.passes))
 
   none_of : {A : Type 0} (f : Body → Option A) (o : Option A) (b : Body) → f b ≡ o
       → ((y : A) → f b ≡ Some y → ⊥) → f b ≡ None
@@ -64,8 +67,10 @@ module _ (P : StoreFields) (U F : FactSet) (S : StandsFor P U F) where
   at_lasting f lasts d = elim (cases_Bool (is_skipped P.slots d)) [
     | inl skipped ↦
         let may = may_skip P U F S d skipped in
-        let none : f may.fact ≡ None = none_of f (f may.fact) may.fact refl (λ y h. none_some (kept_for d may.fact) may.token (lasts d may.fact y h) may.kept) in
-        ap (option_and_then f) (apart P U F S d skipped) ∙ sym (ap (option_and_then f) (at_skipped P U F S d skipped ∙ may.here) ∙ none)
+        let none : f may.fact ≡ None = none_of f (f may.fact) may.fact refl
+        (λ y h. none_some (kept_for d may.fact) may.token (lasts d may.fact y h) may.kept) in
+        ap (option_and_then f) (apart P U F S d skipped)
+        ∙ sym (ap (option_and_then f) (at_skipped P U F S d skipped ∙ may.here) ∙ none)
     | inr held ↦ ap (option_and_then f) (sym (at_held P U F S d held))
   ]
 
@@ -107,6 +112,7 @@ module _ (P : StoreFields) (U F : FactSet) (S : StandsFor P U F) where
     client_kind = c.client_kind;
     scope = c.scope;
     redirects = c.redirects;
+    lives = c.lives;
     live = live_client_same d i;
   }) (client_same d i)
 
@@ -119,10 +125,20 @@ module _ (P : StoreFields) (U F : FactSet) (S : StandsFor P U F) where
   }) (consent_same d i)
 
   withdrawal_up : (d : Dot) → IsWithdrawn (map.get H) d → IsWithdrawn (map.get F) d
-  withdrawal_up d x = record { place = x.place; withdrawal = x.withdrawal; held = held_part P U F S x.place (body.ConsentWithdrawn x.withdrawal) x.held; names = x.names }
+  withdrawal_up d x = record {
+    place = x.place;
+    withdrawal = x.withdrawal;
+    held = held_part P U F S x.place (body.ConsentWithdrawn x.withdrawal) x.held;
+    names = x.names;
+  }
 
   withdrawal_down : (d : Dot) → IsWithdrawn (map.get F) d → IsWithdrawn (map.get H) d
-  withdrawal_down d x = record { place = x.place; withdrawal = x.withdrawal; held = lasting_held P U F S x.place (body.ConsentWithdrawn x.withdrawal) refl x.held; names = x.names }
+  withdrawal_down d x = record {
+    place = x.place;
+    withdrawal = x.withdrawal;
+    held = lasting_held P U F S x.place (body.ConsentWithdrawn x.withdrawal) refl x.held;
+    names = x.names;
+  }
 
   consent_up : (client : Dot) (subject scope : List ℕ) (d : Dot)
       → IsConsentFor (map.get H) client subject scope d
@@ -156,11 +172,15 @@ module _ (P : StoreFields) (U F : FactSet) (S : StandsFor P U F) where
       → IsLeastConsent (map.get H) client subject scope o
       → IsLeastConsent (map.get F) client subject scope o
   least_up client subject scope None h = λ d x. h d (consent_down client subject scope d x)
-  least_up client subject scope (Some d) h = (consent_up client subject scope d h.0, λ q x. h.1 q (consent_down client subject scope q x))
+  least_up client subject scope (Some d) h =
+      (consent_up client subject scope d h.0, λ q x. h.1 q (consent_down client subject scope q x))
 
   pub consent_for_same : (client : Dot) (subject scope : List ℕ)
       → consent_for H client subject scope ≡ consent_for F client subject scope
-  consent_for_same client subject scope = first_is F client subject scope (consent_for H client subject scope) (least_up client subject scope (consent_for H client subject scope) (least_consent H client subject scope))
+  consent_for_same client subject scope = first_is F client subject scope
+      (consent_for H client subject scope)
+      (least_up client subject scope (consent_for H client subject scope)
+      (least_consent H client subject scope))
 
   pub signed_out_same : (subject : List ℕ) (moment : ℕ)
       → is_signed_out H subject moment ≡ is_signed_out F subject moment
@@ -175,7 +195,8 @@ module _ (P : StoreFields) (U F : FactSet) (S : StandsFor P U F) where
       → is_revoked H k digest client ≡ true → is_revoked F k digest client ≡ true
   revoked_up k digest client h =
       let x : Passing (revokes k digest client) H = any_fact-held (revokes k digest client) H h in
-      any_fact-of (revokes k digest client) F x.dot x.body (held_part P U F S x.dot x.body x.held) x.passes
+      any_fact-of (revokes k digest client) F x.dot x.body (held_part P U F S x.dot x.body x.held)
+      x.passes
 
   -- ---- the sender of a request
 
@@ -191,4 +212,6 @@ module _ (P : StoreFields) (U F : FactSet) (S : StandsFor P U F) where
 
   pub caller_same : (names : List (List ℕ)) (request : RequestFields)
       → caller_of H names request ≡ caller_of F names request
-  caller_same names request = ap (λ (x : Caller). cond (has_twice names request.params) DuplicateParameter x) (caller_by_same (presented_in request.authorization request.params))
+  caller_same names request = ap (λ (x : Caller).
+      cond (has_twice names request.params) DuplicateParameter x)
+      (caller_by_same (presented_in request.authorization request.params))

@@ -1,9 +1,12 @@
+pub mod DeathStandingLaws
 pub mod DecisionLaws
+pub mod EarlyRevocationLaws
 pub mod KeepingLaws
 pub mod LastingLaws
 pub mod MadeLaws
 pub mod OverLaws
 pub mod SliceStands
 pub mod StandingLaws
+pub mod StatusParts
 pub mod StatusStandsLaws
 pub mod WholeStatus

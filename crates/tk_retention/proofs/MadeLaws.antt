@@ -69,20 +69,29 @@ revoking_within : (F : FactSet) (o : Option Body) → IfSome o Revoking → IfSo
 revoking_within F None revoking = tt
 revoking_within F (Some b) revoking = subst (IsWithin F) (sym revoking.1) tt
 
-module _ (P : StoreFields) (place : Place) (now : ℕ) (words : List ℕ) (request : RequestFields) where
-  administered : MakesWithin (held_facts P) (decision_by endpoint.AddClient P place now words request)
-  administered = alone_within (held_facts P) (decision_by endpoint.AddClient P place now words request).made (administers_alone (held_facts P) place now request)
+module _ (P : StoreFields) (place : Place) (now : ℕ) (words : List ℕ)
+    (request : RequestFields) where
+  administered : MakesWithin (held_facts P)
+      (decision_by endpoint.AddClient P place now words request)
+  administered = alone_within (held_facts P)
+      (decision_by endpoint.AddClient P place now words request).made
+      (administers_alone (held_facts P) place now request)
 
   -- each decision makes a fact that is within its family, if it makes one
   made_within : (e : Endpoint)
       → MakesWithin (held_facts P) (decision_by e P place now words request)
-  made_within endpoint.Authorize = alone_within (held_facts P) (decision_by endpoint.Authorize P place now words request).made (authorizes_alone (held_facts P) place now words request)
+  made_within endpoint.Authorize = alone_within (held_facts P)
+      (decision_by endpoint.Authorize P place now words request).made
+      (authorizes_alone (held_facts P) place now words request)
   made_within endpoint.Token = grants_within P place now words request
   made_within endpoint.Introspect = tt
-  made_within endpoint.Revoke = revoking_within (held_facts P) (decision_by endpoint.Revoke P place now words request).made (revokes_alone P place now request)
+  made_within endpoint.Revoke = revoking_within (held_facts P)
+      (decision_by endpoint.Revoke P place now words request).made
+      (revokes_alone P place now request)
   made_within endpoint.AddClient = administered
   made_within endpoint.ShowClient = administered
-  made_within endpoint.ListClients = subst (λ (o : Option Body). IfSome o (IsWithin (held_facts P))) (sym (lists_alone (held_facts P) request.params)) tt
+  made_within endpoint.ListClients = subst (λ (o : Option Body). IfSome o (IsWithin (held_facts P)))
+      (sym (lists_alone (held_facts P) request.params)) tt
   made_within endpoint.Retire = administered
   made_within endpoint.Consent = administered
   made_within endpoint.Withdraw = administered
@@ -100,7 +109,9 @@ module _ (P : StoreFields) (place : Place) (now : ℕ) (words : List ℕ) (reque
   prepares_within : (cap : ℕ) (d : Decision) → MakesWithin (held_facts P) d
       → IfSome (prepared_by cap place d).fact (λ f. IsWithin (held_facts P) f.1)
   prepares_within cap d within =
-      elim (is_some d.made && nat_lt cap place.next) as (λ t. IfSome (prepared_at (next_in place) (cond t (refused TemporarilyUnavailable) d)).fact (λ f. IsWithin (held_facts P) f.1)) [
+      elim (is_some d.made && nat_lt cap place.next) as
+      (λ t. IfSome (prepared_at (next_in place) (cond t (refused TemporarilyUnavailable) d)).fact
+      (λ f. IsWithin (held_facts P) f.1)) [
         | true ↦ tt
         | false ↦ prepares_at d within
       ]
@@ -140,11 +151,15 @@ module _ (F U V : FactSet) (d : Dot) (b : Body) (part : IsSubset F U) (adds : Ad
     where
       by : (ps : List Dot) → IsPath (links_in (map.get V)) d ps c
           → IsUnder (links_in (map.get V)) p c
-      by [] leads = absurd (other (some_injective l Code (sym is ∙ sym link_here ∙ ap (links_in (map.get V)) leads.0 ∙ leads.1)))
+      by [] leads = absurd
+          (other (some_injective l Code
+          (sym is ∙ sym link_here ∙ ap (links_in (map.get V)) leads.0 ∙ leads.1)))
       by (q ∷ ps) leads =
-          let same : leads.0.0.link ≡ l = some_injective leads.0.0.link l (sym leads.0.0.here ∙ link_here ∙ is) in
+          let same : leads.0.0.link ≡ l =
+          some_injective leads.0.0.link l (sym leads.0.0.here ∙ link_here ∙ is) in
           let here : q ≡ p = some_injective q p (sym leads.0.0.names ∙ ap named_by same ∙ names) in
-          subst (λ (x : Dot). IsUnder (links_in (map.get V)) x c) here (record { path = ps; leads = (leads.0.1, leads.1) })
+          subst (λ (x : Dot). IsUnder (links_in (map.get V)) x c) here
+          (record { path = ps; leads = (leads.0.1, leads.1) })
 
   code_itself : (c : Dot) (code : issued.CodeIssued) → issued_at (map.get F) c ≡ Some code
       → IsUnder (links_in (map.get V)) c c
@@ -153,35 +168,48 @@ module _ (F U V : FactSet) (d : Dot) (b : Body) (part : IsSubset F U) (adds : Ad
   -- the family of what is above ends at the moment
   ends_by : (p root c : Dot) (moment : ℕ) (code : issued.CodeIssued)
       → IsUnder (links_in (map.get V)) p root → IsCodeOf F root moment
-      → IsUnder (links_in (map.get V)) p c → issued_at (map.get V) c ≡ Some code → moment ≡ code.family_end
+      → IsUnder (links_in (map.get V)) p c → issued_at (map.get V) c ≡ Some code
+      → moment ≡ code.family_end
   ends_by p root c moment code under of under_c issues =
       let same : c ≡ root = IsUnder-one (links_in (map.get V)) p c root under_c under in
-      let is : of.0 ≡ code = some_injective of.0 code (sym (code_grown root of.0 of.1) ∙ ap (issued_at (map.get V)) (sym same) ∙ issues) in
+      let is : of.0 ≡ code = some_injective of.0 code
+      (sym (code_grown root of.0 of.1) ∙ ap (issued_at (map.get V)) (sym same) ∙ issues) in
       of.2 ∙ ap (λ (x : issued.CodeIssued). x.family_end) is
 
   minted_here : (k : TokenId) → k.dot ≡ d → minted_in (map.get V) k ≡ minted_of b k.kind
-  minted_here k same = ap (λ (q : Dot). option_and_then (λ (x : Body). minted_of x k.kind) (map.get V q)) same ∙ ap (option_and_then (λ (x : Body). minted_of x k.kind)) adds.here
+  minted_here k same = ap (λ (q : Dot).
+      option_and_then (λ (x : Body). minted_of x k.kind) (map.get V q)) same
+      ∙ ap (option_and_then (λ (x : Body). minted_of x k.kind)) adds.here
 
   ends_within : (b' : Body) (access refresh : ℕ) (k : Kind) (m : MintedFields) (moment : ℕ)
       → k ≢ kind.Code
-      → ((x : MintedFields) → minted_of b' kind.Access ≡ Some x → x.expiry ≡ access) → ((x : MintedFields) → minted_of b' kind.Refresh ≡ Some x → x.expiry ≡ refresh)
+      → ((x : MintedFields) → minted_of b' kind.Access ≡ Some x → x.expiry ≡ access)
+      → ((x : MintedFields) → minted_of b' kind.Refresh ≡ Some x → x.expiry ≡ refresh)
       → access ≤ moment → refresh ≤ moment → minted_of b' k ≡ Some m → m.expiry ≤ moment
   ends_within b' access refresh kind.Code m moment other a r x y h = absurd (other refl)
-  ends_within b' access refresh kind.Access m moment other a r x y h = subst (λ n. n ≤ moment) (sym (a m h)) x
-  ends_within b' access refresh kind.Refresh m moment other a r x y h = subst (λ n. n ≤ moment) (sym (r m h)) y
+  ends_within b' access refresh kind.Access m moment other a r x y h =
+      subst (λ n. n ≤ moment) (sym (a m h)) x
+  ends_within b' access refresh kind.Refresh m moment other a r x y h =
+      subst (λ n. n ≤ moment) (sym (r m h)) y
 
 -- a fact that mints codes alone, and uses and refreshes nothing; a reuse is of what was minted
 abbrev Alone : FactSet → Body → Type 0
 Alone U b = ((k : Kind) → k ≢ kind.Code → minted_of b k ≡ None) × (use_of (link_of b) ≡ None)
-    × ((reuse : seen.ReuseSeen) → b ≡ body.ReuseSeen reuse → minted_in (map.get U) reuse.token ≢ None)
+    × ((reuse : seen.ReuseSeen) → b ≡ body.ReuseSeen reuse
+    → minted_in (map.get U) reuse.token ≢ None)
     × ((f : renewed.AccessRefreshed) → b ≡ body.AccessRefreshed f → ⊥)
 
 alone_meets : (U V : FactSet) (d : Dot) (b : Body) → AddsOne U d b V → Alone U b → MeetsFamily U d V
 alone_meets U V d b adds alone = record {
-  cut = λ k m c code same other minted under issues. absurd (none_is_not_some m (sym (alone.0 k.kind other) ∙ sym (minted_here U U V d b (λ q x h. h) adds k same) ∙ minted));
-  parent = λ k u. absurd (none_is_not_some k (sym alone.1 ∙ ap use_of (sym (link_here U U V d b (λ q x h. h) adds)) ∙ u));
+  cut = λ k m c code same other minted under issues.
+      absurd (none_is_not_some m
+      (sym (alone.0 k.kind other) ∙ sym (minted_here U U V d b (λ q x h. h) adds k same) ∙ minted));
+  parent = λ k u. absurd
+      (none_is_not_some k
+      (sym alone.1 ∙ ap use_of (sym (link_here U U V d b (λ q x h. h) adds)) ∙ u));
   reused = λ reuse at. alone.2 reuse (some_injective b (body.ReuseSeen reuse) (sym adds.here ∙ at));
-  refreshed = λ f at. absurd (alone.3 f (some_injective b (body.AccessRefreshed f) (sym adds.here ∙ at)));
+  refreshed =
+      λ f at. absurd (alone.3 f (some_injective b (body.AccessRefreshed f) (sym adds.here ∙ at)));
 }
 
 codes_alone : (U : FactSet) (f : issued.CodeIssued) → Alone U (body.CodeIssued f)
@@ -200,13 +228,20 @@ meets F U V d (body.CodeRedeemed f) part adds within =
     record {
       cut = λ k m c code same other minted under_k issues.
           let under = anchored F U V d b part adds k.dot c same under_k in
-          let up = above_code F U V d b part adds (Redeems f.code) f.code c refl (λ e. no_code e) refl under in
-          let moment : within.0 ≡ code.family_end = ends_by F U V d b part adds f.code f.code c within.0 code (code_itself F U V d b part adds f.code of.0 of.1) of up issues in
+          let up = above_code F U V d b part adds (Redeems f.code) f.code c refl
+          (λ e. no_code e) refl under in
+          let moment : within.0 ≡ code.family_end =
+          ends_by F U V d b part adds f.code f.code c within.0 code
+          (code_itself F U V d b part adds f.code of.0 of.1) of up issues in
           subst (λ n. m.expiry ≤ n) moment
-          (ends_within F U V d b part adds b f.access.expiry f.refresh.expiry k.kind m within.0 other (λ x h. ap (λ (y : MintedFields). y.expiry) (sym (some_injective _ x h))) (λ x h. ap (λ (y : MintedFields). y.expiry) (sym (some_injective _ x h))) within.2 within.3
+          (ends_within F U V d b part adds b f.access.expiry f.refresh.expiry k.kind m within.0
+          other (λ x h. ap (λ (y : MintedFields). y.expiry) (sym (some_injective _ x h)))
+          (λ x h. ap (λ (y : MintedFields). y.expiry) (sym (some_injective _ x h))) within.2
+          within.3
           (sym (minted_here F U V d b part adds k same) ∙ minted));
       parent = λ k u.
-          let is : record { dot = f.code; kind = kind.Code } ≡ k = some_injective _ k (ap use_of (sym (link_here F U V d b part adds)) ∙ u) in
+          let is : record { dot = f.code; kind = kind.Code } ≡ k =
+          some_injective _ k (ap use_of (sym (link_here F U V d b part adds)) ∙ u) in
           subst (λ (x : TokenId). IsParent (links_in (map.get V)) d x.dot) is (record {
             link = Redeems f.code;
             above = Code;
@@ -215,8 +250,10 @@ meets F U V d (body.CodeRedeemed f) part adds within =
             there = code_link of.0 (code_grown F U V d b part adds f.code of.0 of.1);
             fitting = refl;
           });
-      reused = λ reuse at. absurd (no_reuse reuse (some_injective b (body.ReuseSeen reuse) (sym adds.here ∙ at)));
-      refreshed = λ g at. absurd (no_refresh g (some_injective b (body.AccessRefreshed g) (sym adds.here ∙ at)));
+      reused = λ reuse at.
+          absurd (no_reuse reuse (some_injective b (body.ReuseSeen reuse) (sym adds.here ∙ at)));
+      refreshed = λ g at.
+          absurd (no_refresh g (some_injective b (body.AccessRefreshed g) (sym adds.here ∙ at)));
     }
   where
     no_code : Redeems f.code ≡ Code → ⊥
@@ -245,14 +282,21 @@ meets F U V d (body.RefreshRotated f) part adds within =
     record {
       cut = λ k m c code same other minted under_k issues.
           let under = anchored F U V d b part adds k.dot c same under_k in
-          let up = above_code F U V d b part adds (Rotates f.parent f.generation) f.parent c refl (λ e. no_code e) refl under in
-          let old = IsUnder-within (links_in (map.get F)) (links_in (map.get V)) (links-below F V (grown F U V d b part adds)) f.parent root within.2 in
-          let ends : moment ≡ code.family_end = ends_by F U V d b part adds f.parent root c moment code old of up issues in
+          let up = above_code F U V d b part adds (Rotates f.parent f.generation) f.parent c refl
+          (λ e. no_code e) refl under in
+          let old = IsUnder-within (links_in (map.get F)) (links_in (map.get V))
+          (links-below F V (grown F U V d b part adds)) f.parent root within.2 in
+          let ends : moment ≡ code.family_end =
+          ends_by F U V d b part adds f.parent root c moment code old of up issues in
           subst (λ n. m.expiry ≤ n) ends
-          (ends_within F U V d b part adds b f.access.expiry f.refresh.expiry k.kind m moment other (λ x h. ap (λ (y : MintedFields). y.expiry) (sym (some_injective _ x h))) (λ x h. ap (λ (y : MintedFields). y.expiry) (sym (some_injective _ x h))) within.5 within.6
+          (ends_within F U V d b part adds b f.access.expiry f.refresh.expiry k.kind m moment other
+          (λ x h. ap (λ (y : MintedFields). y.expiry) (sym (some_injective _ x h)))
+          (λ x h. ap (λ (y : MintedFields). y.expiry) (sym (some_injective _ x h))) within.5
+          within.6
           (sym (minted_here F U V d b part adds k same) ∙ minted));
       parent = λ k u.
-          let is : record { dot = f.parent; kind = kind.Refresh } ≡ k = some_injective _ k (ap use_of (sym (link_here F U V d b part adds)) ∙ u) in
+          let is : record { dot = f.parent; kind = kind.Refresh } ≡ k =
+          some_injective _ k (ap use_of (sym (link_here F U V d b part adds)) ∙ u) in
           subst (λ (x : TokenId). IsParent (links_in (map.get V)) d x.dot) is (record {
             link = Rotates f.parent f.generation;
             above = within.0.0;
@@ -261,8 +305,10 @@ meets F U V d (body.RefreshRotated f) part adds within =
             there = links-below F V (grown F U V d b part adds) f.parent within.0.0 within.0.1;
             fitting = within.0.2;
           });
-      reused = λ reuse at. absurd (no_reuse reuse (some_injective b (body.ReuseSeen reuse) (sym adds.here ∙ at)));
-      refreshed = λ g at. absurd (no_refresh g (some_injective b (body.AccessRefreshed g) (sym adds.here ∙ at)));
+      reused = λ reuse at.
+          absurd (no_reuse reuse (some_injective b (body.ReuseSeen reuse) (sym adds.here ∙ at)));
+      refreshed = λ g at.
+          absurd (no_refresh g (some_injective b (body.AccessRefreshed g) (sym adds.here ∙ at)));
     }
   where
     no_code : Rotates f.parent f.generation ≡ Code → ⊥
@@ -281,22 +327,29 @@ meets F U V d (body.AccessRefreshed f) part adds within =
     record {
       cut = λ k m c code same other minted under_k issues.
           let up = anchored F U V d b part adds k.dot c same under_k in
-          let old = IsUnder-within (links_in (map.get F)) (links_in (map.get V)) (links-below F V (grown F U V d b part adds)) f.parent root within.3 in
-          let ends : moment ≡ code.family_end = ends_by F U V d b part adds f.parent root c moment code old of up issues in
+          let old = IsUnder-within (links_in (map.get F)) (links_in (map.get V))
+          (links-below F V (grown F U V d b part adds)) f.parent root within.3 in
+          let ends : moment ≡ code.family_end =
+          ends_by F U V d b part adds f.parent root c moment code old of up issues in
           subst (λ n. m.expiry ≤ n) ends
-          (by k.kind m moment other within.6 (sym (minted_here F U V d b part adds k same) ∙ minted));
-      parent = λ k u. absurd (none_is_not_some k (ap use_of (sym (link_here F U V d b part adds)) ∙ u));
-      reused = λ reuse at. absurd (no_reuse reuse (some_injective b (body.ReuseSeen reuse) (sym adds.here ∙ at)));
+          (by k.kind m moment other within.6
+          (sym (minted_here F U V d b part adds k same) ∙ minted));
+      parent =
+          λ k u. absurd (none_is_not_some k (ap use_of (sym (link_here F U V d b part adds)) ∙ u));
+      reused = λ reuse at.
+          absurd (no_reuse reuse (some_injective b (body.ReuseSeen reuse) (sym adds.here ∙ at)));
       refreshed = λ g at.
           let is : f ≡ g = one g (some_injective b (body.AccessRefreshed g) (sym adds.here ∙ at)) in
           subst (λ (x : renewed.AccessRefreshed). links_in (map.get U) x.parent ≢ None) is
-          (some_known (links_in (map.get U) f.parent) within.0 (links-below F U part f.parent within.0 within.1));
+          (some_known (links_in (map.get U) f.parent) within.0
+          (links-below F U part f.parent within.0 within.1));
     }
   where
     by : (k : Kind) (m : MintedFields) (moment : ℕ) → k ≢ kind.Code → f.access.expiry ≤ moment
         → minted_of (body.AccessRefreshed f) k ≡ Some m → m.expiry ≤ moment
     by kind.Code m moment other early h = absurd (other refl)
-    by kind.Access m moment other early h = subst (λ n. n ≤ moment) (ap (λ (y : MintedFields). y.expiry) (some_injective _ m h)) early
+    by kind.Access m moment other early h =
+        subst (λ n. n ≤ moment) (ap (λ (y : MintedFields). y.expiry) (some_injective _ m h)) early
     by kind.Refresh m moment other early h = absurd (none_is_not_some m h)
 
     no_reuse : (reuse : seen.ReuseSeen) → body.AccessRefreshed f ≡ body.ReuseSeen reuse → ⊥
@@ -304,25 +357,37 @@ meets F U V d (body.AccessRefreshed f) part adds within =
 
     one : (g : renewed.AccessRefreshed) → body.AccessRefreshed f ≡ body.AccessRefreshed g → f ≡ g
     one g e = cc
-meets F U V d (body.CodeIssued f) part adds within = alone_meets U V d (body.CodeIssued f) adds (codes_alone U f)
+meets F U V d (body.CodeIssued f) part adds within =
+    alone_meets U V d (body.CodeIssued f) adds (codes_alone U f)
 meets F U V d (body.ReuseSeen f) part adds within = alone_meets U V d (body.ReuseSeen f) adds (
   λ k other. refl,
   refl,
   λ reuse same.
       let is : f ≡ reuse = cc in
-      subst (λ (x : seen.ReuseSeen). minted_in (map.get U) x.token ≢ None) is (minted_more F U part f.token (minted_in (map.get F) f.token) refl within),
+      subst (λ (x : seen.ReuseSeen). minted_in (map.get U) x.token ≢ None) is
+      (minted_more F U part f.token (minted_in (map.get F) f.token) refl within),
   λ g same. cc,
 )
-meets F U V d b part adds within = alone_meets U V d b adds (λ k other. refl, refl, λ reuse same. absurd (cc), λ g same. cc)
+meets F U V d b part adds within =
+    alone_meets U V d b adds (λ k other. refl, refl, λ reuse same. absurd (cc), λ g same. cc)
 
 -- a fact that a region makes ends with its family, and names what was minted for it
-pub made_meets : (r : RegionFields) (U V : FactSet) (now : ℕ) (words : List ℕ) (request : RequestFields)
+pub made_meets : (r : RegionFields) (U V : FactSet) (now : ℕ) (words : List ℕ)
+    (request : RequestFields)
     → IsSubset (held_facts r.facts) U
     → IfSome (prepared_of r now words request).fact (λ f. AddsOne U f.0 f.1 V → MeetsFamily U f.0 V)
 made_meets r U V now words request part =
-    elim (nat_lt now r.facts.horizon) as (λ t. IfSome (cond t (early_in (place_in r)) (prepared_by r.settings.cap (place_in r) (decision_by request.endpoint r.facts (place_in r) now words request))).fact (λ f. AddsOne U f.0 f.1 V → MeetsFamily U f.0 V)) [
+    elim (nat_lt now r.facts.horizon) as
+    (λ t. IfSome
+    (cond t (early_in (place_in r))
+    (prepared_by r.settings.cap (place_in r)
+    (decision_by request.endpoint r.facts (place_in r) now words request))).fact (λ f.
+    AddsOne U f.0 f.1 V → MeetsFamily U f.0 V)) [
       | true ↦ tt
-      | false ↦ by _ (prepares_within r.facts (place_in r) now words request r.settings.cap (decision_by request.endpoint r.facts (place_in r) now words request) (made_within r.facts (place_in r) now words request request.endpoint))
+      | false ↦ by _
+          (prepares_within r.facts (place_in r) now words request r.settings.cap
+          (decision_by request.endpoint r.facts (place_in r) now words request)
+          (made_within r.facts (place_in r) now words request request.endpoint))
     ]
   where
     by : (o : Option (Dot × Body)) → IfSome o (λ f. IsWithin (held_facts r.facts) f.1)

@@ -29,7 +29,7 @@ use Rattle.tk_ledger.specs.Bodies.{Bodies}
 use Rattle.tk_ledger.specs.Retention.{IsOverAt, MintsNothing, MaySkip, mints}
 use Rattle.tk_ledger.specs.Tokens.{anchor_by, anchor_in, IsMintedUnder, link_of, links_in}
 use Rattle.tk_ledger.specs.Tokens.{issued_in, issued_at}
-use Rattle.tk_ledger.proofs.RootLaws.{anchor-linked, linked}
+use Rattle.tk_ledger.proofs.RootLaws.{anchor-linked, link_under}
 use Rattle.tk_retention.specs.StandsFor.{AreSound}
 
 -- the family of the code at c is over at the moment
@@ -44,10 +44,13 @@ pub none_some : {A : Type 0} (o : Option A) (a : A) → o ≡ None → o ≡ Som
 none_some o a n s = none_is_not_some a (sym n ∙ s)
 
 -- what makes a link is kept for a token of its own
-pub kept_linked : (d : Dot) (b : Body) (l : Link) (k : TokenId) → link_of b ≡ Some l → kept_for d b ≡ Some k → k.dot ≡ d
+pub kept_linked : (d : Dot) (b : Body) (l : Link) (k : TokenId) → link_of b ≡ Some l
+    → kept_for d b ≡ Some k → k.dot ≡ d
 kept_linked d (body.CodeIssued c) l k h e = ap (λ (x : TokenId). x.dot) (sym (some_injective _ k e))
-kept_linked d (body.CodeRedeemed r) l k h e = ap (λ (x : TokenId). x.dot) (sym (some_injective _ k e))
-kept_linked d (body.RefreshRotated r) l k h e = ap (λ (x : TokenId). x.dot) (sym (some_injective _ k e))
+kept_linked d (body.CodeRedeemed r) l k h e =
+    ap (λ (x : TokenId). x.dot) (sym (some_injective _ k e))
+kept_linked d (body.RefreshRotated r) l k h e =
+    ap (λ (x : TokenId). x.dot) (sym (some_injective _ k e))
 kept_linked d b l k h e = absurd (none_is_not_some l h)
 
 pub grant_dot : (d : Dot) (l : Link) → (grant_at d l).dot ≡ d
@@ -60,11 +63,14 @@ used_named Code k h = absurd (none_is_not_some k h)
 used_named (Redeems c) k h = ap (λ (x : TokenId). Some x.dot) (some_injective _ k h)
 used_named (Rotates p g) k h = ap (λ (x : TokenId). Some x.dot) (some_injective _ k h)
 
-pub use_named : (o : Option Link) (k : TokenId) (l : Link) (p : Dot) → use_of o ≡ Some k → o ≡ Some l → named_by l ≡ Some p → k.dot ≡ p
+pub use_named : (o : Option Link) (k : TokenId) (l : Link) (p : Dot) → use_of o ≡ Some k
+    → o ≡ Some l → named_by l ≡ Some p → k.dot ≡ p
 use_named None k l p u e n = absurd (none_is_not_some k u)
-use_named (Some m) k l p u e n = some_injective k.dot p (sym (used_named m k u) ∙ ap named_by (some_injective m l e) ∙ n)
+use_named (Some m) k l p u e n =
+    some_injective k.dot p (sym (used_named m k u) ∙ ap named_by (some_injective m l e) ∙ n)
 
-pub link_from : (o : Option Body) (b : Body) → o ≡ Some b → (l : Link) → option_and_then link_of o ≡ Some l → link_of b ≡ Some l
+pub link_from : (o : Option Body) (b : Body) → o ≡ Some b → (l : Link)
+    → option_and_then link_of o ≡ Some l → link_of b ≡ Some l
 link_from o b h l e = sym (ap (option_and_then link_of) h) ∙ e
 
 pub used_link : (o : Option Link) (k : TokenId) → use_of o ≡ Some k → (l : Link) × (o ≡ Some l)
@@ -74,15 +80,19 @@ used_link (Some l) k h = (l, refl)
 pub under_at : (f : Links) (d e c : Dot) → d ≡ e → IsUnder f d c → IsUnder f e c
 under_at f d e c same u = subst (λ (q : Dot). IsUnder f q c) same u
 
-pub over_at : (U : FactSet) (t : ℕ) (b c : Dot) (code : issued.CodeIssued) → b ≡ c → issued_at (map.get U) b ≡ Some code → code.family_end ≤ t → IsOver U t c
-over_at U t b c code same is over = subst (λ (q : Dot). IsOver U t q) same (record { code = code; is = is; over = over })
+pub over_at : (U : FactSet) (t : ℕ) (b c : Dot) (code : issued.CodeIssued) → b ≡ c
+    → issued_at (map.get U) b ≡ Some code → code.family_end ≤ t → IsOver U t c
+over_at U t b c code same is over =
+    subst (λ (q : Dot). IsOver U t q) same (record { code = code; is = is; over = over })
 
-issues_link : (o : Option Body) (code : issued.CodeIssued) → option_and_then issued_in o ≡ Some code → option_and_then link_of o ≡ Some Code
+issues_link : (o : Option Body) (code : issued.CodeIssued) → option_and_then issued_in o ≡ Some code
+    → option_and_then link_of o ≡ Some Code
 issues_link None code h = absurd (none_is_not_some code h)
 issues_link (Some (body.CodeIssued c)) code h = refl
 issues_link (Some b) code h = absurd (none_is_not_some code h)
 
-pub minted_to : (body_at : Bodies) (d e c : Dot) → d ≡ e → IsMintedUnder body_at d c → IsMintedUnder body_at e c
+pub minted_to : (body_at : Bodies) (d e c : Dot) → d ≡ e → IsMintedUnder body_at d c
+    → IsMintedUnder body_at e c
 minted_to body_at d e c same u = subst (λ (q : Dot). IsMintedUnder body_at q c) same u
 
 -- what has a link mints a token
@@ -93,50 +103,67 @@ linked_mints (body.RefreshRotated f) l h = refl
 linked_mints b l h = absurd (none_is_not_some l h)
 
 -- what mints no token has no link
-pub barren_unlinked : (body_at : Bodies) (d : Dot) (l : Link) → links_in body_at d ≡ Some l → MintsNothing body_at d → ⊥
+pub barren_unlinked : (body_at : Bodies) (d : Dot) (l : Link) → links_in body_at d ≡ Some l
+    → MintsNothing body_at d → ⊥
 barren_unlinked body_at d l at none =
-    true≢false (sym (linked_mints none.fact l (link_from (body_at d) none.fact none.here l at)) ∙ none.barren)
+    true≢false
+    (sym (linked_mints none.fact l (link_from (body_at d) none.fact none.here l at)) ∙ none.barren)
 
 -- what mints no token is its own anchor
 barren_anchor : (d : Dot) (b : Body) → mints b ≡ false → anchor_of d b ≡ d
 barren_anchor d (body.AccessRefreshed f) h = absurd (true≢false h)
 barren_anchor d b h = refl
 
-pub anchor_here : (body_at : Bodies) (d : Dot) (b : Body) → body_at d ≡ Some b → anchor_in body_at d ≡ anchor_of d b
+pub anchor_here : (body_at : Bodies) (d : Dot) (b : Body) → body_at d ≡ Some b
+    → anchor_in body_at d ≡ anchor_of d b
 anchor_here body_at d b h = ap (anchor_by d) h
 
 -- where what a dot mints is under a code, its fact mints a token
-under_mints : (body_at : Bodies) (d c : Dot) → IsMintedUnder body_at d c → MintsNothing body_at d → ⊥
+under_mints : (body_at : Bodies) (d c : Dot) → IsMintedUnder body_at d c → MintsNothing body_at d
+    → ⊥
 under_mints body_at d c under none =
-    let own : anchor_in body_at d ≡ d = anchor_here body_at d none.fact none.here ∙ barren_anchor d none.fact none.barren in
+    let own : anchor_in body_at d ≡ d =
+    anchor_here body_at d none.fact none.here ∙ barren_anchor d none.fact none.barren in
     let here = under_at (links_in body_at) (anchor_in body_at d) d c own under in
-    let link = linked (links_in body_at) d c here in
+    let link = link_under (links_in body_at) d c here in
     barren_unlinked body_at d link.0 link.1 none
 
-pub minting : (body_at : Bodies) (d c : Dot) (b : Body) → body_at d ≡ Some b → IsMintedUnder body_at d c → mints b ≡ true
+pub minting : (body_at : Bodies) (d c : Dot) (b : Body) → body_at d ≡ Some b
+    → IsMintedUnder body_at d c → mints b ≡ true
 minting body_at d c b here under = elim (cases_Bool (mints b)) [
   | inl mint ↦ mint
-  | inr barren ↦ absurd (under_mints body_at d c under (record { fact = b; here = here; barren = barren }))
+  | inr barren ↦
+      absurd (under_mints body_at d c under (record { fact = b; here = here; barren = barren }))
 ]
 
 -- what is minted at a link is under the codes that the link is under
-pub minted_linked : (body_at : Bodies) (d c : Dot) (l : Link) → links_in body_at d ≡ Some l → IsMintedUnder body_at d c → IsUnder (links_in body_at) d c
-minted_linked body_at d c l at under = under_at (links_in body_at) (anchor_in body_at d) d c (anchor-linked body_at d l at) under
+pub minted_linked : (body_at : Bodies) (d c : Dot) (l : Link) → links_in body_at d ≡ Some l
+    → IsMintedUnder body_at d c → IsUnder (links_in body_at) d c
+minted_linked body_at d c l at under =
+    under_at (links_in body_at) (anchor_in body_at d) d c (anchor-linked body_at d l at) under
 
 -- what mints is kept for a token at its anchor
-pub kept_anchor : (d : Dot) (b : Body) (k : TokenId) → mints b ≡ true → kept_for d b ≡ Some k → k.dot ≡ anchor_of d b
+pub kept_anchor : (d : Dot) (b : Body) (k : TokenId) → mints b ≡ true → kept_for d b ≡ Some k
+    → k.dot ≡ anchor_of d b
 kept_anchor d (body.CodeIssued f) k h e = ap (λ (x : TokenId). x.dot) (sym (some_injective _ k e))
 kept_anchor d (body.CodeRedeemed f) k h e = ap (λ (x : TokenId). x.dot) (sym (some_injective _ k e))
-kept_anchor d (body.RefreshRotated f) k h e = ap (λ (x : TokenId). x.dot) (sym (some_injective _ k e))
-kept_anchor d (body.AccessRefreshed f) k h e = ap (λ (x : TokenId). x.dot) (sym (some_injective _ k e))
+kept_anchor d (body.RefreshRotated f) k h e =
+    ap (λ (x : TokenId). x.dot) (sym (some_injective _ k e))
+kept_anchor d (body.AccessRefreshed f) k h e =
+    ap (λ (x : TokenId). x.dot) (sym (some_injective _ k e))
 kept_anchor d b k h e = absurd (true≢false (sym h))
 
 -- a family that is over, by a token's dot
-pub over_from : (U : FactSet) (t : ℕ) (e d c : Dot) → IsOverAt (map.get U) t e ⊎ MintsNothing (map.get U) e → e ≡ d → IsMintedUnder (map.get U) d c → IsOver U t c
+pub over_from : (U : FactSet) (t : ℕ) (e d c : Dot)
+    → IsOverAt (map.get U) t e ⊎ MintsNothing (map.get U) e → e ≡ d → IsMintedUnder (map.get U) d c
+    → IsOver U t c
 over_from U t e d c (inl o) same under =
-    over_at U t o.root c o.code (IsUnder-one (links_in (map.get U)) (anchor_in (map.get U) d) o.root c (minted_to (map.get U) e d o.root same o.under) under) o.issues o.over
+    over_at U t o.root c o.code
+    (IsUnder-one (links_in (map.get U)) (anchor_in (map.get U) d) o.root c
+    (minted_to (map.get U) e d o.root same o.under) under) o.issues o.over
 over_from U t e d c (inr none) same under =
-    absurd (under_mints (map.get U) d c under (subst (λ (q : Dot). MintsNothing (map.get U) q) same none))
+    absurd (under_mints (map.get U) d c under
+    (subst (λ (q : Dot). MintsNothing (map.get U) q) same none))
 
 -- ---- anchors, where all facts made are sound
 
@@ -145,32 +172,42 @@ some_link None some = absurd (some refl)
 some_link (Some l) some = (l, refl)
 
 -- what mints has its anchor at a link
-pub anchor_link : (U : FactSet) → AreSound U → (d : Dot) (b : Body) → map.get U d ≡ Some b → mints b ≡ true → (l : Link) × (links_in (map.get U) (anchor_of d b) ≡ Some l)
+pub anchor_link : (U : FactSet) → AreSound U → (d : Dot) (b : Body) → map.get U d ≡ Some b
+    → mints b ≡ true → (l : Link) × (links_in (map.get U) (anchor_of d b) ≡ Some l)
 anchor_link U sound d (body.CodeIssued f) here h = (Code, ap (option_and_then link_of) here)
-anchor_link U sound d (body.CodeRedeemed f) here h = (Redeems f.code, ap (option_and_then link_of) here)
-anchor_link U sound d (body.RefreshRotated f) here h = (Rotates f.parent f.generation, ap (option_and_then link_of) here)
-anchor_link U sound d (body.AccessRefreshed f) here h = some_link (links_in (map.get U) f.parent) (sound.refreshed d f here)
+anchor_link U sound d (body.CodeRedeemed f) here h =
+    (Redeems f.code, ap (option_and_then link_of) here)
+anchor_link U sound d (body.RefreshRotated f) here h =
+    (Rotates f.parent f.generation, ap (option_and_then link_of) here)
+anchor_link U sound d (body.AccessRefreshed f) here h =
+    some_link (links_in (map.get U) f.parent) (sound.refreshed d f here)
 anchor_link U sound d b here h = absurd (true≢false (sym h))
 
 -- what mints, and may be skipped, is of a family that is over
-pub over_here : (U : FactSet) (t : ℕ) → AreSound U → (d : Dot) (may : MaySkip (map.get U) t d) → mints may.fact ≡ true → IsOverAt (map.get U) t d
+pub over_here : (U : FactSet) (t : ℕ) → AreSound U → (d : Dot) (may : MaySkip (map.get U) t d)
+    → mints may.fact ≡ true → IsOverAt (map.get U) t d
 over_here U t sound d may h = by may.token.dot (kept_anchor d may.fact may.token h may.kept) may.why
   where
     link : (l : Link) × (links_in (map.get U) (anchor_of d may.fact) ≡ Some l)
     link = anchor_link U sound d may.fact may.here h
 
-    by : (q : Dot) → q ≡ anchor_of d may.fact → IsOverAt (map.get U) t q ⊎ MintsNothing (map.get U) q → IsOverAt (map.get U) t d
+    by : (q : Dot) → q ≡ anchor_of d may.fact
+        → IsOverAt (map.get U) t q ⊎ MintsNothing (map.get U) q → IsOverAt (map.get U) t d
     by q own (inl o) = record {
       root = o.root;
-      under = (let there = minted_linked (map.get U) (anchor_of d may.fact) o.root link.0 link.1 (minted_to (map.get U) q (anchor_of d may.fact) o.root own o.under) in
-          under_at (links_in (map.get U)) (anchor_of d may.fact) (anchor_in (map.get U) d) o.root (sym (anchor_here (map.get U) d may.fact may.here)) there);
+      under = (let there = minted_linked (map.get U) (anchor_of d may.fact) o.root link.0 link.1
+          (minted_to (map.get U) q (anchor_of d may.fact) o.root own o.under) in
+          under_at (links_in (map.get U)) (anchor_of d may.fact) (anchor_in (map.get U) d) o.root
+          (sym (anchor_here (map.get U) d may.fact may.here)) there);
       code = o.code;
       issues = o.issues;
       over = o.over;
     }
     by q own (inr none) =
-        absurd (barren_unlinked (map.get U) (anchor_of d may.fact) link.0 link.1 (subst (λ (x : Dot). MintsNothing (map.get U) x) own none))
+        absurd (barren_unlinked (map.get U) (anchor_of d may.fact) link.0 link.1
+        (subst (λ (x : Dot). MintsNothing (map.get U) x) own none))
 
 -- a code is under itself
-pub code_under : (F : FactSet) (c : Dot) (code : issued.CodeIssued) → issued_at (map.get F) c ≡ Some code → IsUnder (links_in (map.get F)) c c
+pub code_under : (F : FactSet) (c : Dot) (code : issued.CodeIssued)
+    → issued_at (map.get F) c ≡ Some code → IsUnder (links_in (map.get F)) c c
 code_under F c code is = record { path = []; leads = (refl, issues_link (map.get F c) code is) }

@@ -1,146 +1,55 @@
--- From the horizon on, a handle's status by a store is that by the facts for which the store stands,
--- or both are lost. Key results:
+-- From the horizon on, a handle's status by a store is that by the facts for which the store
+-- stands, or both are lost. Key results:
 --   state_same                the state of a token whose family is not over
 --   status_stands             the statuses
---   revoked_early             the revocations of a token that is known and hasn't expired
-use Rattle.std.proofs.Common.{◌≡◌, ◌≢◌, ◌⊎◌, inl, inr, ℕ, ◌≤◌, ◌<◌, Bool, true, false, ◌&&◌, not, nat_le, cond, if◌then◌else◌, List, Option, None, Some, refl, sym, ap, subst, ◌∙◌, arith}
-use borrow.Author.Tests.{le-leb}
-use Rattle.std.proofs.lemmas.Bool.{true≢false, cases_lt}
+use Rattle.std.proofs.Common.{◌≡◌, ◌≢◌, inl, inr, ℕ, ◌≤◌, ◌<◌, true, ◌&&◌, not, Option, None, Some}
+use Rattle.std.proofs.Common.{refl, sym, ap, subst, ◌∙◌, arith}
+use Rattle.std.proofs.lemmas.Bool.{cases_lt}
 use Rattle.std.specs.Option.{option_and_then}
-use Rattle.std.specs.Str.{bytes_eq}
 use Rattle.std.specs.FinMap as map
 use Rattle.tk_handle.specs.declared.dot.Dot.{Dot}
 use Rattle.tk_handle.specs.declared.handle.Handle.{Handle}
-use Rattle.tk_handle.specs.declared.kind.Kind.{Kind}
 use Rattle.tk_handle.specs.declared.kind.Kind.TheVariants as kind
 use Rattle.tk_handle.specs.declared.token_id.TokenId.{TokenId}
-use Rattle.tk_handle.specs.Kind.{is_access}
 use Rattle.tk_family.specs.Families.{IsUnder, IsUsed}
 use Rattle.tk_family.proofs.FamilyLaws.{IsUnder-one, use_of-within}
 use Rattle.tk_fact.specs.Tokens.{MintedFields, minted_of}
 use Rattle.tk_fact.specs.declared.body.Body.{Body}
-use Rattle.tk_fact.specs.declared.body.Body.TheVariants as body
 use Rattle.tk_fact.specs.declared.code_issued.CodeIssued as issued
 use Rattle.tk_store.specs.FactSet.{FactSet, IsSubset}
 use Rattle.tk_store.specs.Slots.{Slot, Held, Skipped, held_slot, is_skipped, is_skipped_slot}
 use Rattle.tk_store.specs.StoreFields.{StoreFields, held_facts}
-use Rattle.tk_store.proofs.PutLaws.{none_is_not_some, some_injective}
+use Rattle.tk_store.proofs.PutLaws.{some_injective}
 use Rattle.tk_store.proofs.SlotLaws.{get_held}
-use Rattle.tk_ledger.specs.Bodies.{Bodies}
-use Rattle.tk_ledger.specs.Clients.{is_live_client, gives, is_live_consent}
-use Rattle.tk_ledger.specs.Retention.{IsOverAt, MintsNothing, mints}
+use Rattle.tk_ledger.specs.Clients.{gives, is_live_consent}
+use Rattle.tk_ledger.specs.Retention.{mints}
 use Rattle.tk_ledger.specs.StandingFields.{StandingFields}
-use Rattle.tk_ledger.specs.Status.{generation_of, state_in, standing_in, digest_of, with_digest, minted_as, status_by, status_in, status_here}
-use Rattle.tk_ledger.specs.Tokens.{links_in, anchor_in, IsMintedUnder, issued_in, issued_at, minted_in, Root, root_in, is_used, is_revoked, is_ended, is_dead}
-use Rattle.tk_ledger.specs.declared.status.State.{State}
+use Rattle.tk_ledger.specs.Status.{generation_of, state_in, standing_in, digest_of, with_digest}
+use Rattle.tk_ledger.specs.Status.{minted_as, status_by, status_in, status_here}
+use Rattle.tk_ledger.specs.Tokens.{links_in, anchor_in, IsMintedUnder, issued_at, minted_in, Root}
+use Rattle.tk_ledger.specs.Tokens.{root_in, is_used, is_ended, is_dead}
 use Rattle.tk_ledger.specs.declared.status.State.TheVariants as state
 use Rattle.tk_ledger.specs.declared.status.Status.{Status}
 use Rattle.tk_ledger.specs.declared.status.Status.TheVariants.{Broken, Known}
 use Rattle.tk_ledger.proofs.HereLaws.{here_held, here_skipped, here_unknown}
 use Rattle.tk_ledger.proofs.KeyLaws.{same_tests}
-use Rattle.tk_ledger.proofs.RootLaws.{from_some, links-below, minted-below, minted-under-below, under-minted, root-sound, root-complete}
-use Rattle.tk_ledger.proofs.TokenLaws.{is_dead-sound, is_dead-complete, is_used-sound, is_used-complete, is_ended-sound, is_ended-complete, is_revoked-sound, is_revoked-complete, IsDead-below, IsEnded-below}
-use Rattle.tk_ledger.specs.Alike.{is_closed, IsLost, AnsweredAlike}
-use Rattle.tk_query.specs.Anew.{IsEarly}
+use Rattle.tk_ledger.proofs.RootLaws.{links-below, minted-below, minted-under-below, root-sound}
+use Rattle.tk_ledger.proofs.RootLaws.{root-complete}
+use Rattle.tk_ledger.proofs.TokenLaws.{is_dead-sound, is_dead-complete, is_used-sound}
+use Rattle.tk_ledger.proofs.TokenLaws.{is_used-complete, is_ended-sound, is_ended-complete}
+use Rattle.tk_ledger.proofs.TokenGrowthLaws.{IsDead-below, IsEnded-below}
+use Rattle.tk_ledger.specs.Alike.{IsLost, AnsweredAlike}
 use Rattle.tk_retention.specs.StandsFor.{StandsFor, AreSound}
-use Rattle.tk_retention.proofs.LastingLaws.{live_client_same, consent_same, withdrawn_same, revoked_up}
-use Rattle.tk_retention.proofs.OverLaws.{IsOver, none_some, minted_linked, over_here, code_under}
-use Rattle.tk_retention.proofs.StandingLaws.{all_made, at_skipped, at_held, may_skip, held_made, held_part}
-use Rattle.tk_retention.proofs.StandingLaws.{minted_held, code_held, revoked_held, ended_held, used_held, dead_held}
+use Rattle.tk_retention.proofs.LastingLaws.{live_client_same, consent_same, withdrawn_same}
+use Rattle.tk_retention.proofs.OverLaws.{IsOver, none_some, minted_linked, over_here}
+use Rattle.tk_retention.proofs.StandingLaws.{all_made, at_skipped, at_held, may_skip, held_made}
+use Rattle.tk_retention.proofs.StandingLaws.{held_part, minted_held, code_held}
+use Rattle.tk_retention.proofs.DeathStandingLaws.{ended_held, used_held, dead_held}
+use Rattle.tk_retention.proofs.StatusParts.{code_or_not, code_root, digest_kept, issued_below}
+use Rattle.tk_retention.proofs.StatusParts.{lost_known, mint_mints, state_by}
 
 later : (a b c : ℕ) → a ≤ b → b ≤ c → a ≤ c
 later a b c h k = omega (arith, h, k)
-
--- ---- states
-
-abbrev state_by : Bool → Bool → Bool → Bool → Bool → ℕ → TokenId → MintedFields → Root → State
-state_by dead client consent used ended now k minted root =
-    if dead then state.Dead
-    else if not (client && consent) then state.Withdrawn
-    else if nat_le root.issued.family_end now then state.Over
-    else if not (is_access k.kind) && used then state.Used
-    else if nat_le minted.expiry now then state.Past
-    else if is_access k.kind && ended then state.Ended
-    else state.Live
-
-over_closed : (live rest : Bool) (x : State)
-    → is_closed (cond (not live) state.Withdrawn (cond true state.Over x)) ≡ true
-over_closed true rest x = refl
-over_closed false rest x = refl
-
-closed : (dead client consent used ended : Bool) (now : ℕ) (k : TokenId) (m : MintedFields) (root : Root)
-    → root.issued.family_end ≤ now
-    → is_closed (state_by dead client consent used ended now k m root) ≡ true
-closed true client consent used ended now k m root over = refl
-closed false client consent used ended now k m root over =
-    let is = le-leb root.issued.family_end now over in
-    elim (client && consent) as (λ t. is_closed (cond (not t) state.Withdrawn (cond (nat_le root.issued.family_end now) state.Over (cond (not (is_access k.kind) && used) state.Used (cond (nat_le m.expiry now) state.Past (cond (is_access k.kind && ended) state.Ended state.Live))))) ≡ true) [
-      | true ↦ ap (λ t. is_closed (cond t state.Over (cond (not (is_access k.kind) && used) state.Used (cond (nat_le m.expiry now) state.Past (cond (is_access k.kind && ended) state.Ended state.Live))))) is
-      | false ↦ refl
-    ]
-
--- a standing whose family is over is lost
-lost_known : (F : FactSet) (now : ℕ) (h : Handle) (b : Body) (m : MintedFields) (root : Root)
-    → root.issued.family_end ≤ now → (h.id.kind ≢ kind.Code → m.expiry ≤ now)
-    → IsLost now h (Known (standing_in F now h.id b m root))
-lost_known F now h b m root over past =
-    (closed (is_dead F root.code) (is_live_client F root.issued.client) (is_live_consent F root.issued) (is_used F h.id) (is_ended F h.id) now h.id m root over, past)
-
--- ---- small facts
-
-code_or_not : (k : Kind) → (k ≡ kind.Code) ⊎ (k ≢ kind.Code)
-code_or_not kind.Code = inl refl
-code_or_not kind.Access = inr (λ e. cc)
-code_or_not kind.Refresh = inr (λ e. cc)
-
-code_issues : (b : Body) (m : MintedFields) → minted_of b kind.Code ≡ Some m
-    → (code : issued.CodeIssued) × (issued_in b ≡ Some code)
-code_issues (body.CodeIssued c) m h = (c, refl)
-code_issues b m h = absurd (none_is_not_some m h)
-
--- a token that has the digest was minted
-digest_kept : (digest : List ℕ) (o : Option MintedFields) (m : MintedFields)
-    → with_digest digest o ≡ Some m → o ≡ Some m
-digest_kept digest None m h = h
-digest_kept digest (Some x) m h = kept (bytes_eq x.digest digest) h
-  where
-    kept : (t : Bool) → cond t (Some x) None ≡ Some m → Some x ≡ Some m
-    kept true e = e
-    kept false e = absurd (none_is_not_some m e)
-
--- what mints a token of a kind mints
-pub mint_mints : (b : Body) (k : Kind) (m : MintedFields) → minted_of b k ≡ Some m → mints b ≡ true
-mint_mints (body.CodeIssued c) k m h = refl
-mint_mints (body.CodeRedeemed r) k m h = refl
-mint_mints (body.RefreshRotated r) k m h = refl
-mint_mints (body.AccessRefreshed r) k m h = refl
-mint_mints b k m h = absurd (none_is_not_some m h)
-
--- a token that was minted is at no dot that mints nothing
-pub mints_some : (body_at : Bodies) (k : TokenId) (m : MintedFields) → minted_in body_at k ≡ Some m
-    → MintsNothing body_at k.dot → ⊥
-mints_some body_at k m is none =
-    true≢false (sym (mint_mints none.fact k.kind m (sym (ap (option_and_then (λ (x : Body). minted_of x k.kind)) none.here) ∙ is)) ∙ none.barren)
-
--- the fact that minted a code issued it
-mint_code : (F : FactSet) (k : TokenId) (m : MintedFields) → k.kind ≡ kind.Code
-    → minted_in (map.get F) k ≡ Some m
-    → (code : issued.CodeIssued) × (issued_at (map.get F) k.dot ≡ Some code)
-mint_code F k m is h =
-    let x = from_some (λ (b : Body). minted_of b k.kind) (map.get F k.dot) m h in
-    let y = code_issues x.0 m (sym (ap (minted_of x.0) is) ∙ x.2) in
-    (y.0, ap (option_and_then issued_in) x.1 ∙ y.1)
-
--- a code has a root
-code_root : (F : FactSet) (k : TokenId) (m : MintedFields) → k.kind ≡ kind.Code
-    → minted_in (map.get F) k ≡ Some m → root_in (map.get F) k.dot ≢ None
-code_root F k m is h none =
-    let code = mint_code F k m is h in
-    none_some (root_in (map.get F) k.dot) (record { code = k.dot; issued = code.0 }) none (root-complete F k.dot k.dot code.0 (under-minted (map.get F) k.dot k.dot (code_under F k.dot code.0 code.1)) code.1)
-
-issued_below : (F G : FactSet) → IsSubset F G → (c : Dot) (code : issued.CodeIssued)
-    → issued_at (map.get F) c ≡ Some code → issued_at (map.get G) c ≡ Some code
-issued_below F G w c code is = (let x = from_some issued_in (map.get F c) code is in ap (option_and_then issued_in) (w c x.0 x.1) ∙ x.2)
 
 -- ---- a family that is not over
 
@@ -148,50 +57,78 @@ module _ (P : StoreFields) (U F : FactSet) (S : StandsFor P U F) where
   abbrev H : FactSet
   H = held_facts P
 
-  module _ (now : ℕ) (soon : P.horizon ≤ now) (root : Root) (issues : issued_at (map.get F) root.code ≡ Some root.issued) (early : now < root.issued.family_end) where
+  module _ (now : ℕ) (soon : P.horizon ≤ now) (root : Root)
+      (issues : issued_at (map.get F) root.code ≡ Some root.issued)
+      (early : now < root.issued.family_end) where
     never_over : IsOver U P.horizon root.code → ⊥
     never_over over =
-        let same : over.code ≡ root.issued = some_injective over.code root.issued (sym over.is ∙ issued_below F U (all_made P U F S) root.code root.issued issues) in
-        let end : over.code.family_end ≡ root.issued.family_end = ap (λ (c : issued.CodeIssued). c.family_end) same in
+        let same : over.code ≡ root.issued = some_injective over.code root.issued
+        (sym over.is ∙ issued_below F U (all_made P U F S) root.code root.issued issues) in
+        let end : over.code.family_end ≡ root.issued.family_end =
+        ap (λ (c : issued.CodeIssued). c.family_end) same in
         let past = over.over in
         absurd (omega (arith, end, past, soon, early))
 
     dead_same : is_dead H root.code ≡ is_dead F root.code
     dead_same = same_tests (is_dead H root.code) (is_dead F root.code)
-        (λ h. is_dead-complete F root.code (IsDead-below H F (held_part P U F S) root.code (is_dead-sound H root.code h)))
-        (λ h. elim (dead_held P U F S root.code (is_dead-sound F root.code h)) [ inl dead ↦ is_dead-complete H root.code dead | inr over ↦ absurd (never_over over) ])
+        (λ h. is_dead-complete F root.code
+        (IsDead-below H F (held_part P U F S) root.code (is_dead-sound H root.code h)))
+        (λ h. elim (dead_held P U F S root.code (is_dead-sound F root.code h)) [
+          | inl dead ↦ is_dead-complete H root.code dead
+          | inr over ↦ absurd (never_over over)
+        ])
 
-    module _ (sound : AreSound U) (k : TokenId) (under : IsMintedUnder (map.get F) k.dot root.code) where
+    module _ (sound : AreSound U) (k : TokenId)
+        (under : IsMintedUnder (map.get F) k.dot root.code) where
       made : IsMintedUnder (map.get U) k.dot root.code
       made = minted-under-below F U (all_made P U F S) k.dot root.code under
 
       -- a token that is used has a link at its dot
       made_used : IsUsed (links_in (map.get F)) k → IsUnder (links_in (map.get U)) k.dot root.code
       made_used u =
-          let parent = sound.parents u.user k (use_of-within (links_in (map.get F)) (links_in (map.get U)) (links-below F U (all_made P U F S)) u.user (links_in (map.get F) u.user) k refl u.by) in
+          let parent = sound.parents u.user k
+          (use_of-within (links_in (map.get F)) (links_in (map.get U))
+          (links-below F U (all_made P U F S)) u.user (links_in (map.get F) u.user) k refl u.by) in
           minted_linked (map.get U) k.dot root.code parent.above parent.there made
 
       used_same : is_used H k ≡ is_used F k
       used_same = same_tests (is_used H k) (is_used F k)
           (λ h. any_more h)
-          (λ h. elim (used_held P U F S root.code k (is_used-sound F k h) (made_used (is_used-sound F k h))) [ inl used ↦ is_used-complete H k used | inr over ↦ absurd (never_over over) ])
+          (λ h. elim (used_held P U F S root.code k (is_used-sound F k h)
+          (made_used (is_used-sound F k h))) [
+            | inl used ↦ is_used-complete H k used
+            | inr over ↦ absurd (never_over over)
+          ])
         where
           any_more : is_used H k ≡ true → is_used F k ≡ true
           any_more h =
               let u = is_used-sound H k h in
-              is_used-complete F k (record { user = u.user; by = use_of-within (links_in (map.get H)) (links_in (map.get F)) (links-below H F (held_part P U F S)) u.user (links_in (map.get H) u.user) k refl u.by })
+              is_used-complete F k
+              (record {
+                user = u.user;
+                by = use_of-within (links_in (map.get H)) (links_in (map.get F))
+                    (links-below H F (held_part P U F S)) u.user (links_in (map.get H) u.user) k
+                    refl u.by;
+              })
 
       ended_same : is_ended H k ≡ is_ended F k
       ended_same = same_tests (is_ended H k) (is_ended F k)
-          (λ h. is_ended-complete F k (IsEnded-below H F (held_part P U F S) k (is_ended-sound H k h)))
-          (λ h. elim (ended_held P U F S root.code k (is_ended-sound F k h) made) [ inl ended ↦ is_ended-complete H k ended | inr over ↦ absurd (never_over over) ])
+          (λ h. is_ended-complete F k
+          (IsEnded-below H F (held_part P U F S) k (is_ended-sound H k h)))
+          (λ h. elim (ended_held P U F S root.code k (is_ended-sound F k h) made) [
+            | inl ended ↦ is_ended-complete H k ended
+            | inr over ↦ absurd (never_over over)
+          ])
 
       live_consent_same : is_live_consent H root.issued ≡ is_live_consent F root.issued
-      live_consent_same = λ i. gives root.issued.client root.issued.subject (consent_same P U F S root.issued.consent i) && not (withdrawn_same P U F S root.issued.consent i)
+      live_consent_same = λ i. gives root.issued.client root.issued.subject
+          (consent_same P U F S root.issued.consent i)
+          && not (withdrawn_same P U F S root.issued.consent i)
 
       -- the state of a token whose family is not over
       pub state_same : (m : MintedFields) → state_in H now k m root ≡ state_in F now k m root
-      state_same m = λ i. state_by (dead_same i) (live_client_same P U F S root.issued.client i) (live_consent_same i) (used_same i) (ended_same i) now k m root
+      state_same m = λ i. state_by (dead_same i) (live_client_same P U F S root.issued.client i)
+          (live_consent_same i) (used_same i) (ended_same i) now k m root
 
       pub standing_same : (b : Body) (m : MintedFields)
           → standing_in H now k b m root ≡ standing_in F now k b m root
@@ -216,18 +153,21 @@ module _ (P : StoreFields) (U F : FactSet) (S : StandsFor P U F) where
         → minted_in (map.get U) h.id ≡ Some m → IsMintedUnder (map.get U) h.id.dot c
         → issued_at (map.get U) c ≡ Some code → code.family_end ≤ now → h.id.kind ≢ kind.Code
         → m.expiry ≤ now
-    past_by m c code mints under issues over other = later m.expiry code.family_end now (sound.ends h.id m c code other mints under issues) over
+    past_by m c code mints under issues over other =
+        later m.expiry code.family_end now (sound.ends h.id m c code other mints under issues) over
 
     minted_up : (m : MintedFields) → minted_as (map.get F) h ≡ Some m
         → minted_in (map.get U) h.id ≡ Some m
-    minted_up m is = minted-below F U (all_made P U F S) h.id m (digest_kept (digest_of h) (minted_in (map.get F) h.id) m is)
+    minted_up m is = minted-below F U (all_made P U F S) h.id m
+        (digest_kept (digest_of h) (minted_in (map.get F) h.id) m is)
 
     -- what is known of a token whose family is over, whatever its root is taken to be
     lost_by : (G : FactSet) → IsSubset G U
         → (b : Body) (m : MintedFields) (c : Dot) (code : issued.CodeIssued)
         → minted_in (map.get U) h.id ≡ Some m → IsMintedUnder (map.get U) h.id.dot c
         → issued_at (map.get U) c ≡ Some code → code.family_end ≤ now
-        → (r : Option Root) → root_in (map.get G) h.id.dot ≡ r → (h.id.kind ≡ kind.Code → r ≢ None) → IsLost now h (status_by G now h.id (Some b) (Some m) r)
+        → (r : Option Root) → root_in (map.get G) h.id.dot ≡ r → (h.id.kind ≡ kind.Code → r ≢ None)
+        → IsLost now h (status_by G now h.id (Some b) (Some m) r)
     lost_by G w b m c code mints under issues over None is rooted =
         elim (code_or_not h.id.kind) [
           | inl code ↦ absurd (rooted code refl)
@@ -235,9 +175,14 @@ module _ (P : StoreFields) (U F : FactSet) (S : StandsFor P U F) where
         ]
     lost_by G w b m c code mints under issues over (Some root) is rooted =
         let p = root-sound G h.id.dot root is in
-        let same : root.code ≡ c = IsUnder-one (links_in (map.get U)) (anchor_in (map.get U) h.id.dot) root.code c (minted-under-below G U w h.id.dot root.code p.0) under in
-        let one : root.issued ≡ code = some_injective root.issued code (sym (issued_below G U w root.code root.issued p.1) ∙ ap (issued_at (map.get U)) same ∙ issues) in
-        let end : root.issued.family_end ≤ now = subst (λ (x : issued.CodeIssued). x.family_end ≤ now) (sym one) over in
+        let same : root.code ≡ c = IsUnder-one (links_in (map.get U))
+        (anchor_in (map.get U) h.id.dot) root.code c
+        (minted-under-below G U w h.id.dot root.code p.0) under in
+        let one : root.issued ≡ code = some_injective root.issued code
+        (sym (issued_below G U w root.code root.issued p.1) ∙ ap (issued_at (map.get U)) same
+        ∙ issues) in
+        let end : root.issued.family_end ≤ now =
+        subst (λ (x : issued.CodeIssued). x.family_end ≤ now) (sym one) over in
         lost_known G now h b m root end (past_by m c code mints under issues over)
 
     rooted : (G : FactSet) (m : MintedFields) → minted_in (map.get G) h.id ≡ Some m
@@ -251,15 +196,21 @@ module _ (P : StoreFields) (U F : FactSet) (S : StandsFor P U F) where
         → IsLost now h (status_by F now h.id o m (root_in (map.get F) h.id.dot))
     lost_skipped skipped None m at is =
         let may = may_skip P U F S h.id.dot skipped in
-        absurd (none_some (map.get F h.id.dot) may.fact at (at_skipped P U F S h.id.dot skipped ∙ may.here))
+        absurd (none_some (map.get F h.id.dot) may.fact at
+        (at_skipped P U F S h.id.dot skipped ∙ may.here))
     lost_skipped skipped (Some b) None at is = tt
     lost_skipped skipped (Some b) (Some m) at is =
         let may = may_skip P U F S h.id.dot skipped in
-        let minted : minted_in (map.get F) h.id ≡ Some m = digest_kept (digest_of h) (minted_in (map.get F) h.id) m is in
-        let same : may.fact ≡ b = some_injective may.fact b (sym may.here ∙ sym (at_skipped P U F S h.id.dot skipped) ∙ at) in
-        let mint : mints may.fact ≡ true = ap mints same ∙ mint_mints b h.id.kind m (sym (ap (option_and_then (λ (x : Body). minted_of x h.id.kind)) at) ∙ minted) in
+        let minted : minted_in (map.get F) h.id ≡ Some m =
+        digest_kept (digest_of h) (minted_in (map.get F) h.id) m is in
+        let same : may.fact ≡ b =
+        some_injective may.fact b (sym may.here ∙ sym (at_skipped P U F S h.id.dot skipped) ∙ at) in
+        let mint : mints may.fact ≡ true = ap mints same
+        ∙ mint_mints b h.id.kind m
+        (sym (ap (option_and_then (λ (x : Body). minted_of x h.id.kind)) at) ∙ minted) in
         let o = over_here U P.horizon sound h.id.dot may mint in
-        lost_by F (all_made P U F S) b m o.root o.code (minted_up m is) o.under o.issues (later o.code.family_end P.horizon now o.over soon)
+        lost_by F (all_made P U F S) b m o.root o.code (minted_up m is) o.under o.issues
+        (later o.code.family_end P.horizon now o.over soon)
         (root_in (map.get F) h.id.dot) refl (rooted F m minted (root_in (map.get F) h.id.dot) refl)
 
     -- ---- a fact that is held
@@ -271,25 +222,36 @@ module _ (P : StoreFields) (U F : FactSet) (S : StandsFor P U F) where
     broken_same b m None none is = refl
     broken_same b m (Some root) none is =
         let p = root-sound H h.id.dot root is in
-        absurd (none_some (root_in (map.get F) h.id.dot) (record { code = root.code; issued = root.issued }) none
-        (root-complete F h.id.dot root.code root.issued (minted-under-below H F (held_part P U F S) h.id.dot root.code p.0) (issued_below H F (held_part P U F S) root.code root.issued p.1)))
+        absurd (none_some (root_in (map.get F) h.id.dot)
+        (record { code = root.code; issued = root.issued }) none
+        (root-complete F h.id.dot root.code root.issued
+        (minted-under-below H F (held_part P U F S) h.id.dot root.code p.0)
+        (issued_below H F (held_part P U F S) root.code root.issued p.1)))
 
     by_root : (b : Body) (m : MintedFields) → minted_in (map.get F) h.id ≡ Some m
         → minted_in (map.get H) h.id ≡ Some m → (r : Option Root) → root_in (map.get F) h.id.dot ≡ r
-        → AnsweredAlike now h (status_by H now h.id (Some b) (Some m) (root_in (map.get H) h.id.dot)) (status_by F now h.id (Some b) (Some m) r)
+        → AnsweredAlike now h
+        (status_by H now h.id (Some b) (Some m) (root_in (map.get H) h.id.dot))
+        (status_by F now h.id (Some b) (Some m) r)
     by_root b m mints held None is = inl (broken_same b m (root_in (map.get H) h.id.dot) is refl)
     by_root b m mints held (Some root) is = elim (cases_lt now root.issued.family_end) [
       | inl early ↦ inl (open_root early)
       | inr over ↦ inr (
-        lost_by H (held_made P U F S) b m root.code root.issued (minted-below F U (all_made P U F S) h.id m mints) made issued over (root_in (map.get H) h.id.dot) refl (rooted H m held (root_in (map.get H) h.id.dot) refl),
-        lost_by F (all_made P U F S) b m root.code root.issued (minted-below F U (all_made P U F S) h.id m mints) made issued over (Some root) is (λ code none. some_none root none),
+        lost_by H (held_made P U F S) b m root.code root.issued
+            (minted-below F U (all_made P U F S) h.id m mints) made issued over
+            (root_in (map.get H) h.id.dot) refl
+            (rooted H m held (root_in (map.get H) h.id.dot) refl),
+        lost_by F (all_made P U F S) b m root.code root.issued
+            (minted-below F U (all_made P U F S) h.id m mints) made issued over (Some root) is
+            (λ code none. some_none root none),
       )
     ]
       where
         some_none : (x : Root) → Some x ≡ None → ⊥
         some_none x e = cc
 
-        p : IsMintedUnder (map.get F) h.id.dot root.code × (issued_at (map.get F) root.code ≡ Some root.issued)
+        p : IsMintedUnder (map.get F) h.id.dot root.code
+            × (issued_at (map.get F) root.code ≡ Some root.issued)
         p = root-sound F h.id.dot root is
 
         made : IsMintedUnder (map.get U) h.id.dot root.code
@@ -300,93 +262,75 @@ module _ (P : StoreFields) (U F : FactSet) (S : StandsFor P U F) where
 
         -- the family is not over: the root is held, and the standing is the same
         open_root : now < root.issued.family_end
-            → status_by H now h.id (Some b) (Some m) (root_in (map.get H) h.id.dot) ≡ Known (standing_in F now h.id b m root)
+            → status_by H now h.id (Some b) (Some m) (root_in (map.get H) h.id.dot)
+            ≡ Known (standing_in F now h.id b m root)
         open_root early =
-            let under : IsMintedUnder (map.get H) h.id.dot root.code = elim (minted_held P U F S h.id.dot root.code p.0) [ inl u ↦ u | inr over ↦ absurd (never_over now soon root p.1 early over) ] in
-            let issues : issued_at (map.get H) root.code ≡ Some root.issued = elim (code_held P U F S root.code root.issued p.1) [ inl i ↦ i | inr over ↦ absurd (never_over now soon root p.1 early over) ] in
-            ap (status_by H now h.id (Some b) (Some m)) (root-complete H h.id.dot root.code root.issued under issues)
-            ∙ ap (λ (s : StandingFields). Known s) (standing_same now soon root p.1 early sound h.id p.0 b m)
+            let under : IsMintedUnder (map.get H) h.id.dot root.code =
+            elim (minted_held P U F S h.id.dot root.code p.0) [
+              | inl u ↦ u
+              | inr over ↦ absurd (never_over now soon root p.1 early over)
+            ] in
+            let issues : issued_at (map.get H) root.code ≡ Some root.issued =
+            elim (code_held P U F S root.code root.issued p.1) [
+              | inl i ↦ i
+              | inr over ↦ absurd (never_over now soon root p.1 early over)
+            ] in
+            ap (status_by H now h.id (Some b) (Some m))
+            (root-complete H h.id.dot root.code root.issued under issues)
+            ∙ ap (λ (s : StandingFields). Known s)
+            (standing_same now soon root p.1 early sound h.id p.0 b m)
 
     by_mint : (b : Body) → map.get F h.id.dot ≡ Some b → map.get H h.id.dot ≡ Some b
         → (m : Option MintedFields) → minted_as (map.get F) h ≡ m
-        → AnsweredAlike now h (status_by H now h.id (Some b) m (root_in (map.get H) h.id.dot)) (status_by F now h.id (Some b) m (root_in (map.get F) h.id.dot))
+        → AnsweredAlike now h (status_by H now h.id (Some b) m (root_in (map.get H) h.id.dot))
+        (status_by F now h.id (Some b) m (root_in (map.get F) h.id.dot))
     by_mint b at held None is = inl refl
     by_mint b at held (Some m) is =
-        let mints : minted_in (map.get F) h.id ≡ Some m = digest_kept (digest_of h) (minted_in (map.get F) h.id) m is in
-        by_root b m mints (ap (option_and_then (λ (x : Body). minted_of x h.id.kind)) (held ∙ sym at) ∙ mints) (root_in (map.get F) h.id.dot) refl
+        let mints : minted_in (map.get F) h.id ≡ Some m =
+        digest_kept (digest_of h) (minted_in (map.get F) h.id) m is in
+        by_root b m mints
+        (ap (option_and_then (λ (x : Body). minted_of x h.id.kind)) (held ∙ sym at) ∙ mints)
+        (root_in (map.get F) h.id.dot) refl
 
     -- ---- the slot at the handle's dot
 
     by_slot : (o : Option Slot) → map.get P.slots h.id.dot ≡ o
         → AnsweredAlike now h (status_here P now h) (status_in F now h)
     by_slot None at =
-        let free : map.get F h.id.dot ≡ None = at_held P U F S h.id.dot (ap is_skipped_slot at) ∙ get_held P.slots h.id.dot ∙ ap held_slot at in
-        inl (here_unknown P now h at ∙ sym (ap (λ (o : Option Body). status_by F now h.id o (minted_as (map.get F) h) (root_in (map.get F) h.id.dot)) free))
+        let free : map.get F h.id.dot ≡ None = at_held P U F S h.id.dot (ap is_skipped_slot at)
+        ∙ get_held P.slots h.id.dot ∙ ap held_slot at in
+        inl (here_unknown P now h at
+        ∙ sym (ap (λ (o : Option Body).
+        status_by F now h.id o (minted_as (map.get F) h) (root_in (map.get F) h.id.dot)) free))
     by_slot (Some Skipped) at =
         inr (
           subst (IsLost now h) (sym (here_skipped P now h at)) tt,
-          lost_skipped (ap is_skipped_slot at) (map.get F h.id.dot) (minted_as (map.get F) h) refl refl,
+          lost_skipped (ap is_skipped_slot at) (map.get F h.id.dot) (minted_as (map.get F) h) refl
+              refl,
         )
     by_slot (Some (Held b)) at =
         let held : map.get H h.id.dot ≡ Some b = get_held P.slots h.id.dot ∙ ap held_slot at in
-        let here : map.get F h.id.dot ≡ Some b = at_held P U F S h.id.dot (ap is_skipped_slot at) ∙ held in
-        let mint : minted_as (map.get H) h ≡ minted_as (map.get F) h = ap (λ (o : Option Body). with_digest (digest_of h) (option_and_then (λ (x : Body). minted_of x h.id.kind) o)) (held ∙ sym here) in
-        let left : status_here P now h ≡ status_by H now h.id (Some b) (minted_as (map.get F) h) (root_in (map.get H) h.id.dot) =
-        here_held P now h b at ∙ (λ i. status_by H now h.id (held i) (mint i) (root_in (map.get H) h.id.dot)) in
-        let right : status_in F now h ≡ status_by F now h.id (Some b) (minted_as (map.get F) h) (root_in (map.get F) h.id.dot) =
-        ap (λ (o : Option Body). status_by F now h.id o (minted_as (map.get F) h) (root_in (map.get F) h.id.dot)) here in
+        let here : map.get F h.id.dot ≡ Some b =
+        at_held P U F S h.id.dot (ap is_skipped_slot at) ∙ held in
+        let mint : minted_as (map.get H) h ≡ minted_as (map.get F) h =
+        ap (λ (o : Option Body).
+        with_digest (digest_of h) (option_and_then (λ (x : Body). minted_of x h.id.kind) o))
+        (held ∙ sym here) in
+        let left : status_here P now h
+        ≡ status_by H now h.id (Some b) (minted_as (map.get F) h) (root_in (map.get H) h.id.dot) =
+        here_held P now h b at
+        ∙ (λ i. status_by H now h.id (held i) (mint i) (root_in (map.get H) h.id.dot)) in
+        let right : status_in F now h
+        ≡ status_by F now h.id (Some b) (minted_as (map.get F) h) (root_in (map.get F) h.id.dot) =
+        ap (λ (o : Option Body).
+        status_by F now h.id o (minted_as (map.get F) h) (root_in (map.get F) h.id.dot)) here in
         subst (λ (x : Status). AnsweredAlike now h x (status_in F now h)) (sym left)
-        (subst (AnsweredAlike now h (status_by H now h.id (Some b) (minted_as (map.get F) h) (root_in (map.get H) h.id.dot))) (sym right)
+        (subst (AnsweredAlike now h
+        (status_by H now h.id (Some b) (minted_as (map.get F) h) (root_in (map.get H) h.id.dot)))
+        (sym right)
         (by_mint b here held (minted_as (map.get F) h) refl))
-
--- ---- revocations
-
-module _ (P : StoreFields) (U F : FactSet) (S : StandsFor P U F) (sound : AreSound U) (now : ℕ) (soon : P.horizon ≤ now) (h : Handle) where
-  -- what is known of a token that hasn't expired was minted
-  early_minted : IsEarly now (status_here P now h)
-      → (m : MintedFields) × (minted_in (map.get (held_facts P)) h.id ≡ Some m) × (now < m.expiry)
-  early_minted early = by (map.get P.slots h.id.dot) refl
-    where
-      by_root : (b : Body) (m : MintedFields) (r : Option Root)
-          → IsEarly now (status_by (held_facts P) now h.id (Some b) (Some m) r) → now < m.expiry
-      by_root b m None e = e
-      by_root b m (Some root) e = e
-
-      by_mint : (b : Body) (o : Option MintedFields) → minted_as (map.get (held_facts P)) h ≡ o
-          → IsEarly now (status_by (held_facts P) now h.id (Some b) o (root_in (map.get (held_facts P)) h.id.dot))
-          → (m : MintedFields) × (minted_in (map.get (held_facts P)) h.id ≡ Some m) × (now < m.expiry)
-      by_mint b None is e = absurd e
-      by_mint b (Some m) is e = (m, digest_kept (digest_of h) (minted_in (map.get (held_facts P)) h.id) m is, by_root b m (root_in (map.get (held_facts P)) h.id.dot) e)
-
-      by : (o : Option Slot) → map.get P.slots h.id.dot ≡ o
-          → (m : MintedFields) × (minted_in (map.get (held_facts P)) h.id ≡ Some m) × (now < m.expiry)
-      by None at = absurd (subst (IsEarly now) (here_unknown P now h at) early)
-      by (Some Skipped) at = absurd (subst (IsEarly now) (here_skipped P now h at) early)
-      by (Some (Held b)) at =
-          let held : map.get (held_facts P) h.id.dot ≡ Some b = get_held P.slots h.id.dot ∙ ap held_slot at in
-          by_mint b (minted_as (map.get (held_facts P)) h) refl
-          (subst (IsEarly now) (here_held P now h b at ∙ ap (λ (o : Option Body). status_by (held_facts P) now h.id o (minted_as (map.get (held_facts P)) h) (root_in (map.get (held_facts P)) h.id.dot)) held) early)
-
-  -- the revocations of such a token are held
-  pub revoked_early : (digest : List ℕ) (client : Dot) → h.id.kind ≢ kind.Code
-      → IsEarly now (status_here P now h)
-      → is_revoked (held_facts P) h.id digest client ≡ is_revoked F h.id digest client
-  revoked_early digest client other early = same_tests (is_revoked (held_facts P) h.id digest client) (is_revoked F h.id digest client)
-      (revoked_up P U F S h.id digest client)
-      (λ revoked. elim (revoked_held P U F S h.id digest client (is_revoked-sound F h.id digest client revoked)) [
-        | inl held ↦ is_revoked-complete (held_facts P) h.id digest client held
-        | inr why ↦ absurd (never (early_minted early) why)
-      ])
-    where
-      never : (m : MintedFields) × (minted_in (map.get (held_facts P)) h.id ≡ Some m) × (now < m.expiry)
-          → IsOverAt (map.get U) P.horizon h.id.dot ⊎ MintsNothing (map.get U) h.id.dot → ⊥
-      never x (inr none) = mints_some (map.get U) h.id x.0 (minted-below (held_facts P) U (held_made P U F S) h.id x.0 x.1) none
-      never x (inl o) =
-          let end : x.0.expiry ≤ o.code.family_end = sound.ends h.id x.0 o.root o.code other (minted-below (held_facts P) U (held_made P U F S) h.id x.0 x.1) o.under o.issues in
-          let over = o.over in
-          let left = x.2 in
-          omega (arith, end, over, soon, left)
 
 pub status_stands : (P : StoreFields) (U F : FactSet) → StandsFor P U F → AreSound U → (now : ℕ)
     → P.horizon ≤ now → (h : Handle) → AnsweredAlike now h (status_here P now h) (status_in F now h)
-status_stands P U F S sound now soon h = by_slot P U F S sound now soon h (map.get P.slots h.id.dot) refl
+status_stands P U F S sound now soon h =
+    by_slot P U F S sound now soon h (map.get P.slots h.id.dot) refl

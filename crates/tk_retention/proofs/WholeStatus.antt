@@ -19,5 +19,6 @@ unskipped (Some b) = refl
 pub whole_status : (F : FactSet) (now : ℕ) (h : Handle)
     → status_here (whole_store F) now h ≡ status_in F now h
 whole_status F now h =
-    ap (λ t. cond t Wrong (status_in (held_facts (whole_store F)) now h)) (ap is_skipped_slot (get_whole_store F h.id.dot) ∙ unskipped (map.get F h.id.dot))
+    ap (λ t. cond t Wrong (status_in (held_facts (whole_store F)) now h))
+    (ap is_skipped_slot (get_whole_store F h.id.dot) ∙ unskipped (map.get F h.id.dot))
     ∙ ap (λ (G : FactSet). status_in G now h) (held_whole_store F)

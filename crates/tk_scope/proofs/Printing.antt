@@ -28,7 +28,9 @@ cut_again : (t : List ℕ) (ts : List (List ℕ)) → list_all is_token (t ∷ t
 cut_again t [] h = slice_split_none (λ b. b == 0x20) t (All-no_space t (both_sides _ _ h).0)
 cut_again t (u ∷ ts) h =
     let sides = both_sides (is_token t) (list_all is_token (u ∷ ts)) h in
-    slice_split_at (λ b. b == 0x20) t 0x20 (join_with_byte 0x20 (u ∷ ts)) (All-no_space t sides.0) refl ∙ ap (λ (us : List (List ℕ)). t ∷ us) (cut_again u ts sides.1)
+    slice_split_at (λ b. b == 0x20) t 0x20 (join_with_byte 0x20 (u ∷ ts)) (All-no_space t sides.0)
+    refl
+    ∙ ap (λ (us : List (List ℕ)). t ∷ us) (cut_again u ts sides.1)
 
 -- tokens joined by spaces are the tokens of the joined text
 tokens_of-join : (ts : List (List ℕ)) → 0 < length ts → list_all is_token ts ≡ true
@@ -53,7 +55,8 @@ all_pass (t ∷ ts) h = rw (h.0, all_pass ts h.1) refl
 -- the tokens of a list are tokens when put in order
 in_order_tokens : (ts : List (List ℕ)) → list_all is_token ts ≡ true
     → list_all is_token (in_order ts) ≡ true
-in_order_tokens ts h = all_pass (in_order ts) (All-in_order (λ t. is_token t ≡ true) ts (all_tokens ts h))
+in_order_tokens ts h =
+    all_pass (in_order ts) (All-in_order (λ t. is_token t ≡ true) ts (all_tokens ts h))
 
 -- ---- lengths
 
@@ -66,7 +69,8 @@ width (t ∷ ts) = length t + 1 + width ts
 length-join : (ts : List (List ℕ)) → 0 < length ts → length (join_with_byte 0x20 ts) + 1 ≡ width ts
 length-join [] some = absurd (omega arith)
 length-join (t ∷ []) some = omega arith
-length-join (t ∷ u ∷ ts) some = let rest = length-join (u ∷ ts) (omega arith) in omega (arith, length-append t (0x20 ∷ join_with_byte 0x20 (u ∷ ts)))
+length-join (t ∷ u ∷ ts) some = let rest = length-join (u ∷ ts) (omega arith) in
+    omega (arith, length-append t (0x20 ∷ join_with_byte 0x20 (u ∷ ts)))
 
 -- vs has at most one token more than us, and at most the bytes of that token and a space more
 pub record IsShort (t : List ℕ) (us vs : List (List ℕ)) : Type 0 where
@@ -80,19 +84,23 @@ with_token_short t [] = record { tokens = omega arith; bytes = omega arith; some
 with_token_short t (u ∷ us) =
     cond_both (bytes_eq t u) (u ∷ us) _ (IsShort t (u ∷ us))
     (λ _. record { tokens = omega arith; bytes = omega arith; some = omega arith })
-    (λ _. cond_both (is_lt (slice_cmp nat_cmp t u)) (t ∷ u ∷ us) (u ∷ with_token t us) (IsShort t (u ∷ us))
+    (λ _. cond_both (is_lt (slice_cmp nat_cmp t u)) (t ∷ u ∷ us) (u ∷ with_token t us)
+    (IsShort t (u ∷ us))
     (λ _. record { tokens = omega arith; bytes = omega arith; some = omega arith })
-    (λ _. let rest = with_token_short t us in record { tokens = omega arith; bytes = omega arith; some = omega arith }))
+    (λ _. let rest = with_token_short t us in
+    record { tokens = omega arith; bytes = omega arith; some = omega arith }))
 
 -- tokens in order are no more than the tokens of the list
 in_order_fewer : (ts : List (List ℕ)) → length (in_order ts) ≤ length ts
 in_order_fewer [] = omega arith
-in_order_fewer (t ∷ ts) = let one = with_token_short t (in_order ts) in omega (arith, in_order_fewer ts)
+in_order_fewer (t ∷ ts) = let one = with_token_short t (in_order ts) in
+    omega (arith, in_order_fewer ts)
 
 -- tokens in order have no more bytes than the tokens of the list
 in_order_shorter : (ts : List (List ℕ)) → width (in_order ts) ≤ width ts
 in_order_shorter [] = omega arith
-in_order_shorter (t ∷ ts) = let one = with_token_short t (in_order ts) in omega (arith, in_order_shorter ts)
+in_order_shorter (t ∷ ts) = let one = with_token_short t (in_order ts) in
+    omega (arith, in_order_shorter ts)
 
 -- a list that has tokens has tokens when put in order
 in_order_some : (ts : List (List ℕ)) → 0 < length ts → 0 < length (in_order ts)
@@ -114,20 +122,40 @@ pub record IsAccepted (text : List ℕ) : Type 0 where
 -- a text that breaks no rule passes each test
 pub accepted : (text : List ℕ) → scope_refusal text ≡ None → IsAccepted text
 accepted text h =
-    elim (nat_lt greatest_length (length text)) as (λ a. nat_lt greatest_length (length text) ≡ a → cond a (Some TooLong) (cond (not (list_all is_token (tokens_of text))) (Some Malformed) (cond (nat_lt max_tokens (length (tokens_of text))) (Some TooMany) None)) ≡ None → IsAccepted text) [
+    elim (nat_lt greatest_length (length text)) as
+    (λ a. nat_lt greatest_length (length text) ≡ a
+    → cond a (Some TooLong)
+    (cond (not (list_all is_token (tokens_of text))) (Some Malformed)
+    (cond (nat_lt max_tokens (length (tokens_of text))) (Some TooMany) None))
+    ≡ None → IsAccepted text) [
       | true ↦ λ _ e. absurd cc
-      | false ↦ λ short. elim (list_all is_token (tokens_of text)) as (λ b. list_all is_token (tokens_of text) ≡ b → cond (not b) (Some Malformed) (cond (nat_lt max_tokens (length (tokens_of text))) (Some TooMany) None) ≡ None → IsAccepted text) [
-        | false ↦ λ _ e. absurd cc
-        | true ↦ λ tokens. elim (nat_lt max_tokens (length (tokens_of text))) as (λ c. nat_lt max_tokens (length (tokens_of text)) ≡ c → cond c (Some TooMany) None ≡ None → IsAccepted text) [
-          | true ↦ λ _ e. absurd cc
-          | false ↦ λ few _. record { short = ltb-false _ _ short; tokens = tokens; few = ltb-false _ _ few }
-        ] refl
-      ] refl
+      | false ↦ λ short. elim (list_all is_token (tokens_of text)) as
+          (λ b. list_all is_token (tokens_of text) ≡ b
+          → cond (not b) (Some Malformed)
+          (cond (nat_lt max_tokens (length (tokens_of text))) (Some TooMany) None)
+          ≡ None → IsAccepted text) [
+            | false ↦ λ _ e. absurd cc
+            | true ↦ λ tokens. elim (nat_lt max_tokens (length (tokens_of text))) as
+                (λ c. nat_lt max_tokens (length (tokens_of text)) ≡ c
+                → cond c (Some TooMany) None ≡ None → IsAccepted text) [
+                  | true ↦ λ _ e. absurd cc
+                  | false ↦ λ few _.
+                      record {
+                        short = ltb-false _ _ short;
+                        tokens = tokens;
+                        few = ltb-false _ _ few;
+                      }
+                ] refl
+          ] refl
     ] refl h
 
 -- a text that passes each test breaks no rule
 pub scope_refusal-None : (text : List ℕ) → IsAccepted text → scope_refusal text ≡ None
-scope_refusal-None text a = rw (le-ltb greatest_length (length text) a.short, a.tokens, le-ltb max_tokens (length (tokens_of text)) a.few) refl
+scope_refusal-None text a = rw (
+  le-ltb greatest_length (length text) a.short,
+  a.tokens,
+  le-ltb max_tokens (length (tokens_of text)) a.few,
+) refl
 
 -- a text that passes each test is the scope of its tokens
 pub scope_of-accepted : (text : List ℕ) → IsAccepted text
@@ -138,7 +166,10 @@ scope_of-accepted text a = rw (scope_refusal-None text a) refl
 pub accepted_by_scope : (text scope : List ℕ) → scope_of text ≡ Some scope
     → IsAccepted text × (scope ≡ scope_text (tokens_of text))
 accepted_by_scope text scope h =
-    elim (scope_refusal text) as (λ r. scope_refusal text ≡ r → cond (is_some r) None (Some (scope_text (tokens_of text))) ≡ Some scope → IsAccepted text × (scope ≡ scope_text (tokens_of text))) [
+    elim (scope_refusal text) as
+    (λ r. scope_refusal text ≡ r
+    → cond (is_some r) None (Some (scope_text (tokens_of text))) ≡ Some scope
+    → IsAccepted text × (scope ≡ scope_text (tokens_of text))) [
       | None ↦ λ none e. (accepted text none, cc)
       | Some e ↦ λ _ f. absurd cc
     ] refl h
@@ -151,7 +182,8 @@ no_scope text e h = rw h refl
 pub not_utf8 : (text : List ℕ) → length text ≤ greatest_length → (IsUtf8 text → ⊥)
     → scope_refusal text ≡ Some Malformed
 not_utf8 text short none =
-    elim (list_all is_token (tokens_of text)) as (λ b. list_all is_token (tokens_of text) ≡ b → scope_refusal text ≡ Some Malformed) [
+    elim (list_all is_token (tokens_of text)) as
+    (λ b. list_all is_token (tokens_of text) ≡ b → scope_refusal text ≡ Some Malformed) [
       | true ↦ λ tokens. absurd (none (tokens_utf8 text tokens))
       | false ↦ λ bad. rw (le-ltb greatest_length (length text) short, bad) refl
     ] refl
@@ -161,14 +193,21 @@ not_utf8 text short none =
 -- the tokens of the printed form are the tokens of the text in order
 pub tokens_of-scope_text : (text : List ℕ) → IsAccepted text
     → tokens_of (scope_text (tokens_of text)) ≡ in_order (tokens_of text)
-tokens_of-scope_text text a = tokens_of-join (in_order (tokens_of text)) (in_order_some (tokens_of text) (tokens_some text)) (in_order_tokens (tokens_of text) a.tokens)
+tokens_of-scope_text text a = tokens_of-join (in_order (tokens_of text))
+    (in_order_some (tokens_of text) (tokens_some text)) (in_order_tokens (tokens_of text) a.tokens)
 
 -- the printed form is no longer than the text
 printed_short : (text : List ℕ) → length (scope_text (tokens_of text)) ≤ length text
 printed_short text =
     let ts = tokens_of text in
-    let whole : length (join_with_byte 0x20 ts) ≡ length text = ap length (join_with_byte-slice_split 0x20 text) in
-    omega (arith, length-join ts (tokens_some text), length-join (in_order ts) (in_order_some ts (tokens_some text)), in_order_shorter ts)
+    let whole : length (join_with_byte 0x20 ts) ≡ length text =
+    ap length (join_with_byte-slice_split 0x20 text) in
+    omega (
+      arith,
+      length-join ts (tokens_some text),
+      length-join (in_order ts) (in_order_some ts (tokens_some text)),
+      in_order_shorter ts,
+    )
 
 -- the printed form passes each test
 printed_accepted : (text : List ℕ) → IsAccepted text → IsAccepted (scope_text (tokens_of text))
@@ -185,26 +224,32 @@ pub scope_text_again : (text : List ℕ) → IsAccepted text
     → scope_of (scope_text (tokens_of text)) ≡ Some (scope_text (tokens_of text))
 scope_text_again text a =
     scope_of-accepted (scope_text (tokens_of text)) (printed_accepted text a)
-    ∙ ap (λ (ts : List (List ℕ)). Some (join_with_byte 0x20 ts)) (ap in_order (tokens_of-scope_text text a) ∙ in_order-in_order (tokens_of text))
+    ∙ ap (λ (ts : List (List ℕ)). Some (join_with_byte 0x20 ts))
+    (ap in_order (tokens_of-scope_text text a) ∙ in_order-in_order (tokens_of text))
 
 -- the printed form has the same tokens as the text
 pub scope_text_members : (text : List ℕ) → IsAccepted text
     → HasSameTokens text (scope_text (tokens_of text))
 scope_text_members text a =
     let cut = tokens_of-scope_text text a in (
-      subst (λ (us : List (List ℕ)). All (Contains us) (tokens_of text)) (sym cut) (All-in_order_contains (tokens_of text)),
-      subst (λ (us : List (List ℕ)). All (Contains (tokens_of text)) us) (sym cut) (All-contains_in_order (tokens_of text)),
+      subst (λ (us : List (List ℕ)). All (Contains us) (tokens_of text)) (sym cut)
+          (All-in_order_contains (tokens_of text)),
+      subst (λ (us : List (List ℕ)). All (Contains (tokens_of text)) us) (sym cut)
+          (All-contains_in_order (tokens_of text)),
     )
 
 -- the tokens of a scope rise
 pub scope_rises : (scope : List ℕ) → scope_of scope ≡ Some scope → Rises (tokens_of scope)
 scope_rises scope h =
     let a = accepted_by_scope scope scope h in
-    let cut : tokens_of scope ≡ in_order (tokens_of scope) = ap tokens_of a.1 ∙ tokens_of-scope_text scope a.0 in
+    let cut : tokens_of scope ≡ in_order (tokens_of scope) =
+    ap tokens_of a.1 ∙ tokens_of-scope_text scope a.0 in
     subst Rises (sym cut) (in_order_rises (tokens_of scope))
 
 -- scopes with the same tokens are equal
 pub same_scope : (a b : List ℕ) → scope_of a ≡ Some a → scope_of b ≡ Some b → HasSameTokens a b
     → a ≡ b
 same_scope a b p q h =
-    (accepted_by_scope a a p).1 ∙ ap (join_with_byte 0x20) (in_order_same (tokens_of a) (tokens_of b) h.0 h.1) ∙ sym (accepted_by_scope b b q).1
+    (accepted_by_scope a a p).1
+    ∙ ap (join_with_byte 0x20) (in_order_same (tokens_of a) (tokens_of b) h.0 h.1)
+    ∙ sym (accepted_by_scope b b q).1

@@ -25,11 +25,13 @@ joined_above (Some Skipped) (Some Skipped) s below agrees = tt
 grown : (S T : Slots) (items : List (Dot × Slot)) → SlotsBelow S T → AllFit S items
     → SlotsBelow S (with_slots T items)
 grown S T [] below fit = below
-grown S T (i ∷ more) below fit = grown S (map.insert T i.0 (joined_slot (map.get T i.0) i.1)) more one fit.1
+grown S T (i ∷ more) below fit =
+    grown S (map.insert T i.0 (joined_slot (map.get T i.0) i.1)) more one fit.1
   where
     one : SlotsBelow S (map.insert T i.0 (joined_slot (map.get T i.0) i.1))
     one q = by_dot (λ o. SlotBelow (map.get S q) o) T i.0 (joined_slot (map.get T i.0) i.1) q
-        (λ same. subst (λ d. SlotBelow (map.get S d) (Some (joined_slot (map.get T i.0) i.1))) (sym same)
+        (λ same. subst (λ d. SlotBelow (map.get S d) (Some (joined_slot (map.get T i.0) i.1)))
+        (sym same)
         (joined_above (map.get S i.0) (map.get T i.0) i.1 (below i.0) fit.0)) (below q)
 
 -- what was known of each dot is still known, or is skipped

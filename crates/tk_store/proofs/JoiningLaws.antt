@@ -36,7 +36,8 @@ AllIn-append U (f ∷ fs) gs a b = (a.0, AllIn-append U fs gs a.1 b)
 -- a fact of a list whose facts are in U is in U
 pub AllIn-contains : (U : FactSet) (fs : Facts) (f : Dot × Body) → AllIn U fs → Contains fs f
     → map.get U f.0 ≡ Some f.1
-AllIn-contains U fs f all c = subst (λ (g : Dot × Body). map.get U g.0 ≡ Some g.1) c.2 (AllIn-at U fs c.0 f all c.1)
+AllIn-contains U fs f all c =
+    subst (λ (g : Dot × Body). map.get U g.0 ≡ Some g.1) c.2 (AllIn-at U fs c.0 f all c.1)
 
 empty_subset : (U : FactSet) → IsSubset map.empty U
 empty_subset U d b h = absurd (none_is_not_some b (sym (map.get-empty dot_cmp d) ∙ h))
@@ -46,15 +47,18 @@ held_with_facts : (F U : FactSet) (fs : Facts) → IsSubset F U → AllIn U fs
     → AllIn (with_facts F fs) fs
 held_with_facts F U [] f a = tt
 held_with_facts F U (x ∷ fs) f a =
-    let more = subset_insert F U x.0 x.1 f a.0 in
-    (keeps_with_facts (map.insert F x.0 x.1) U fs more a.1 x.0 x.1 (get_here F x.0 x.1), held_with_facts (map.insert F x.0 x.1) U fs more a.1)
+    let more = subset_insert F U x.0 x.1 f a.0 in (
+      keeps_with_facts (map.insert F x.0 x.1) U fs more a.1 x.0 x.1 (get_here F x.0 x.1),
+      held_with_facts (map.insert F x.0 x.1) U fs more a.1,
+    )
 
 -- a fact of a set with facts added was in the set, or is one of those added
 only_with_facts : (F : FactSet) (fs : Facts) (d : Dot) (b : Body)
     → map.get (with_facts F fs) d ≡ Some b → (map.get F d ≡ Some b) ⊎ Contains fs (d, b)
 only_with_facts F [] d b h = inl h
 only_with_facts F (x ∷ fs) d b h = elim (only_with_facts (map.insert F x.0 x.1) fs d b h) [
-  | inl before ↦ of_dot F x.0 x.1 d b ((map.get F d ≡ Some b) ⊎ Contains (x ∷ fs) (d, b)) (λ same body. inr (0, omega arith, first (d, b) (sym same) body)) inl before
+  | inl before ↦ of_dot F x.0 x.1 d b ((map.get F d ≡ Some b) ⊎ Contains (x ∷ fs) (d, b))
+      (λ same body. inr (0, omega arith, first (d, b) (sym same) body)) inl before
   | inr later ↦ inr (Contains-append_right (x ∷ []) fs (d, b) later)
 ]
   where
@@ -67,7 +71,8 @@ joins_with_facts U F fs within all = record {
   kept = keeps_with_facts F U fs within all;
   held = held_with_facts F U fs within all;
   only = only_with_facts F fs;
-  agree = λ d b c at there. some_injective b c (sym (within d b at) ∙ subset_with_facts map.empty U fs (empty_subset U) all d c there);
+  agree = λ d b c at there. some_injective b c
+      (sym (within d b at) ∙ subset_with_facts map.empty U fs (empty_subset U) all d c there);
   joins = with_facts_is_joined F fs;
 }
 
@@ -81,10 +86,12 @@ pub joins_more : {F G H : FactSet} {fs gs : Facts} → JoinsFacts F fs G → Joi
     → JoinsFacts F (fs ++ gs) H
 joins_more {F} {G} {H} {fs} {gs} k h =
     subst (JoinsFacts F (fs ++ gs)) (sym both)
-    (joins_with_facts H F (fs ++ gs) (subset_trans F G H k.kept h.kept) (AllIn-append H fs gs (AllIn-subset G H fs h.kept k.held) h.held))
+    (joins_with_facts H F (fs ++ gs) (subset_trans F G H k.kept h.kept)
+    (AllIn-append H fs gs (AllIn-subset G H fs h.kept k.held) h.held))
   where
     both : H ≡ with_facts F (fs ++ gs)
-    both = joins_is_with_facts h ∙ ap (λ K. with_facts K gs) (joins_is_with_facts k) ∙ sym (with_facts-append F fs gs)
+    both = joins_is_with_facts h ∙ ap (λ K. with_facts K gs) (joins_is_with_facts k)
+        ∙ sym (with_facts-append F fs gs)
 
 -- the result of joining facts is within the result of joining a list that has them all
 same_subset : (F G H : FactSet) (fs gs : Facts) → JoinsFacts F fs G → JoinsFacts F gs H
@@ -97,4 +104,5 @@ same_subset F G H fs gs k h into d b at = elim (k.only d b at) [
 pub joins_same : {F G H : FactSet} {fs gs : Facts} → JoinsFacts F fs G → JoinsFacts F gs H
     → SameFacts fs gs → G ≡ H
 joins_same {F} {G} {H} {fs} {gs} k h same =
-    subset_antisym G H (same_subset F G H fs gs k h (λ f. (same f).0)) (same_subset F H G gs fs h k (λ f. (same f).1))
+    subset_antisym G H (same_subset F G H fs gs k h (λ f. (same f).0))
+    (same_subset F H G gs fs h k (λ f. (same f).1))

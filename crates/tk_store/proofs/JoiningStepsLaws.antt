@@ -28,8 +28,11 @@ fit_found : (F : FactSet) (es : Facts) (q : Dot) (b : Body) → AllFit F es
     → map.find dot_cmp q es ≡ Some b → FitsIn F (q, b)
 fit_found F [] q b a h = absurd (none_is_not_some b h)
 fit_found F (e ∷ es) q b a h = elim (cases_Bool (eq_by_cmp dot_cmp q e.0)) [
-  | inl here ↦ moved (tied q e.0 here) (some_injective e.1 b (sym (cond-true (eq_by_cmp dot_cmp q e.0) (Some e.1) (map.find dot_cmp q es) here) ∙ h)) a.0
-  | inr more ↦ fit_found F es q b a.1 (sym (cond-false (eq_by_cmp dot_cmp q e.0) (Some e.1) (map.find dot_cmp q es) more) ∙ h)
+  | inl here ↦ moved (tied q e.0 here)
+      (some_injective e.1 b
+      (sym (cond-true (eq_by_cmp dot_cmp q e.0) (Some e.1) (map.find dot_cmp q es) here) ∙ h)) a.0
+  | inr more ↦ fit_found F es q b a.1
+      (sym (cond-false (eq_by_cmp dot_cmp q e.0) (Some e.1) (map.find dot_cmp q es) more) ∙ h)
 ]
   where
     moved : q ≡ e.0 → e.1 ≡ b → FitsIn F e → FitsIn F (q, b)
@@ -40,14 +43,17 @@ in_found : (S : FactSet) (es : Facts) (q : Dot) (b : Body) → AllIn S es
     → map.find dot_cmp q es ≡ Some b → map.get S q ≡ Some b
 in_found S [] q b a h = absurd (none_is_not_some b h)
 in_found S (e ∷ es) q b a h = elim (cases_Bool (eq_by_cmp dot_cmp q e.0)) [
-  | inl here ↦ ap (map.get S) (tied q e.0 here) ∙ a.0 ∙ sym (cond-true (eq_by_cmp dot_cmp q e.0) (Some e.1) (map.find dot_cmp q es) here) ∙ h
-  | inr more ↦ in_found S es q b a.1 (sym (cond-false (eq_by_cmp dot_cmp q e.0) (Some e.1) (map.find dot_cmp q es) more) ∙ h)
+  | inl here ↦ ap (map.get S) (tied q e.0 here) ∙ a.0
+      ∙ sym (cond-true (eq_by_cmp dot_cmp q e.0) (Some e.1) (map.find dot_cmp q es) here) ∙ h
+  | inr more ↦ in_found S es q b a.1
+      (sym (cond-false (eq_by_cmp dot_cmp q e.0) (Some e.1) (map.find dot_cmp q es) more) ∙ h)
 ]
 
 -- ---- comparing entries
 
 pub compared_start : (F G : FactSet) (rest : Facts) → rest ≡ map.entries G → Compared F G rest
-compared_start F G rest e = record { left = subst (AllIn G) (sym e) (AllIn-entries G); fit = λ a. subst (AllFit F) e a }
+compared_start F G rest e =
+    record { left = subst (AllIn G) (sym e) (AllIn-entries G); fit = λ a. subst (AllFit F) e a }
 
 pub compared_more : (F G : FactSet) (rest : Facts) (f : Dot × Body) (more : Facts) → rest ≡ f ∷ more
     → Compared F G rest → FitsIn F f → Compared F G more
@@ -56,11 +62,14 @@ compared_more F G rest f more e c h =
     record { left = left.1; fit = λ a. c.fit (subst (AllFit F) (sym e) (h, a)) }
 
 pub compared_all : (F G : FactSet) (rest : Facts) → rest ≡ [] → Compared F G rest → Agree F G
-compared_all F G rest e c d x y at there = fit_found F (map.entries G) d y (c.fit (subst (AllFit F) (sym e) tt)) (sym (map.get-entries G d) ∙ there) x at
+compared_all F G rest e c d x y at there =
+    fit_found F (map.entries G) d y (c.fit (subst (AllFit F) (sym e) tt))
+    (sym (map.get-entries G d) ∙ there) x at
 
 pub compared_not : (F G : FactSet) (rest : Facts) (f : Dot × Body) (more : Facts) → rest ≡ f ∷ more
     → Compared F G rest → Agree F G → FitsIn F f
-compared_not F G rest f more e c agree b at = (let left : AllIn G (f ∷ more) = subst (AllIn G) e c.left in agree f.0 b f.1 at left.0)
+compared_not F G rest f more e c agree b at =
+    (let left : AllIn G (f ∷ more) = subst (AllIn G) e c.left in agree f.0 b f.1 at left.0)
 
 -- ---- adding entries
 
@@ -81,31 +90,39 @@ joins_start F G rest e agree = record {
 -- an entry that is left to add is in the join
 left_in : (F G N : FactSet) (rest : Facts) (f : Dot × Body) (more : Facts) → rest ≡ f ∷ more
     → Joins F G N rest → map.get (joined F G) f.0 ≡ Some f.1
-left_in F G N rest f more e j = (let left : AllIn G (f ∷ more) = subst (AllIn G) e j.left in get-joined F G f.0 ∙ ap (λ x. either x (map.get F f.0)) left.0)
+left_in F G N rest f more e j = (let left : AllIn G (f ∷ more) = subst (AllIn G) e j.left in
+    get-joined F G f.0 ∙ ap (λ x. either x (map.get F f.0)) left.0)
 
 pub joins_fits : (F G N : FactSet) (rest : Facts) (f : Dot × Body) (more : Facts) → rest ≡ f ∷ more
     → Joins F G N rest → FitsIn N f
-joins_fits F G N rest f more e j b at = some_injective b f.1 (sym (j.below f.0 b at) ∙ left_in F G N rest f more e j)
+joins_fits F G N rest f more e j b at =
+    some_injective b f.1 (sym (j.below f.0 b at) ∙ left_in F G N rest f more e j)
 
 pub joins_passes : (F G N : FactSet) (rest : Facts) (f : Dot × Body) (more : Facts)
     → rest ≡ f ∷ more → Joins F G N rest → IsFactSet G → refusal_of f.1 ≡ None
-joins_passes F G N rest f more e j sound = (let left : AllIn G (f ∷ more) = subst (AllIn G) e j.left in sound f.0 f.1 left.0)
+joins_passes F G N rest f more e j sound =
+    (let left : AllIn G (f ∷ more) = subst (AllIn G) e j.left in sound f.0 f.1 left.0)
 
 pub joins_next : (F G N M : FactSet) (rest : Facts) (f : Dot × Body) (more : Facts)
     → rest ≡ f ∷ more → Joins F G N rest → M ≡ map.insert N f.0 f.1 → Joins F G M more
 joins_next F G N M rest f more e j is =
     let left : AllIn G (f ∷ more) = subst (AllIn G) e j.left in
     let at : AllIn (joined F G) (f ∷ []) = (left_in F G N rest f more e j, tt) in
-    let keeps : IsSubset N M = subst (IsSubset N) (sym is) (keeps_with_facts N (joined F G) (f ∷ []) j.below at) in
+    let keeps : IsSubset N M =
+    subst (IsSubset N) (sym is) (keeps_with_facts N (joined F G) (f ∷ []) j.below at) in
     record {
       left = left.1;
       above = subset_trans F N M j.above keeps;
-      below = subst (λ (S : FactSet). IsSubset S (joined F G)) (sym is) (subset_with_facts N (joined F G) (f ∷ []) j.below at);
-      all = λ S w a. j.all S (subset_trans N M S keeps w) (subst (AllIn S) (sym e) (w f.0 f.1 (ap (λ (X : FactSet). map.get X f.0) is ∙ get_here N f.0 f.1), a));
+      below = subst (λ (S : FactSet). IsSubset S (joined F G)) (sym is)
+          (subset_with_facts N (joined F G) (f ∷ []) j.below at);
+      all = λ S w a. j.all S (subset_trans N M S keeps w)
+          (subst (AllIn S) (sym e)
+          (w f.0 f.1 (ap (λ (X : FactSet). map.get X f.0) is ∙ get_here N f.0 f.1), a));
     }
 
 pub joins_end : (F G N : FactSet) (rest : Facts) → rest ≡ [] → Joins F G N rest → N ≡ joined F G
-joins_end F G N rest e j = same_set N (joined F G) (λ q. by_both q (map.get G q) (map.get F q) refl refl)
+joins_end F G N rest e j =
+    same_set N (joined F G) (λ q. by_both q (map.get G q) (map.get F q) refl refl)
   where
     in_all : AllIn N (map.entries G)
     in_all = j.all N (subset_itself N) (subst (AllIn N) (sym e) tt)
@@ -117,10 +134,13 @@ joins_end F G N rest e j = same_set N (joined F G) (λ q. by_both q (map.get G q
 
     by_both : (q : Dot) (x y : Option Body) → map.get G q ≡ x → map.get F q ≡ y
         → map.get N q ≡ map.get (joined F G) q
-    by_both q (Some b) y g f = in_found N (map.entries G) q b in_all (sym (map.get-entries G q) ∙ g) ∙ sym (get-joined F G q ∙ ap (λ z. either z (map.get F q)) g)
-    by_both q None (Some b) g f = j.above q b f ∙ sym (get-joined F G q ∙ ap (λ z. either z (map.get F q)) g ∙ f)
+    by_both q (Some b) y g f = in_found N (map.entries G) q b in_all (sym (map.get-entries G q) ∙ g)
+        ∙ sym (get-joined F G q ∙ ap (λ z. either z (map.get F q)) g)
+    by_both q None (Some b) g f =
+        j.above q b f ∙ sym (get-joined F G q ∙ ap (λ z. either z (map.get F q)) g ∙ f)
     by_both q None None g f =
-        let none : map.get (joined F G) q ≡ None = get-joined F G q ∙ ap (λ z. either z (map.get F q)) g ∙ f in
+        let none : map.get (joined F G) q ≡ None =
+        get-joined F G q ∙ ap (λ z. either z (map.get F q)) g ∙ f in
         nothing q (map.get N q) refl none ∙ sym none
 
 taken_by : (F G : FactSet) (f : Dot × Body) (a : Added) → Adds F f (Ok a) G
@@ -130,12 +150,14 @@ taken_by F G f Held adds = adds.1 ∙ sym (insert_held F f.0 f.1 adds.0)
 
 pub taken : (F G : FactSet) (f p : Dot × Body) (a : Added) → p ≡ f → Adds F p (Ok a) G
     → G ≡ map.insert F f.0 f.1
-taken F G f p a same adds = taken_by F G f a (subst (λ (x : Dot × Body). Adds F x (Ok a) G) same adds)
+taken F G f p a same adds =
+    taken_by F G f a (subst (λ (x : Dot × Body). Adds F x (Ok a) G) same adds)
 
 -- ---- looking for entries
 
 pub sought_start : (F G : FactSet) (rest : Facts) → rest ≡ map.entries G → Sought F G rest
-sought_start F G rest e = record { left = subst (AllIn G) (sym e) (AllIn-entries G); all = λ a. subst (AllIn F) e a }
+sought_start F G rest e =
+    record { left = subst (AllIn G) (sym e) (AllIn-entries G); all = λ a. subst (AllIn F) e a }
 
 pub sought_more : (F G : FactSet) (rest : Facts) (f : Dot × Body) (more : Facts) → rest ≡ f ∷ more
     → Sought F G rest → map.get F f.0 ≡ Some f.1 → Sought F G more
@@ -144,8 +166,10 @@ sought_more F G rest f more e c h =
     record { left = left.1; all = λ a. c.all (subst (AllIn F) (sym e) (h, a)) }
 
 pub sought_all : (F G : FactSet) (rest : Facts) → rest ≡ [] → Sought F G rest → IsSubset G F
-sought_all F G rest e c d b at = in_found F (map.entries G) d b (c.all (subst (AllIn F) (sym e) tt)) (sym (map.get-entries G d) ∙ at)
+sought_all F G rest e c d b at = in_found F (map.entries G) d b (c.all (subst (AllIn F) (sym e) tt))
+    (sym (map.get-entries G d) ∙ at)
 
 pub sought_not : (F G : FactSet) (rest : Facts) (f : Dot × Body) (more : Facts) → rest ≡ f ∷ more
     → Sought F G rest → IsSubset G F → map.get F f.0 ≡ Some f.1
-sought_not F G rest f more e c within = (let left : AllIn G (f ∷ more) = subst (AllIn G) e c.left in within f.0 f.1 left.0)
+sought_not F G rest f more e c within =
+    (let left : AllIn G (f ∷ more) = subst (AllIn G) e c.left in within f.0 f.1 left.0)

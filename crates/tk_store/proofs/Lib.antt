@@ -15,6 +15,7 @@ pub mod SlotLaws
 pub mod SlotOrderLaws
 pub mod SubsetLaws
 pub mod TableLaws
+pub mod TableWalkLaws
 pub mod PassingLaws
 pub mod WalkLaws
 pub mod WholeLaws

@@ -43,8 +43,13 @@ module _ {X : Type 0} where
       → map.find dot_cmp q es ≡ Some b → q.serial ≤ last_serial r es
   at_most_last_serial r [] q b here h = absurd (none_is_not_some b h)
   at_most_last_serial r (e ∷ es) q b here h =
-      elim (eq_by_cmp dot_cmp q e.0) as (λ t. eq_by_cmp dot_cmp q e.0 ≡ t → cond t (Some e.1) (map.find dot_cmp q es) ≡ Some b → q.serial ≤ last_serial r (e ∷ es)) [
-        | true ↦ λ same _. let region = ap (λ d. d.region) (tied q e.0 same) in let serial = ap (λ d. d.serial) (tied q e.0 same) in first_counts r e.0.region e.0.serial (last_serial r es) q.serial (sym region ∙ here) serial
+      elim (eq_by_cmp dot_cmp q e.0) as
+      (λ t. eq_by_cmp dot_cmp q e.0 ≡ t → cond t (Some e.1) (map.find dot_cmp q es) ≡ Some b
+      → q.serial ≤ last_serial r (e ∷ es)) [
+        | true ↦ λ same _. let region = ap (λ d. d.region) (tied q e.0 same) in
+            let serial = ap (λ d. d.serial) (tied q e.0 same) in
+            first_counts r e.0.region e.0.serial (last_serial r es) q.serial
+            (sym region ∙ here) serial
         | false ↦ λ _ k. let rest = at_most_last_serial r es q b here k in omega arith
       ] refl h
     where
@@ -56,7 +61,8 @@ module _ {X : Type 0} where
   next_is_free F r =
       elim (map.get F (next_dot F r)) as (λ o. map.get F (next_dot F r) ≡ o → o ≡ None) [
         | None ↦ λ _. refl
-        | Some b ↦ λ h. let m = at_most_last_serial r (map.entries F) (next_dot F r) b refl (sym (map.get-entries F (next_dot F r)) ∙ h) in absurd (omega arith)
+        | Some b ↦ λ h. let m = at_most_last_serial r (map.entries F) (next_dot F r) b refl
+            (sym (map.get-entries F (next_dot F r)) ∙ h) in absurd (omega arith)
       ] refl
 
   -- the next dot has the serial after the greatest, if that is a serial
@@ -65,7 +71,8 @@ module _ {X : Type 0} where
       → SomeIff result (IsSerial (n + 1)) (record { region = r; serial = n + 1 })
       → SomeIff result (next_serial F r ≤ greatest_serial) (next_dot F r)
   next_dot_there F r n None same h = λ left. h (omega arith, omega arith)
-  next_dot_there F r n (Some d) same h = (omega (arith, h.0.1, same), h.1 ∙ ap (λ (m : ℕ). record { region = r; serial = m + 1 }) same)
+  next_dot_there F r n (Some d) same h =
+      (omega (arith, h.0.1, same), h.1 ∙ ap (λ (m : ℕ). record { region = r; serial = m + 1 }) same)
 
   -- ---- the greatest serial
 
@@ -74,40 +81,53 @@ module _ {X : Type 0} where
       → ((q : Dot) (b : X) → map.get F q ≡ Some b → q.region ≡ r → q.serial ≤ m)
       → last_serial r fs ≤ m
   at_most F r m [] a all = omega arith
-  at_most F r m (f ∷ fs) a all = first f.0.region f.0.serial (last_serial r fs) (all f.0 f.1 a.0) (at_most F r m fs a.1 all)
+  at_most F r m (f ∷ fs) a all =
+      first f.0.region f.0.serial (last_serial r fs) (all f.0 f.1 a.0) (at_most F r m fs a.1 all)
     where
       first : (region serial rest : ℕ) → (region ≡ r → serial ≤ m) → rest ≤ m
           → max (if region == r then serial else 0) rest ≤ m
       first region serial rest h k = grind (arith, nat_tests)
 
-  module _ (F : map.FinMap dot_cmp X) (r : ℕ) (high : (d : Dot) → IsSome (map.get F d) → d.serial ≤ greatest_serial) where
+  module _ (F : map.FinMap dot_cmp X) (r : ℕ)
+      (high : (d : Dot) → IsSome (map.get F d) → d.serial ≤ greatest_serial) where
     -- the greatest dot of the region that is held has its greatest serial
     pub greatest_is : (e : Dot) → IsSome (map.get F e)
         → IsLeBy dot_cmp (dot_at r 1) e × IsLeBy dot_cmp e (dot_at r greatest_serial)
-        → ((q : Dot) → IsLeBy dot_cmp (dot_at r 1) q × IsLeBy dot_cmp q (dot_at r greatest_serial) → IsSome (map.get F q) → is_lt (dot_cmp e q) ≡ false)
+        → ((q : Dot) → IsLeBy dot_cmp (dot_at r 1) q × IsLeBy dot_cmp q (dot_at r greatest_serial)
+        → IsSome (map.get F q) → is_lt (dot_cmp e q) ≡ false)
         → e.serial ≡ last_serial r (map.entries F)
     greatest_is e held within last =
         let here : e.region ≡ r = region_of r e within.0 within.1 in
-        let low : last_serial r (map.entries F) ≤ e.serial = at_most F r e.serial (map.entries F) (AllIn-entries F) (λ q b at same. elim (cases_lt 0 q.serial) [
+        let low : last_serial r (map.entries F) ≤ e.serial =
+        at_most F r e.serial (map.entries F) (AllIn-entries F)
+        (λ q b at same. elim (cases_lt 0 q.serial) [
           | inl some ↦
               let there : IsSome (map.get F q) = ap is_some at in
-              serial_at_most e q (here ∙ sym same) (last q (in_region r q same some (high q there)) there)
+              serial_at_most e q (here ∙ sym same)
+              (last q (in_region r q same some (high q there)) there)
           | inr none ↦ omega arith
         ]) in
-        let reached : e.serial ≤ last_serial r (map.entries F) = held_counts (map.get F e) refl held here in
+        let reached : e.serial ≤ last_serial r (map.entries F) =
+        held_counts (map.get F e) refl held here in
         omega arith
       where
         held_counts : (o : Option X) → map.get F e ≡ o → IsSome (map.get F e) → e.region ≡ r
             → e.serial ≤ last_serial r (map.entries F)
         held_counts None at held here = absurd (false≢true (sym (ap is_some at) ∙ held))
-        held_counts (Some b) at held here = at_most_last_serial r (map.entries F) e b here (sym (map.get-entries F e) ∙ at)
+        held_counts (Some b) at held here =
+            at_most_last_serial r (map.entries F) e b here (sym (map.get-entries F e) ∙ at)
 
     -- a region of which no dot is held has the greatest serial 0
-    pub greatest_none : ((q : Dot) → IsLeBy dot_cmp (dot_at r 1) q × IsLeBy dot_cmp q (dot_at r greatest_serial) → map.get F q ≡ None)
+    pub greatest_none : ((q : Dot)
+        → IsLeBy dot_cmp (dot_at r 1) q × IsLeBy dot_cmp q (dot_at r greatest_serial)
+        → map.get F q ≡ None)
         → 0 ≡ last_serial r (map.entries F)
     greatest_none none =
-        let at_zero : last_serial r (map.entries F) ≤ 0 = at_most F r 0 (map.entries F) (AllIn-entries F) (λ q b at same. elim (cases_lt 0 q.serial) [
-          | inl some ↦ absurd (none_is_not_some b (sym (none q (in_region r q same some (high q (ap is_some at)))) ∙ at))
+        let at_zero : last_serial r (map.entries F) ≤ 0 =
+        at_most F r 0 (map.entries F) (AllIn-entries F) (λ q b at same. elim (cases_lt 0 q.serial) [
+          | inl some ↦ absurd
+              (none_is_not_some b
+              (sym (none q (in_region r q same some (high q (ap is_some at)))) ∙ at))
           | inr low ↦ omega arith
         ]) in
         omega arith

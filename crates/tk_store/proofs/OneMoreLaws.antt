@@ -28,7 +28,9 @@ at_itself d = ap is_eq (tied_itself dot_cmp_total d)
 pub cases_dots : (a b : Dot) → (a ≡ b) ⊎ (a ≢ b)
 cases_dots a b = elim (cases_Bool (eq_by_cmp dot_cmp a b)) [
   | inl same ↦ inl (tied a b same)
-  | inr apart ↦ inr (λ is. true≢false (sym (at_itself b) ∙ ap (λ (x : Dot). eq_by_cmp dot_cmp x b) (sym is) ∙ apart))
+  | inr apart ↦ inr
+      (λ is. true≢false
+      (sym (at_itself b) ∙ ap (λ (x : Dot). eq_by_cmp dot_cmp x b) (sym is) ∙ apart))
 ]
 
 -- dots that differ do not compare as equal
@@ -49,15 +51,18 @@ pub more_insert : (F : FactSet) (d : Dot) (b : Body) → map.get F d ≡ None
 more_insert F d b free = record {
   free = free;
   here = get_here F d b;
-  there = λ q ne. map.get-insert dot_cmp_total F d b q ∙ cond-false (eq_by_cmp dot_cmp q d) (Some b) (map.get F q) (apart_at q d ne);
+  there = λ q ne. map.get-insert dot_cmp_total F d b q
+      ∙ cond-false (eq_by_cmp dot_cmp q d) (Some b) (map.get F q) (apart_at q d ne);
 }
 
 pub more_remove : (G : FactSet) (d : Dot) (b : Body) → map.get G d ≡ Some b
     → OneMore (map.remove G d) G d b
 more_remove G d b held = record {
-  free = map.get-remove dot_cmp_total G d d ∙ cond-true (eq_by_cmp dot_cmp d d) None (map.get G d) (at_itself d);
+  free = map.get-remove dot_cmp_total G d d
+      ∙ cond-true (eq_by_cmp dot_cmp d d) None (map.get G d) (at_itself d);
   here = held;
-  there = λ q ne. sym (map.get-remove dot_cmp_total G d q ∙ cond-false (eq_by_cmp dot_cmp q d) None (map.get G q) (apart_at q d ne));
+  there = λ q ne. sym (map.get-remove dot_cmp_total G d q
+      ∙ cond-false (eq_by_cmp dot_cmp q d) None (map.get G q) (apart_at q d ne));
 }
 
 pub more_subset : (F G : FactSet) (d : Dot) (b : Body) → OneMore F G d b → IsSubset F G
@@ -71,7 +76,8 @@ pub by_more : (P : Dot → Option Body → Type 0) (F G : FactSet) (d : Dot) (b 
     → OneMore F G d b → (q : Dot) → (q ≡ d → P d (Some b)) → (q ≢ d → P q (map.get F q))
     → P q (map.get G q)
 by_more P F G d b m q at_it elsewhere = elim (cases_dots q d) [
-  | inl same ↦ subst (λ (x : Dot). P x (map.get G x)) (sym same) (subst (P d) (sym m.here) (at_it same))
+  | inl same ↦
+      subst (λ (x : Dot). P x (map.get G x)) (sym same) (subst (P d) (sym m.here) (at_it same))
   | inr ne ↦ subst (P q) (sym (m.there q ne)) (elsewhere ne)
 ]
 
@@ -80,12 +86,16 @@ pub any_fact-more : (p : Dot × Body → Bool) (F G : FactSet) (d : Dot) (b : Bo
     → any_fact p G ≡ (p (d, b) || any_fact p F)
 any_fact-more p F G d b m = same_tests (any_fact p G) (p (d, b) || any_fact p F)
     (λ h. (let x : Passing p G = any_fact-held p G h in elim (cases_dots x.dot d) [
-      | inl same ↦ or_left (p (d, b)) (any_fact p F) (moved x.dot x.body same (some_injective x.body b (sym x.held ∙ ap (map.get G) same ∙ m.here)) x.passes)
-      | inr ne ↦ or_right (p (d, b)) (any_fact p F) (any_fact-of p F x.dot x.body (sym (m.there x.dot ne) ∙ x.held) x.passes)
+      | inl same ↦ or_left (p (d, b)) (any_fact p F)
+          (moved x.dot x.body same
+          (some_injective x.body b (sym x.held ∙ ap (map.get G) same ∙ m.here)) x.passes)
+      | inr ne ↦ or_right (p (d, b)) (any_fact p F)
+          (any_fact-of p F x.dot x.body (sym (m.there x.dot ne) ∙ x.held) x.passes)
     ]))
     (λ h. elim (or_cases (p (d, b)) (any_fact p F) h) [
       | inl new ↦ any_fact-of p G d b m.here new
-      | inr old ↦ (let x : Passing p F = any_fact-held p F old in any_fact-of p G x.dot x.body (more_subset F G d b m x.dot x.body x.held) x.passes)
+      | inr old ↦ (let x : Passing p F = any_fact-held p F old in
+          any_fact-of p G x.dot x.body (more_subset F G d b m x.dot x.body x.held) x.passes)
     ])
   where
     moved : (e : Dot) (c : Body) → e ≡ d → c ≡ b → p (e, c) ≡ true → p (d, b) ≡ true

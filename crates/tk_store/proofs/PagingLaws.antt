@@ -33,20 +33,28 @@ IsIn d b (f ∷ fs) = ((f.0 ≡ d) × (f.1 ≡ b)) ⊎ IsIn d b fs
 in_found : (fs : Entries) (d : Dot) (b : Slot) → sets.find dot_cmp d fs ≡ Some b → IsIn d b fs
 in_found [] d b h = absurd (none_is_not_some b h)
 in_found (f ∷ fs) d b h = elim (cases_Bool (eq_by_cmp dot_cmp d f.0)) [
-  | inl here ↦ inl (sym (tied d f.0 here), some_injective f.1 b (sym (cond-true (eq_by_cmp dot_cmp d f.0) (Some f.1) (sets.find dot_cmp d fs) here) ∙ h))
-  | inr more ↦ inr (in_found fs d b (sym (cond-false (eq_by_cmp dot_cmp d f.0) (Some f.1) (sets.find dot_cmp d fs) more) ∙ h))
+  | inl here ↦ inl (
+    sym (tied d f.0 here),
+    some_injective f.1 b
+        (sym (cond-true (eq_by_cmp dot_cmp d f.0) (Some f.1) (sets.find dot_cmp d fs) here) ∙ h),
+  )
+  | inr more ↦ inr
+      (in_found fs d b
+      (sym (cond-false (eq_by_cmp dot_cmp d f.0) (Some f.1) (sets.find dot_cmp d fs) more) ∙ h))
 ]
 
 in_kept : (p : Dot × Slot → Bool) (fs : Entries) (d : Dot) (b : Slot) → IsIn d b fs
     → p (d, b) ≡ true → IsIn d b (filter p fs)
 in_kept p [] d b h passes = h
 in_kept p (f ∷ fs) d b (inl here) passes =
-    let same : p f ≡ true = ap (λ (x : Dot). p (x, f.1)) here.0 ∙ ap (λ (y : Slot). p (d, y)) here.1 ∙ passes in
+    let same : p f ≡ true =
+    ap (λ (x : Dot). p (x, f.1)) here.0 ∙ ap (λ (y : Slot). p (d, y)) here.1 ∙ passes in
     subst (IsIn d b) (sym (cond-true (p f) (f ∷ filter p fs) (filter p fs) same)) (inl here)
-in_kept p (f ∷ fs) d b (inr more) passes = elim (p f) as (λ t. IsIn d b (cond t (f ∷ filter p fs) (filter p fs))) [
-  | true ↦ inr (in_kept p fs d b more passes)
-  | false ↦ in_kept p fs d b more passes
-]
+in_kept p (f ∷ fs) d b (inr more) passes =
+    elim (p f) as (λ t. IsIn d b (cond t (f ∷ filter p fs) (filter p fs))) [
+      | true ↦ inr (in_kept p fs d b more passes)
+      | false ↦ in_kept p fs d b more passes
+    ]
 
 in_all : (R : Slots) (fs : Entries) (d : Dot) (b : Slot) → IsIn d b fs → AllBelow R fs
     → SlotBelow (Some b) (sets.get R d)
@@ -65,19 +73,30 @@ below_kept : (p : Dot × Slot → Bool) (x : Dot) (fs : Entries) → T (below_al
 below_kept p x [] low = tt
 below_kept p x (f ∷ fs) low =
     let l = both _ _ low in
-    elim (p f) as (λ t. T (below_all dot_cmp x (cond t (f ∷ filter p fs) (filter p fs)))) [ true ↦ and (is_lt (dot_cmp x f.0)) _ l.0 (below_kept p x fs l.1) | false ↦ below_kept p x fs l.1 ]
+    elim (p f) as
+    (λ t. T (below_all dot_cmp x (cond t (f ∷ filter p fs) (filter p fs)))) [
+      | true ↦ and (is_lt (dot_cmp x f.0)) _ l.0 (below_kept p x fs l.1)
+      | false ↦ below_kept p x fs l.1
+    ]
 
 sorted_kept : (p : Dot × Slot → Bool) (fs : Entries) → T (sets.is_sorted dot_cmp fs)
     → T (sets.is_sorted dot_cmp (filter p fs))
 sorted_kept p [] s = tt
 sorted_kept p (f ∷ fs) s =
     let l = both _ _ s in
-    elim (p f) as (λ t. T (sets.is_sorted dot_cmp (cond t (f ∷ filter p fs) (filter p fs)))) [ true ↦ and (below_all dot_cmp f.0 (filter p fs)) _ (below_kept p f.0 fs l.0) (sorted_kept p fs l.1) | false ↦ sorted_kept p fs l.1 ]
+    elim (p f) as
+    (λ t. T (sets.is_sorted dot_cmp (cond t (f ∷ filter p fs) (filter p fs)))) [
+      | true ↦
+          and (below_all dot_cmp f.0 (filter p fs)) _ (below_kept p f.0 fs l.0)
+          (sorted_kept p fs l.1)
+      | false ↦ sorted_kept p fs l.1
+    ]
 
 below_in : (x d : Dot) (b : Slot) (fs : Entries) → T (below_all dot_cmp x fs) → IsIn d b fs
     → is_lt (dot_cmp x d) ≡ true
 below_in x d b [] low h = absurd h
-below_in x d b (f ∷ fs) low (inl here) = ap (λ (y : Dot). is_lt (dot_cmp x y)) (sym here.0) ∙ is_true (is_lt (dot_cmp x f.0)) (both _ _ low).0
+below_in x d b (f ∷ fs) low (inl here) = ap (λ (y : Dot). is_lt (dot_cmp x y)) (sym here.0)
+    ∙ is_true (is_lt (dot_cmp x f.0)) (both _ _ low).0
   where
     is_true : (t : Bool) → T t → t ≡ true
     is_true true h = refl
@@ -99,21 +118,27 @@ in_page (suc n) [] d b s h some = absurd h
 in_page (suc n) (f ∷ fs) d b s (inl here) some = inl (inl here)
 in_page (suc zero) (f ∷ fs) d b s (inr more) some = inr (below_in f.0 d b fs (both _ _ s).0 more)
 in_page (suc (suc n)) (f ∷ []) d b s (inr more) some = absurd more
-in_page (suc (suc n)) (f ∷ g ∷ fs) d b s (inr more) some = elim (in_page (suc n) (g ∷ fs) d b (both _ _ s).1 more (omega arith)) [
-  | inl page_has ↦ inl (inr page_has)
-  | inr after ↦ inr (subst (λ o. is_above o (d, b) ≡ true) (sym (last_after f g (take n fs))) after)
-]
+in_page (suc (suc n)) (f ∷ g ∷ fs) d b s (inr more) some =
+    elim (in_page (suc n) (g ∷ fs) d b (both _ _ s).1 more (omega arith)) [
+      | inl page_has ↦ inl (inr page_has)
+      | inr after ↦
+          inr (subst (λ o. is_above o (d, b) ≡ true) (sym (last_after f g (take n fs))) after)
+    ]
 
 -- ---- all pages
 
 in_beyond : (S : Slots) (v : Vector) (after : Option Dot) (d : Dot) (b : Slot)
     → sets.get S d ≡ Some b → is_beyond v (d, b) ≡ true → is_above after (d, b) ≡ true
     → IsIn d b (beyond S v after)
-in_beyond S v after d b known free past = in_kept (is_beyond v) (above S after) d b (in_kept (is_above after) (sets.entries S) d b (in_found (sets.entries S) d b (sym (sets.get-entries S d) ∙ known)) past) free
+in_beyond S v after d b known free past =
+    in_kept (is_beyond v) (above S after) d b
+    (in_kept (is_above after) (sets.entries S) d b
+    (in_found (sets.entries S) d b (sym (sets.get-entries S d) ∙ known)) past) free
 
 rises : (S : Slots) (v : Vector) (after : Option Dot)
     → T (sets.is_sorted dot_cmp (beyond S v after))
-rises S v after = sorted_kept (is_beyond v) (above S after) (sorted_kept (is_above after) (sets.entries S) (sets.entries_sorted S))
+rises S v after = sorted_kept (is_beyond v) (above S after)
+    (sorted_kept (is_above after) (sets.entries S) (sets.entries_sorted S))
 
 take_whole : (n : ℕ) (fs : Entries) → length fs ≤ n → take n fs ≡ fs
 take_whole zero [] h = refl
@@ -134,16 +159,21 @@ above_any (Some e) d b c h = h
 
 taken : (limit : ℕ) (v : Vector) (R : Slots) → 0 < limit
     → (later : List Slots) (after : Option Dot) (S : Slots) → TookPages limit v R after S later
-    → (d : Dot) (b : Slot) → sets.get S d ≡ Some b → is_beyond v (d, b) ≡ true → is_above after (d, b) ≡ true → SlotBelow (Some b) (sets.get R d)
+    → (d : Dot) (b : Slot) → sets.get S d ≡ Some b → is_beyond v (d, b) ≡ true
+    → is_above after (d, b) ≡ true → SlotBelow (Some b) (sets.get R d)
 taken limit v R some [] after S took d b known free past =
-    in_all R (page limit S v after) d b (subst (IsIn d b) (sym (take_whole limit (beyond S v after) took.1)) (in_beyond S v after d b known free past)) took.0
+    in_all R (page limit S v after) d b
+    (subst (IsIn d b) (sym (take_whole limit (beyond S v after) took.1))
+    (in_beyond S v after d b known free past)) took.0
 taken limit v R some (U ∷ later) after S took d b known free past =
-    elim (in_page limit (beyond S v after) d b (rises S v after) (in_beyond S v after d b known free past) some) [
+    elim (in_page limit (beyond S v after) d b (rises S v after)
+    (in_beyond S v after d b known free past) some) [
       | inl page_has ↦ in_all R (page limit S v after) d b page_has took.0
       | inr further ↦
           let c = above_known b (sets.get U d) grown in
           below_trans (Some b) (Some c.0) (sets.get R d) (subst (SlotBelow (Some b)) c.1 grown)
-          (taken limit v R some later (last_dot (page limit S v after)) U took.3 d c.0 c.1 free (above_any (last_dot (page limit S v after)) d b c.0 further))
+          (taken limit v R some later (last_dot (page limit S v after)) U took.3 d c.0 c.1 free
+          (above_any (last_dot (page limit S v after)) d b c.0 further))
     ]
   where
     grown : SlotBelow (Some b) (sets.get U d)

@@ -26,7 +26,8 @@ use Rattle.tk_store.proofs.EntryLaws.{AllIn-entries}
 use Rattle.tk_store.proofs.FactSetLaws.{tied}
 use Rattle.tk_store.proofs.WalkLaws.{at_end}
 use Rattle.tk_store.proofs.SlotLaws.{get_held}
-use Rattle.tk_store.proofs.TableLaws.{at, first_in, none_in, up_of, up_is}
+use Rattle.tk_store.proofs.TableLaws.{at}
+use Rattle.tk_store.proofs.TableWalkLaws.{first_in, none_in, up_of, up_is}
 use Rattle.std.proofs.lemmas.Option.{none-some as none_is_not_some, same_Some as some_injective}
 
 drops_one : (a b : Bool) (x y n m : ℕ) → a ≡ false → b ≡ true → n ≤ m → x ≡ (if a then n + 1 else n)
@@ -42,20 +43,26 @@ length_step false e xs = refl
 
 keeps_less : (a b : Bool) (x y n m : ℕ) → (a ≡ true → b ≡ true) → n ≤ m
     → x ≡ (if a then n + 1 else n) → y ≡ (if b then m + 1 else m) → x ≤ y
-keeps_less true b x y n m more le g h = (let f = more refl in subst (λ (t : Bool). y ≡ (if t then m + 1 else m) → x ≤ y) (sym f) (λ k. omega (arith, le, g, k)) h)
+keeps_less true b x y n m more le g h = (let f = more refl in
+    subst (λ (t : Bool). y ≡ (if t then m + 1 else m) → x ≤ y) (sym f)
+    (λ k. omega (arith, le, g, k)) h)
 keeps_less false true x y n m more le g h = omega (arith, le, g, h)
 keeps_less false false x y n m more le g h = omega (arith, le, g, h)
 
 keeps_lower : (a b : Bool) (x y n m : ℕ) → (a ≡ true → b ≡ true) → n < m
     → x ≡ (if a then n + 1 else n) → y ≡ (if b then m + 1 else m) → x < y
-keeps_lower true b x y n m more le g h = (let f = more refl in subst (λ (t : Bool). y ≡ (if t then m + 1 else m) → x < y) (sym f) (λ k. omega (arith, le, g, k)) h)
+keeps_lower true b x y n m more le g h = (let f = more refl in
+    subst (λ (t : Bool). y ≡ (if t then m + 1 else m) → x < y) (sym f)
+    (λ k. omega (arith, le, g, k)) h)
 keeps_lower false true x y n m more le g h = omega (arith, le, g, h)
 keeps_lower false false x y n m more le g h = omega (arith, le, g, h)
 
 module _ {X : Type 0} (p q : Dot × X → Bool) (more : (e : Dot × X) → p e ≡ true → q e ≡ true) where
   filter_most : (es : List (Dot × X)) → length (filter p es) ≤ length (filter q es)
   filter_most [] = omega arith
-  filter_most (e ∷ es) = keeps_less (p e) (q e) _ _ (length (filter p es)) (length (filter q es)) (more e) (filter_most es) (length_step (p e) e (filter p es)) (length_step (q e) e (filter q es))
+  filter_most (e ∷ es) = keeps_less (p e) (q e) _ _ (length (filter p es)) (length (filter q es))
+      (more e) (filter_most es) (length_step (p e) e (filter p es))
+      (length_step (q e) e (filter q es))
 
   -- a list that lacks an entry is shorter
   filter_less : (es : List (Dot × X)) (d : Dot) (b : X) → find dot_cmp d es ≡ Some b
@@ -64,10 +71,12 @@ module _ {X : Type 0} (p q : Dot × X → Bool) (more : (e : Dot × X) → p e �
   filter_less [] d b here on off = absurd (none_is_not_some b here)
   filter_less (e ∷ es) d b here on off = elim (cases_Bool (eq_by_cmp dot_cmp d e.0)) [
     | inl same ↦ drops_one (p e) (q e) _ _ (length (filter p es)) (length (filter q es))
-        (subst (λ (k : Dot). p (k, e.1) ≡ false) (tied d e.0 same) (off e.1)) (subst (λ (k : Dot). q (k, e.1) ≡ true) (tied d e.0 same) (on e.1)) (filter_most es)
+        (subst (λ (k : Dot). p (k, e.1) ≡ false) (tied d e.0 same) (off e.1))
+        (subst (λ (k : Dot). q (k, e.1) ≡ true) (tied d e.0 same) (on e.1)) (filter_most es)
         (length_step (p e) e (filter p es)) (length_step (q e) e (filter q es))
     | inr apart ↦ keeps_lower (p e) (q e) _ _ (length (filter p es)) (length (filter q es)) (more e)
-        (filter_less es d b (sym (cond-false _ _ _ apart) ∙ here) on off) (length_step (p e) e (filter p es)) (length_step (q e) e (filter q es))
+        (filter_less es d b (sym (cond-false _ _ _ apart) ∙ here) on off)
+        (length_step (p e) e (filter p es)) (length_step (q e) e (filter q es))
   ]
 
 -- two tests that agree on the entries keep the same
@@ -95,7 +104,8 @@ module _ (m : KeptMap) (F : Slots) (seen : slots_of m ≡ F) (after : Option Dot
   -- a fact that is held is a value of the map
   fact_kept : (q : Dot) (b : Body) → sets.get (held_in F) q ≡ Some b
       → (x : Boxed) × (sets.get m q ≡ Some (Some x)) × (x.value.1 ≡ b)
-  fact_kept q b h = by_kept (sets.get m q) refl (sym (ap held_slot (at m F seen q)) ∙ sym (get_held F q) ∙ h)
+  fact_kept q b h =
+      by_kept (sets.get m q) refl (sym (ap held_slot (at m F seen q)) ∙ sym (get_held F q) ∙ h)
     where
       by_kept : (o : Option (Option Boxed)) → sets.get m q ≡ o
           → held_slot (option_map slot_of o) ≡ Some b
@@ -105,26 +115,41 @@ module _ (m : KeptMap) (F : Slots) (seen : slots_of m ≡ F) (after : Option Dot
       by_kept (Some (Some x)) here k = (x, here, some_injective x.value.1 b k)
 
   pub passes_out : Passes m after None → above (held_in F) after ≡ []
-  passes_out next = at_end (held_in F) after (none_in after (sets.entries (held_in F)) (sets.entries_sorted (held_in F))
-      (λ q c h up. (let x = fact_kept q c (sets.get-entries (held_in F) q ∙ h) in next q x.0 (up_of after q c up) x.1)))
+  passes_out next = at_end (held_in F) after
+      (none_in after (sets.entries (held_in F)) (sets.entries_sorted (held_in F))
+      (λ q c h up.
+      (let x = fact_kept q c (sets.get-entries (held_in F) q ∙ h) in
+      next q x.0 (up_of after q c up) x.1)))
 
   fewer : (d : Dot) (k : Option Boxed) → sets.get m d ≡ Some k → IsAbove after d
       → length (above F (Some d)) < length (above F after)
-  fewer d k here up = filter_less (is_above (Some d)) (is_above after) (λ e h. up_is after e.0 e.1 (above_trans after d up e.0 h)) (sets.entries F) d (slot_of k)
-      (sym (sets.get-entries F d) ∙ at m F seen d ∙ ap (option_map slot_of) here) (λ x. up_is after d x up) (λ x. not_itself d)
+  fewer d k here up = filter_less (is_above (Some d)) (is_above after)
+      (λ e h. up_is after e.0 e.1 (above_trans after d up e.0 h)) (sets.entries F) d (slot_of k)
+      (sym (sets.get-entries F d) ∙ at m F seen d ∙ ap (option_map slot_of) here)
+      (λ x. up_is after d x up) (λ x. not_itself d)
 
   pub passes_on : AreHome m → (d : Dot) (k : Option Boxed) (r : SlotRef)
       → Passes m after (Some (d, k)) → Shows r k → PassesOn F after (Some (d, r))
   passes_on home d (Some b) (ref.Held f) next shows =
-      let held : sets.get (held_in F) d ≡ Some b.value.1 = get_held F d ∙ ap held_slot (at m F seen d ∙ ap (option_map slot_of) next.0) in
+      let held : sets.get (held_in F) d ≡ Some b.value.1 =
+      get_held F d ∙ ap held_slot (at m F seen d ∙ ap (option_map slot_of) next.0) in
       let first : slice_get (above (held_in F) after) 0 ≡ Some (d, b.value.1) =
-      first_in after (sets.entries (held_in F)) d b.value.1 (sets.entries_sorted (held_in F)) (sym (sets.get-entries (held_in F) d) ∙ held) (up_is after d b.value.1 next.1)
-      (λ q c h up. (let x = fact_kept q c (sets.get-entries (held_in F) q ∙ h) in next.2 q x.0 (up_of after q c up) x.1)) in
-      (first ∙ ap (λ (x : Dot). Some (x, b.value.1)) (sym (home d b next.0)) ∙ ap (λ (x : Dot × Body). Some x) (sym shows), fewer d (Some b) next.0 next.1)
+      first_in after (sets.entries (held_in F)) d b.value.1 (sets.entries_sorted (held_in F))
+      (sym (sets.get-entries (held_in F) d) ∙ held) (up_is after d b.value.1 next.1)
+      (λ q c h up.
+      (let x = fact_kept q c (sets.get-entries (held_in F) q ∙ h) in
+      next.2 q x.0 (up_of after q c up) x.1)) in (
+        first ∙ ap (λ (x : Dot). Some (x, b.value.1)) (sym (home d b next.0))
+            ∙ ap (λ (x : Dot × Body). Some x) (sym shows),
+        fewer d (Some b) next.0 next.1,
+      )
   passes_on home d None (ref.Held f) next shows = absurd shows
   passes_on home d (Some b) ref.Skipped next shows = absurd shows
-  passes_on home d None ref.Skipped next shows =
-      (filter_same (held_in F) (is_above after) (is_above (Some d)) (sets.entries (held_in F)) (AllIn-entries (held_in F)) same, fewer d None next.0 next.1)
+  passes_on home d None ref.Skipped next shows = (
+    filter_same (held_in F) (is_above after) (is_above (Some d)) (sets.entries (held_in F))
+        (AllIn-entries (held_in F)) same,
+    fewer d None next.0 next.1,
+  )
     where
       two_nones : (x : Boxed) → Some None ≡ Some (Some x) → ⊥
       two_nones x e = cc
@@ -144,7 +169,8 @@ module _ (m : KeptMap) (F : Slots) (seen : slots_of m ≡ F) (after : Option Dot
           other : (q : Dot) (x : Boxed) → sets.get m q ≡ Some (Some x)
               → eq_by_cmp dot_cmp q d ≡ false
           other q x here = elim (cases_Bool (eq_by_cmp dot_cmp q d)) [
-            | inl same ↦ absurd (two_nones x (sym next.0 ∙ ap (sets.get m) (sym (tied q d same)) ∙ here))
+            | inl same ↦
+                absurd (two_nones x (sym next.0 ∙ ap (sets.get m) (sym (tied q d same)) ∙ here))
             | inr apart ↦ apart
           ]
 

@@ -28,14 +28,22 @@ same_kept p q r (e ∷ es) h = by_tests (same_kept p q r es h) (p e) (q e) (r e)
   where
     by_tests : filter p (filter q es) ≡ filter p (filter r es) → (a b c : Bool) → p e ≡ a
         → (b && a) ≡ (c && a)
-        → filter p (cond b (e ∷ filter q es) (filter q es)) ≡ filter p (cond c (e ∷ filter r es) (filter r es))
-    by_tests rest true true true is k = ap (λ t. cond t (e ∷ filter p (filter q es)) (filter p (filter q es))) is ∙ ap (λ l. e ∷ l) rest ∙ sym (ap (λ t. cond t (e ∷ filter p (filter r es)) (filter p (filter r es))) is)
+        → filter p (cond b (e ∷ filter q es) (filter q es))
+        ≡ filter p (cond c (e ∷ filter r es) (filter r es))
+    by_tests rest true true true is k = ap (λ t.
+        cond t (e ∷ filter p (filter q es)) (filter p (filter q es))) is
+        ∙ ap (λ l. e ∷ l) rest
+        ∙ sym (ap (λ t. cond t (e ∷ filter p (filter r es)) (filter p (filter r es))) is)
     by_tests rest true true false is k = absurd (true≢false k)
     by_tests rest true false true is k = absurd (true≢false (sym k))
     by_tests rest true false false is k = rest
-    by_tests rest false true true is k = ap (λ t. cond t (e ∷ filter p (filter q es)) (filter p (filter q es))) is ∙ rest ∙ sym (ap (λ t. cond t (e ∷ filter p (filter r es)) (filter p (filter r es))) is)
-    by_tests rest false true false is k = ap (λ t. cond t (e ∷ filter p (filter q es)) (filter p (filter q es))) is ∙ rest
-    by_tests rest false false true is k = rest ∙ sym (ap (λ t. cond t (e ∷ filter p (filter r es)) (filter p (filter r es))) is)
+    by_tests rest false true true is k = ap (λ t.
+        cond t (e ∷ filter p (filter q es)) (filter p (filter q es))) is
+        ∙ rest ∙ sym (ap (λ t. cond t (e ∷ filter p (filter r es)) (filter p (filter r es))) is)
+    by_tests rest false true false is k =
+        ap (λ t. cond t (e ∷ filter p (filter q es)) (filter p (filter q es))) is ∙ rest
+    by_tests rest false false true is k =
+        rest ∙ sym (ap (λ t. cond t (e ∷ filter p (filter r es)) (filter p (filter r es))) is)
     by_tests rest false false false is k = rest
 
 -- a stricter test keeps no more elements
@@ -45,7 +53,8 @@ no_more p q [] h = omega arith
 no_more p q (e ∷ es) h = by_tests (no_more p q es h) (p e) (q e) (h e)
   where
     by_tests : length (filter p es) ≤ length (filter q es) → (a b : Bool) → (a ≡ true → b ≡ true)
-        → length (cond a (e ∷ filter p es) (filter p es)) ≤ length (cond b (e ∷ filter q es) (filter q es))
+        → length (cond a (e ∷ filter p es) (filter p es))
+        ≤ length (cond b (e ∷ filter q es) (filter q es))
     by_tests rest true true k = omega arith
     by_tests rest true false k = absurd (true≢false (sym (k refl)))
     by_tests rest false true k = omega arith
@@ -54,7 +63,8 @@ no_more p q (e ∷ es) h = by_tests (no_more p q es h) (p e) (q e) (h e)
 -- a vector that covers a region up to a dot j covers all between a dot of the region and j
 covered_between : (d j x : Dot) (n : ℕ) → j.region ≡ d.region → d.serial ≤ j.serial
     → (x.region ≡ d.region → n ≡ j.serial)
-    → (is_lt (dot_cmp d x) && not (nat_le x.serial n)) ≡ (is_lt (dot_cmp j x) && not (nat_le x.serial n))
+    → (is_lt (dot_cmp d x) && not (nat_le x.serial n))
+    ≡ (is_lt (dot_cmp j x) && not (nat_le x.serial n))
 covered_between d j x n same le here = grind (arith, nat_tests)
 
 above_later : (d j x : Dot) → j.region ≡ d.region → d.serial ≤ j.serial → is_lt (dot_cmp j x) ≡ true
@@ -69,7 +79,8 @@ covered_serial : (v : Vector) (f : Dot × Slot) → f.0.serial ≤ entry v f.0.r
     → is_beyond v f ≡ false
 covered_serial v f h = grind (arith, nat_tests)
 
-module _ (F : Slots) (v : Vector) (after : Option Dot) (f : Dot × Slot) (first : slice_get (above F after) 0 ≡ Some f) where
+module _ (F : Slots) (v : Vector) (after : Option Dot) (f : Dot × Slot)
+    (first : slice_get (above F after) 0 ≡ Some f) where
   went_on : above F after ≡ f ∷ above F (Some f.0)
   went_on = goes_on F after f first
 
@@ -80,12 +91,15 @@ module _ (F : Slots) (v : Vector) (after : Option Dot) (f : Dot × Slot) (first 
       → map dot_of (beyond F v after) ≡ f.0 ∷ map dot_of (beyond F v (Some f.0))
   seeks_one free =
       ap (λ l. map dot_of (filter (is_beyond v) l)) went_on
-      ∙ ap (λ t. map dot_of (cond t (f ∷ beyond F v (Some f.0)) (beyond F v (Some f.0)))) (beyond_serial v f free)
+      ∙ ap (λ t. map dot_of (cond t (f ∷ beyond F v (Some f.0)) (beyond F v (Some f.0))))
+      (beyond_serial v f free)
 
   module _ (j : Dot) (same : j.region ≡ f.0.region) (le : f.0.serial ≤ j.serial) where
     fewer_past : length (above F (Some j)) < length (above F after)
     fewer_past =
-        let less : length (above F (Some j)) ≤ length (above F (Some f.0)) = no_more (is_above (Some j)) (is_above (Some f.0)) (sets.entries F) (λ x. above_later f.0 j x.0 same le) in
+        let less : length (above F (Some j)) ≤ length (above F (Some f.0)) =
+        no_more (is_above (Some j)) (is_above (Some f.0)) (sets.entries F)
+        (λ x. above_later f.0 j x.0 same le) in
         let more = fewer in
         omega arith
 
@@ -93,14 +107,18 @@ module _ (F : Slots) (v : Vector) (after : Option Dot) (f : Dot × Slot) (first 
         → map dot_of (beyond F v after) ≡ map dot_of (beyond F v (Some j))
     seeks_past is =
         ap (λ l. map dot_of (filter (is_beyond v) l)) went_on
-        ∙ ap (λ t. map dot_of (cond t (f ∷ beyond F v (Some f.0)) (beyond F v (Some f.0)))) (covered_serial v f (omega arith))
-        ∙ ap (map dot_of) (same_kept (is_beyond v) (is_above (Some f.0)) (is_above (Some j)) (sets.entries F)
-        (λ x. covered_between f.0 j x.0 (entry v x.0.region) same le (λ here. ap (entry v) here ∙ sym is)))
+        ∙ ap (λ t. map dot_of (cond t (f ∷ beyond F v (Some f.0)) (beyond F v (Some f.0))))
+        (covered_serial v f (omega arith))
+        ∙ ap (map dot_of)
+        (same_kept (is_beyond v) (is_above (Some f.0)) (is_above (Some j)) (sets.entries F)
+        (λ x. covered_between f.0 j x.0 (entry v x.0.region) same le
+        (λ here. ap (entry v) here ∙ sym is)))
 
   pub seeks : (at : Dot) (is : Bool) → GoesOn v f.0 at is
       → SeeksAt F v after at is × (length (above F (Some at)) < length (above F after))
   seeks at true c = (
-    subst (λ (d : Dot). map dot_of (beyond F v after) ≡ d ∷ map dot_of (beyond F v (Some d))) (sym c.0) (seeks_one c.1),
+    subst (λ (d : Dot). map dot_of (beyond F v after) ≡ d ∷ map dot_of (beyond F v (Some d)))
+        (sym c.0) (seeks_one c.1),
     subst (λ (d : Dot). length (above F (Some d)) < length (above F after)) (sym c.0) fewer,
   )
   seeks at false c =
@@ -116,23 +134,31 @@ seeks_none F v after h = ap (λ l. map dot_of (filter (is_beyond v) l)) (at_end 
 -- ---- one step of the search
 
 -- the dots found and those still to be found are all, and no more are found than the limit
-pub record Found (F : Slots) (v : Vector) (limit : ℕ) (found : List Dot) (place : Option Dot) (all : List Dot) : Type 0 where
+pub record Found (F : Slots) (v : Vector) (limit : ℕ) (found : List Dot) (place : Option Dot)
+    (all : List Dot) : Type 0 where
   pub whole : found ++ map dot_of (beyond F v place) ≡ all
   pub low : length found ≤ limit
 
 pub found_none : (F : Slots) (v : Vector) (limit : ℕ) (found : List Dot) (place : Option Dot)
     → found ≡ [] → Found F v limit found place (map dot_of (beyond F v place))
-found_none F v limit found place none = record { whole = ap (λ l. l ++ map dot_of (beyond F v place)) none; low = omega (arith, ap length none) }
+found_none F v limit found place none = record {
+  whole = ap (λ l. l ++ map dot_of (beyond F v place)) none;
+  low = omega (arith, ap length none);
+}
 
-pub found_more : (F : Slots) (v : Vector) (limit : ℕ) (found more : List Dot) (place : Option Dot) (all : List Dot) (at : Dot) (is : Bool)
+pub found_more : (F : Slots) (v : Vector) (limit : ℕ) (found more : List Dot) (place : Option Dot)
+    (all : List Dot) (at : Dot) (is : Bool)
     → Found F v limit found place all → length found < limit
     → SeeksAt F v place at is → more ≡ noted found at is → Found F v limit more (Some at) all
 found_more F v limit found more place all at true f low seeks is = record {
-  whole = ap (λ l. l ++ map dot_of (beyond F v (Some at))) is ∙ append_assoc found (at ∷ []) (map dot_of (beyond F v (Some at))) ∙ ap (λ l. found ++ l) (sym seeks) ∙ f.whole;
+  whole = ap (λ l. l ++ map dot_of (beyond F v (Some at))) is
+      ∙ append_assoc found (at ∷ []) (map dot_of (beyond F v (Some at)))
+      ∙ ap (λ l. found ++ l) (sym seeks) ∙ f.whole;
   low = omega (arith, ap length is, length-append found (at ∷ []));
 }
 found_more F v limit found more place all at false f low seeks is = record {
-  whole = ap (λ l. l ++ map dot_of (beyond F v (Some at))) is ∙ ap (λ l. found ++ l) (sym seeks) ∙ f.whole;
+  whole = ap (λ l. l ++ map dot_of (beyond F v (Some at))) is ∙ ap (λ l. found ++ l) (sym seeks)
+      ∙ f.whole;
   low = omega (arith, ap length is);
 }
 
@@ -156,4 +182,6 @@ append_none (x ∷ xs) = ap (λ l. x ∷ l) (append_none xs)
 
 pub all_of_them : {X : Type 0} (found rest all : List X) (limit : ℕ) → found ++ rest ≡ all
     → rest ≡ [] → length found ≤ limit → found ≡ take limit all
-all_of_them found rest all limit is none low = sym (take_past found limit low) ∙ ap (take limit) (sym (append_none found) ∙ ap (λ l. found ++ l) (sym none) ∙ is)
+all_of_them found rest all limit is none low =
+    sym (take_past found limit low)
+    ∙ ap (take limit) (sym (append_none found) ∙ ap (λ l. found ++ l) (sym none) ∙ is)

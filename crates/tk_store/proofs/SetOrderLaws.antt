@@ -16,12 +16,15 @@ pub join_of : (F G : FactSet) → Agree F G → IsJoin IsSubset F G (joined F G)
 join_of F G agree = record {
   left = (joins_start F G (map.entries G) refl agree).below;
   right = λ d b h. get-joined F G d ∙ ap (λ x. either x (map.get F d)) h;
-  least = λ S f g d b h. first S d (map.get G d) (map.get F d) b refl refl (f d) (g d) (sym (get-joined F G d) ∙ h);
+  least = λ S f g d b h.
+      first S d (map.get G d) (map.get F d) b refl refl (f d) (g d) (sym (get-joined F G d) ∙ h);
 }
   where
     first : (S : FactSet) (d : Dot) (x y : Option Body) (b : Body) → map.get G d ≡ x
         → map.get F d ≡ y
-        → ((c : Body) → map.get F d ≡ Some c → map.get S d ≡ Some c) → ((c : Body) → map.get G d ≡ Some c → map.get S d ≡ Some c) → either (map.get G d) (map.get F d) ≡ Some b → map.get S d ≡ Some b
+        → ((c : Body) → map.get F d ≡ Some c → map.get S d ≡ Some c)
+        → ((c : Body) → map.get G d ≡ Some c → map.get S d ≡ Some c)
+        → either (map.get G d) (map.get F d) ≡ Some b → map.get S d ≡ Some b
     first S d (Some c) y b is at f g h = g b (is ∙ sym (ap (λ x. either x (map.get F d)) is) ∙ h)
     first S d None y b is at f g h = f b (sym (ap (λ x. either x (map.get F d)) is) ∙ h)
 
@@ -31,4 +34,5 @@ is_join F G N agree is = subst (IsJoin IsSubset F G) (sym is) (join_of F G agree
 -- a set within the union is within every set that both are within
 pub below_least : (F G N : FactSet) → Agree F G → IsSubset N (joined F G) → (S : FactSet)
     → IsSubset F S → IsSubset G S → IsSubset N S
-below_least F G N agree low S f g = subset_trans N (joined F G) S low ((join_of F G agree).least S f g)
+below_least F G N agree low S f g =
+    subset_trans N (joined F G) S low ((join_of F G agree).least S f g)

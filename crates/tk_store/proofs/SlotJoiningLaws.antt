@@ -35,8 +35,11 @@ found : (P : Dot → Slot → Type 0) (es : List (Dot × Slot)) (q : Dot) (s : S
     → map.find dot_cmp q es ≡ Some s → P q s
 found P [] q s a h = absurd (none_is_not_some s h)
 found P (e ∷ es) q s a h = elim (cases_Bool (eq_by_cmp dot_cmp q e.0)) [
-  | inl here ↦ moved (tied q e.0 here) (some_injective e.1 s (sym (cond-true (eq_by_cmp dot_cmp q e.0) (Some e.1) (map.find dot_cmp q es) here) ∙ h)) a.0
-  | inr more ↦ found P es q s a.1 (sym (cond-false (eq_by_cmp dot_cmp q e.0) (Some e.1) (map.find dot_cmp q es) more) ∙ h)
+  | inl here ↦ moved (tied q e.0 here)
+      (some_injective e.1 s
+      (sym (cond-true (eq_by_cmp dot_cmp q e.0) (Some e.1) (map.find dot_cmp q es) here) ∙ h)) a.0
+  | inr more ↦ found P es q s a.1
+      (sym (cond-false (eq_by_cmp dot_cmp q e.0) (Some e.1) (map.find dot_cmp q es) more) ∙ h)
 ]
   where
     moved : q ≡ e.0 → e.1 ≡ s → P e.0 e.1 → P q s
@@ -60,9 +63,11 @@ agrees_none (Some s) = tt
 
 pub compared_start : (S T : Slots) (rest : List (Dot × Slot)) → rest ≡ map.entries T
     → Compared S T rest
-compared_start S T rest e = record { left = subst (AllIn T) (sym e) (AllIn-entries T); fit = λ a. subst (AllFit S) e a }
+compared_start S T rest e =
+    record { left = subst (AllIn T) (sym e) (AllIn-entries T); fit = λ a. subst (AllFit S) e a }
 
-pub compared_more : (S T : Slots) (rest : List (Dot × Slot)) (f : Dot × Slot) (more : List (Dot × Slot))
+pub compared_more : (S T : Slots) (rest : List (Dot × Slot)) (f : Dot × Slot)
+    (more : List (Dot × Slot))
     → rest ≡ f ∷ more → Compared S T rest → SlotAgrees (map.get S f.0) (Some f.1)
     → Compared S T more
 compared_more S T rest f more e c h =
@@ -75,11 +80,15 @@ compared_all S T rest e c d = by_slot (map.get T d) refl
   where
     by_slot : (o : Option Slot) → map.get T d ≡ o → SlotAgrees (map.get S d) o
     by_slot None at = agrees_none (map.get S d)
-    by_slot (Some s) at = found (λ d s. SlotAgrees (map.get S d) (Some s)) (map.entries T) d s (fit_of S (map.entries T) (c.fit (subst (AllFit S) (sym e) tt))) (sym (map.get-entries T d) ∙ at)
+    by_slot (Some s) at = found (λ d s. SlotAgrees (map.get S d) (Some s)) (map.entries T) d s
+        (fit_of S (map.entries T) (c.fit (subst (AllFit S) (sym e) tt)))
+        (sym (map.get-entries T d) ∙ at)
 
-pub compared_not : (S T : Slots) (rest : List (Dot × Slot)) (f : Dot × Slot) (more : List (Dot × Slot))
+pub compared_not : (S T : Slots) (rest : List (Dot × Slot)) (f : Dot × Slot)
+    (more : List (Dot × Slot))
     → rest ≡ f ∷ more → Compared S T rest → SlotsAgree S T → SlotAgrees (map.get S f.0) (Some f.1)
-compared_not S T rest f more e c agree = (let left : AllIn T (f ∷ more) = subst (AllIn T) e c.left in subst (SlotAgrees (map.get S f.0)) left.0 (agree f.0))
+compared_not S T rest f more e c agree = (let left : AllIn T (f ∷ more) =
+    subst (AllIn T) e c.left in subst (SlotAgrees (map.get S f.0)) left.0 (agree f.0))
 
 -- ---- joining entries
 
@@ -93,21 +102,26 @@ joins_start S T rest e agree = record {
   all = λ R w a. subst (AllBelow R) e a;
 }
 
-pub joins_fits : (S T N : Slots) (rest : List (Dot × Slot)) (f : Dot × Slot) (more : List (Dot × Slot))
+pub joins_fits : (S T N : Slots) (rest : List (Dot × Slot)) (f : Dot × Slot)
+    (more : List (Dot × Slot))
     → rest ≡ f ∷ more → Joins S T N rest → SlotAgrees (map.get N f.0) (Some f.1)
-joins_fits S T N rest f more e j = (let left : AllIn T (f ∷ more) = subst (AllIn T) e j.left in subst (SlotAgrees (map.get N f.0)) left.0 (j.agree f.0))
+joins_fits S T N rest f more e j = (let left : AllIn T (f ∷ more) = subst (AllIn T) e j.left in
+    subst (SlotAgrees (map.get N f.0)) left.0 (j.agree f.0))
 
 passes_of : (s : Slot) → ((b : Body) → held_slot (Some s) ≡ Some b → refusal_of b ≡ None) → Passes s
 passes_of (Held b) h = h b refl
 passes_of Skipped h = tt
 
-pub joins_passes : (S T N : Slots) (rest : List (Dot × Slot)) (f : Dot × Slot) (more : List (Dot × Slot))
+pub joins_passes : (S T N : Slots) (rest : List (Dot × Slot)) (f : Dot × Slot)
+    (more : List (Dot × Slot))
     → rest ≡ f ∷ more → Joins S T N rest → IsFactSet (held_in T) → Passes f.1
 joins_passes S T N rest f more e j sound =
     let left : AllIn T (f ∷ more) = subst (AllIn T) e j.left in
     passes_of f.1 (λ b h. sound f.0 b (get_held T f.0 ∙ ap held_slot left.0 ∙ h))
 
-module _ (S T N M : Slots) (agree : SlotsAgree S T) (rest : List (Dot × Slot)) (f : Dot × Slot) (more : List (Dot × Slot)) (e : rest ≡ f ∷ more) (j : Joins S T N rest) (is : M ≡ map.insert N f.0 (joined_slot (map.get N f.0) f.1)) where
+module _ (S T N M : Slots) (agree : SlotsAgree S T) (rest : List (Dot × Slot)) (f : Dot × Slot)
+    (more : List (Dot × Slot)) (e : rest ≡ f ∷ more) (j : Joins S T N rest)
+    (is : M ≡ map.insert N f.0 (joined_slot (map.get N f.0) f.1)) where
   left : AllIn T (f ∷ more)
   left = subst (AllIn T) e j.left
 
@@ -118,41 +132,56 @@ module _ (S T N M : Slots) (agree : SlotsAgree S T) (rest : List (Dot × Slot)) 
   at : (P : Dot → Option Slot → Type 0) → P f.0 (Some (joined_slot (map.get N f.0) f.1))
       → ((q : Dot) → P q (map.get N q)) → (q : Dot) → P q (map.get M q)
   at P here there q = subst (λ (R : Slots). P q (map.get R q)) (sym is)
-      (by_dot (P q) N f.0 (joined_slot (map.get N f.0) f.1) q (λ same. subst (λ (d : Dot). P d (Some (joined_slot (map.get N f.0) f.1))) (sym same) here) (there q))
+      (by_dot (P q) N f.0 (joined_slot (map.get N f.0) f.1) q
+      (λ same. subst (λ (d : Dot). P d (Some (joined_slot (map.get N f.0) f.1))) (sym same) here)
+      (there q))
 
   grows : SlotsBelow N M
-  grows = at (λ q o. SlotBelow (map.get N q) o) (join_left (map.get N f.0) f.1 fits) (λ q. below_itself (map.get N q))
+  grows = at (λ q o. SlotBelow (map.get N q) o) (join_left (map.get N f.0) f.1 fits)
+      (λ q. below_itself (map.get N q))
 
   pub joins_next : Joins S T M more
   joins_next = record {
     left = left.1;
-    agree = at (λ q o. SlotAgrees o (map.get T q)) (subst (SlotAgrees (Some (joined_slot (map.get N f.0) f.1))) (sym left.0) (join_agrees (map.get N f.0) f.1 fits)) j.agree;
+    agree = at (λ q o. SlotAgrees o (map.get T q))
+        (subst (SlotAgrees (Some (joined_slot (map.get N f.0) f.1))) (sym left.0)
+        (join_agrees (map.get N f.0) f.1 fits)) j.agree;
     above = slots_trans S N M j.above grows;
     below = at (λ q o. SlotBelow o (map.get (with_slots S (map.entries T)) q))
         (join_least (map.get N f.0) f.1 (map.get (with_slots S (map.entries T)) f.0) (j.below f.0)
-        (subst (λ (o : Option Slot). SlotBelow o (map.get (with_slots S (map.entries T)) f.0)) left.0 (joined_right S T agree f.0))) j.below;
-    all = λ R w a. j.all R (slots_trans N M R grows w) (subst (AllBelow R) (sym e) (known R (w f.0), a));
+        (subst (λ (o : Option Slot). SlotBelow o (map.get (with_slots S (map.entries T)) f.0))
+        left.0 (joined_right S T agree f.0))) j.below;
+    all = λ R w a.
+        j.all R (slots_trans N M R grows w) (subst (AllBelow R) (sym e) (known R (w f.0), a));
   }
     where
       known : (R : Slots) → SlotBelow (map.get M f.0) (map.get R f.0)
           → SlotBelow (Some f.1) (map.get R f.0)
-      known R w = below_trans (Some f.1) (Some (joined_slot (map.get N f.0) f.1)) (map.get R f.0) (join_right (map.get N f.0) f.1 fits)
-          (subst (λ (o : Option Slot). SlotBelow o (map.get R f.0)) (ap (λ (X : Slots). map.get X f.0) is ∙ get_here N f.0 (joined_slot (map.get N f.0) f.1)) w)
+      known R w = below_trans (Some f.1) (Some (joined_slot (map.get N f.0) f.1)) (map.get R f.0)
+          (join_right (map.get N f.0) f.1 fits)
+          (subst (λ (o : Option Slot). SlotBelow o (map.get R f.0))
+          (ap (λ (X : Slots). map.get X f.0) is ∙ get_here N f.0 (joined_slot (map.get N f.0) f.1))
+          w)
 
 pub joins_end : (S T N : Slots) (rest : List (Dot × Slot)) → rest ≡ [] → Joins S T N rest
     → N ≡ with_slots S (map.entries T)
-joins_end S T N rest e j = slots_antisym N (with_slots S (map.entries T)) j.below (joined_least S T N j.above (λ d. by_slot d (map.get T d) refl))
+joins_end S T N rest e j = slots_antisym N (with_slots S (map.entries T)) j.below
+    (joined_least S T N j.above (λ d. by_slot d (map.get T d) refl))
   where
     by_slot : (d : Dot) (o : Option Slot) → map.get T d ≡ o → SlotBelow o (map.get N d)
     by_slot d None at = tt
-    by_slot d (Some s) at = found (λ d s. SlotBelow (Some s) (map.get N d)) (map.entries T) d s (below_of N (map.entries T) (j.all N (slots_itself N) (subst (AllBelow N) (sym e) tt))) (sym (map.get-entries T d) ∙ at)
+    by_slot d (Some s) at = found (λ d s. SlotBelow (Some s) (map.get N d)) (map.entries T) d s
+        (below_of N (map.entries T) (j.all N (slots_itself N) (subst (AllBelow N) (sym e) tt)))
+        (sym (map.get-entries T d) ∙ at)
 
 -- ---- looking for entries
 
 pub sought_start : (S T : Slots) (rest : List (Dot × Slot)) → rest ≡ map.entries T → Sought S T rest
-sought_start S T rest e = record { left = subst (AllIn T) (sym e) (AllIn-entries T); all = λ a. subst (AllBelow S) e a }
+sought_start S T rest e =
+    record { left = subst (AllIn T) (sym e) (AllIn-entries T); all = λ a. subst (AllBelow S) e a }
 
-pub sought_more : (S T : Slots) (rest : List (Dot × Slot)) (f : Dot × Slot) (more : List (Dot × Slot))
+pub sought_more : (S T : Slots) (rest : List (Dot × Slot)) (f : Dot × Slot)
+    (more : List (Dot × Slot))
     → rest ≡ f ∷ more → Sought S T rest → SlotBelow (Some f.1) (map.get S f.0) → Sought S T more
 sought_more S T rest f more e c h =
     let left : AllIn T (f ∷ more) = subst (AllIn T) e c.left in
@@ -164,8 +193,12 @@ sought_all S T rest e c d = by_slot (map.get T d) refl
   where
     by_slot : (o : Option Slot) → map.get T d ≡ o → SlotBelow o (map.get S d)
     by_slot None at = tt
-    by_slot (Some s) at = found (λ d s. SlotBelow (Some s) (map.get S d)) (map.entries T) d s (below_of S (map.entries T) (c.all (subst (AllBelow S) (sym e) tt))) (sym (map.get-entries T d) ∙ at)
+    by_slot (Some s) at = found (λ d s. SlotBelow (Some s) (map.get S d)) (map.entries T) d s
+        (below_of S (map.entries T) (c.all (subst (AllBelow S) (sym e) tt)))
+        (sym (map.get-entries T d) ∙ at)
 
-pub sought_not : (S T : Slots) (rest : List (Dot × Slot)) (f : Dot × Slot) (more : List (Dot × Slot))
+pub sought_not : (S T : Slots) (rest : List (Dot × Slot)) (f : Dot × Slot)
+    (more : List (Dot × Slot))
     → rest ≡ f ∷ more → Sought S T rest → SlotsBelow T S → SlotBelow (Some f.1) (map.get S f.0)
-sought_not S T rest f more e c within = (let left : AllIn T (f ∷ more) = subst (AllIn T) e c.left in subst (λ (o : Option Slot). SlotBelow o (map.get S f.0)) left.0 (within f.0))
+sought_not S T rest f more e c within = (let left : AllIn T (f ∷ more) = subst (AllIn T) e c.left in
+    subst (λ (o : Option Slot). SlotBelow o (map.get S f.0)) left.0 (within f.0))

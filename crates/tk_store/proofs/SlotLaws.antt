@@ -24,13 +24,15 @@ use Rattle.std.proofs.lemmas.Option.{none-some as none_is_not_some}
 below_held : (d : Dot) (es : List (Dot × Slot)) → T (below_all dot_cmp d es)
     → T (below_all dot_cmp d (held_entries es))
 below_held d [] low = tt
-below_held d ((e, Held b) ∷ es) low = (let l = both _ _ low in and (is_lt (dot_cmp d e)) _ l.0 (below_held d es l.1))
+below_held d ((e, Held b) ∷ es) low =
+    (let l = both _ _ low in and (is_lt (dot_cmp d e)) _ l.0 (below_held d es l.1))
 below_held d ((e, Skipped) ∷ es) low = below_held d es (both _ _ low).1
 
 pub sorted_held : (es : List (Dot × Slot)) → T (map.is_sorted dot_cmp es)
     → T (map.is_sorted dot_cmp (held_entries es))
 sorted_held [] s = tt
-sorted_held ((e, Held b) ∷ es) s = (let l = both _ _ s in and (below_all dot_cmp e (held_entries es)) _ (below_held e es l.0) (sorted_held es l.1))
+sorted_held ((e, Held b) ∷ es) s = (let l = both _ _ s in
+    and (below_all dot_cmp e (held_entries es)) _ (below_held e es l.0) (sorted_held es l.1))
 sorted_held ((e, Skipped) ∷ es) s = sorted_held es (both _ _ s).1
 
 -- a dot below a list is not found in it
@@ -39,25 +41,34 @@ pub absent_below : {X : Type 0} (d : Dot) (es : List (Dot × X)) → T (below_al
 absent_below d [] low = refl
 absent_below d (e ∷ es) low =
     let l = both _ _ low in
-    ap (λ t. cond t (Some e.1) (map.find dot_cmp d es)) (not_equal (dot_cmp d e.0) l.0) ∙ absent_below d es l.1
+    ap (λ t. cond t (Some e.1) (map.find dot_cmp d es)) (not_equal (dot_cmp d e.0) l.0)
+    ∙ absent_below d es l.1
 
 pub find_held : (q : Dot) (es : List (Dot × Slot)) → T (map.is_sorted dot_cmp es)
     → map.find dot_cmp q (held_entries es) ≡ held_slot (map.find dot_cmp q es)
 find_held q [] s = refl
 find_held q ((e, Held b) ∷ es) s =
-    elim (eq_by_cmp dot_cmp q e) as (λ t. cond t (Some b) (map.find dot_cmp q (held_entries es)) ≡ held_slot (cond t (Some (Held b)) (map.find dot_cmp q es))) [
+    elim (eq_by_cmp dot_cmp q e) as
+    (λ t. cond t (Some b) (map.find dot_cmp q (held_entries es))
+    ≡ held_slot (cond t (Some (Held b)) (map.find dot_cmp q es))) [
       | true ↦ refl
       | false ↦ find_held q es (both _ _ s).1
     ]
 find_held q ((e, Skipped) ∷ es) s =
     find_held q es (both _ _ s).1
-    ∙ elim (eq_by_cmp dot_cmp q e) as (λ t. eq_by_cmp dot_cmp q e ≡ t → held_slot (map.find dot_cmp q es) ≡ held_slot (cond t (Some Skipped) (map.find dot_cmp q es))) [
-      | true ↦ λ same. ap held_slot (subst (λ (d : Dot). map.find dot_cmp d es ≡ None) (sym (tied q e same)) (absent_below e es (both _ _ s).0))
+    ∙ elim (eq_by_cmp dot_cmp q e) as
+    (λ t. eq_by_cmp dot_cmp q e ≡ t
+    → held_slot (map.find dot_cmp q es)
+    ≡ held_slot (cond t (Some Skipped) (map.find dot_cmp q es))) [
+      | true ↦ λ same. ap held_slot
+          (subst (λ (d : Dot). map.find dot_cmp d es ≡ None) (sym (tied q e same))
+          (absent_below e es (both _ _ s).0))
       | false ↦ λ _. refl
     ] refl
 
 pub entries_held : (S : Slots) → map.entries (held_in S) ≡ held_entries (map.entries S)
-entries_held S = map.entries-from_sorted dot_cmp _ (sorted_held (map.entries S) (map.entries_sorted S))
+entries_held S =
+    map.entries-from_sorted dot_cmp _ (sorted_held (map.entries S) (map.entries_sorted S))
 
 pub get_held : (S : Slots) (q : Dot) → map.get (held_in S) q ≡ held_slot (map.get S q)
 get_held S q =
@@ -71,8 +82,10 @@ length_held ((e, Skipped) ∷ es) = let l = length_held es in omega (arith, l)
 
 pub held_most : (S : Slots) → map.len (held_in S) ≤ map.len S
 held_most S =
-    let l : length (held_entries (map.entries S)) ≤ length (map.entries S) = length_held (map.entries S) in
-    let a : map.len (held_in S) ≡ length (held_entries (map.entries S)) = map.len-entries (held_in S) ∙ ap length (entries_held S) in
+    let l : length (held_entries (map.entries S)) ≤ length (map.entries S) =
+    length_held (map.entries S) in
+    let a : map.len (held_in S) ≡ length (held_entries (map.entries S)) =
+    map.len-entries (held_in S) ∙ ap length (entries_held S) in
     let b = map.len-entries S in
     omega (arith, l, a, b)
 
@@ -117,7 +130,8 @@ pub remove_free : {X : Type 0} (F : map.FinMap dot_cmp X) (d : Dot) → map.get 
     → map.remove F d ≡ F
 remove_free F d free = map.same_map dot_cmp_total dot_cmp-IsAntisymmetric _ _ (λ q.
     map.get-remove dot_cmp_total F d q
-    ∙ elim (eq_by_cmp dot_cmp q d) as (λ t. eq_by_cmp dot_cmp q d ≡ t → cond t None (map.get F q) ≡ map.get F q) [
+    ∙ elim (eq_by_cmp dot_cmp q d) as
+    (λ t. eq_by_cmp dot_cmp q d ≡ t → cond t None (map.get F q) ≡ map.get F q) [
       | true ↦ λ same. sym free ∙ ap (map.get F) (sym (tied q d same))
       | false ↦ λ _. refl
     ] refl)
@@ -125,20 +139,29 @@ remove_free F d free = map.same_map dot_cmp_total dot_cmp-IsAntisymmetric _ _ (�
 pub len_less : {X : Type 0} (F : map.FinMap dot_cmp X) (d : Dot) (x : X) → map.get F d ≡ Some x
     → map.len (map.remove F d) + 1 ≡ map.len F
 len_less F d x there =
-    let less : map.len (map.remove F d) ≡ map.len F - 1 = map.len-remove dot_cmp_total F d ∙ ap (λ o. cond (is_some o) (map.len F - 1) (map.len F)) there in
-    let again : map.insert (map.remove F d) d x ≡ F = map.same_map dot_cmp_total dot_cmp-IsAntisymmetric _ _ (λ q.
+    let less : map.len (map.remove F d) ≡ map.len F - 1 =
+    map.len-remove dot_cmp_total F d
+    ∙ ap (λ o. cond (is_some o) (map.len F - 1) (map.len F)) there in
+    let again : map.insert (map.remove F d) d x ≡ F =
+    map.same_map dot_cmp_total dot_cmp-IsAntisymmetric _ _ (λ q.
     map.get-insert dot_cmp_total (map.remove F d) d x q
-    ∙ elim (eq_by_cmp dot_cmp q d) as (λ t. eq_by_cmp dot_cmp q d ≡ t → cond t (Some x) (map.get (map.remove F d) q) ≡ map.get F q) [
+    ∙ elim (eq_by_cmp dot_cmp q d) as
+    (λ t. eq_by_cmp dot_cmp q d ≡ t → cond t (Some x) (map.get (map.remove F d) q) ≡ map.get F q) [
       | true ↦ λ same. sym there ∙ ap (map.get F) (sym (tied q d same))
       | false ↦ λ off. map.get-remove dot_cmp_total F d q ∙ ap (λ t. cond t None (map.get F q)) off
     ] refl) in
-    let free : map.get (map.remove F d) d ≡ None = map.get-remove dot_cmp_total F d d ∙ ap (λ o. cond (is_eq o) None (map.get F d)) (tied_itself dot_cmp_total d) in
-    let more : map.len (map.insert (map.remove F d) d x) ≡ map.len (map.remove F d) + 1 = map.len-insert dot_cmp_total (map.remove F d) d x ∙ ap (λ o. cond (is_some o) (map.len (map.remove F d)) (map.len (map.remove F d) + 1)) free in
+    let free : map.get (map.remove F d) d ≡ None =
+    map.get-remove dot_cmp_total F d d
+    ∙ ap (λ o. cond (is_eq o) None (map.get F d)) (tied_itself dot_cmp_total d) in
+    let more : map.len (map.insert (map.remove F d) d x) ≡ map.len (map.remove F d) + 1 =
+    map.len-insert dot_cmp_total (map.remove F d) d x
+    ∙ ap (λ o. cond (is_some o) (map.len (map.remove F d)) (map.len (map.remove F d) + 1)) free in
     sym more ∙ ap (λ (G : map.FinMap dot_cmp _). map.len G) again
 
 pub held_none : (S : Slots) → S ≡ map.empty → held_in S ≡ map.empty
 held_none S none = map.same_map dot_cmp_total dot_cmp-IsAntisymmetric _ _ (λ q.
-    get_held S q ∙ ap held_slot (ap (λ (R : Slots). map.get R q) none ∙ map.get-empty dot_cmp q) ∙ sym (map.get-empty dot_cmp q))
+    get_held S q ∙ ap held_slot (ap (λ (R : Slots). map.get R q) none ∙ map.get-empty dot_cmp q)
+    ∙ sym (map.get-empty dot_cmp q))
 
 -- the fact at a dot is taken out
 pub held_without : (S : Slots) (d : Dot)
@@ -169,7 +192,8 @@ without_unmarked S d (Some Skipped) h = absurd (true≢false h)
 whole_slot : (o : Option Slot) (b : Body) → is_skipped_slot o ≡ false → held_slot o ≡ Some b
     → o ≡ Some (Held b)
 whole_slot None b h k = absurd (none_is_not_some b k)
-whole_slot (Some (Held c)) b h k = ap (λ (x : Option Body). cond (is_some x) (whole x) (Some Skipped)) k
+whole_slot (Some (Held c)) b h k =
+    ap (λ (x : Option Body). cond (is_some x) (whole x) (Some Skipped)) k
   where
     whole : Option Body → Option Slot
     whole None = None

@@ -66,7 +66,8 @@ pub slots_trans : (S T R : Slots) → SlotsBelow S T → SlotsBelow T R → Slot
 slots_trans S T R a b d = below_trans (map.get S d) (map.get T d) (map.get R d) (a d) (b d)
 
 pub slots_antisym : (S T : Slots) → SlotsBelow S T → SlotsBelow T S → S ≡ T
-slots_antisym S T a b = map.same_map dot_cmp_total dot_cmp-IsAntisymmetric _ _ (λ d. below_antisym (map.get S d) (map.get T d) (a d) (b d))
+slots_antisym S T a b = map.same_map dot_cmp_total dot_cmp-IsAntisymmetric _ _
+    (λ d. below_antisym (map.get S d) (map.get T d) (a d) (b d))
 
 -- ---- a slot joined to what is known of its dot
 
@@ -115,12 +116,20 @@ get_with S [] sorted q = refl
 get_with S (e ∷ es) sorted q =
     let s = both _ _ sorted in
     get_with (map.insert S e.0 (joined_slot (map.get S e.0) e.1)) es s.1 q
-    ∙ ap (λ o. slot_join o (map.find dot_cmp q es)) (map.get-insert dot_cmp_total S e.0 (joined_slot (map.get S e.0) e.1) q)
-    ∙ by_dot (eq_by_cmp dot_cmp q e.0) (λ same. (ap (map.get S) (tied q e.0 same), subst (λ (d : Dot). map.find dot_cmp d es ≡ None) (sym (tied q e.0 same)) (absent_below e.0 es s.0)))
+    ∙ ap (λ o. slot_join o (map.find dot_cmp q es))
+    (map.get-insert dot_cmp_total S e.0 (joined_slot (map.get S e.0) e.1) q)
+    ∙ by_dot (eq_by_cmp dot_cmp q e.0)
+    (λ same. (
+      ap (map.get S) (tied q e.0 same),
+      subst (λ (d : Dot). map.find dot_cmp d es ≡ None) (sym (tied q e.0 same))
+          (absent_below e.0 es s.0),
+    ))
   where
     by_dot : (t : Bool)
         → (t ≡ true → (map.get S q ≡ map.get S e.0) × (map.find dot_cmp q es ≡ None))
-        → slot_join (cond t (Some (joined_slot (map.get S e.0) e.1)) (map.get S q)) (map.find dot_cmp q es) ≡ slot_join (map.get S q) (cond t (Some e.1) (map.find dot_cmp q es))
+        → slot_join (cond t (Some (joined_slot (map.get S e.0) e.1)) (map.get S q))
+        (map.find dot_cmp q es)
+        ≡ slot_join (map.get S q) (cond t (Some e.1) (map.find dot_cmp q es))
     by_dot true h =
         ap (slot_join (Some (joined_slot (map.get S e.0) e.1))) (h refl).1
         ∙ ap (λ (a : Option Slot). Some (joined_slot a e.1)) (sym (h refl).0)
@@ -128,7 +137,8 @@ get_with S (e ∷ es) sorted q =
 
 pub get_joined : (S T : Slots) (q : Dot)
     → map.get (with_slots S (map.entries T)) q ≡ slot_join (map.get S q) (map.get T q)
-get_joined S T q = get_with S (map.entries T) (map.entries_sorted T) q ∙ ap (slot_join (map.get S q)) (sym (map.get-entries T q))
+get_joined S T q = get_with S (map.entries T) (map.entries_sorted T) q
+    ∙ ap (slot_join (map.get S q)) (sym (map.get-entries T q))
 
 left_of : (a b : Option Slot) → SlotAgrees a b → SlotBelow a (slot_join a b)
 left_of a None g = below_itself a
@@ -143,14 +153,17 @@ least_of a None c x y = x
 least_of a (Some s) c x y = join_least a s c x y
 
 pub joined_left : (S T : Slots) → SlotsAgree S T → SlotsBelow S (with_slots S (map.entries T))
-joined_left S T agree d = subst (SlotBelow (map.get S d)) (sym (get_joined S T d)) (left_of (map.get S d) (map.get T d) (agree d))
+joined_left S T agree d = subst (SlotBelow (map.get S d)) (sym (get_joined S T d))
+    (left_of (map.get S d) (map.get T d) (agree d))
 
 pub joined_right : (S T : Slots) → SlotsAgree S T → SlotsBelow T (with_slots S (map.entries T))
-joined_right S T agree d = subst (SlotBelow (map.get T d)) (sym (get_joined S T d)) (right_of (map.get S d) (map.get T d) (agree d))
+joined_right S T agree d = subst (SlotBelow (map.get T d)) (sym (get_joined S T d))
+    (right_of (map.get S d) (map.get T d) (agree d))
 
 pub joined_least : (S T R : Slots) → SlotsBelow S R → SlotsBelow T R
     → SlotsBelow (with_slots S (map.entries T)) R
-joined_least S T R a b d = subst (λ (o : Option Slot). SlotBelow o (map.get R d)) (sym (get_joined S T d)) (least_of (map.get S d) (map.get T d) (map.get R d) (a d) (b d))
+joined_least S T R a b d = subst (λ (o : Option Slot). SlotBelow o (map.get R d))
+    (sym (get_joined S T d)) (least_of (map.get S d) (map.get T d) (map.get R d) (a d) (b d))
 
 -- ---- stores
 
@@ -158,7 +171,10 @@ store_itself : (P : StoreFields) → StoreBelow P P
 store_itself P = record { slots = slots_itself P.slots; horizon = omega arith }
 
 store_trans : (P Q R : StoreFields) → StoreBelow P Q → StoreBelow Q R → StoreBelow P R
-store_trans P Q R a b = record { slots = slots_trans P.slots Q.slots R.slots a.slots b.slots; horizon = omega (arith, a.horizon, b.horizon) }
+store_trans P Q R a b = record {
+  slots = slots_trans P.slots Q.slots R.slots a.slots b.slots;
+  horizon = omega (arith, a.horizon, b.horizon);
+}
 
 store_antisym : (P Q : StoreFields) → StoreBelow P Q → StoreBelow Q P → P ≡ Q
 store_antisym P Q a b =
@@ -170,7 +186,11 @@ pub join_of : (P Q : StoreFields) → StoresAgree P Q → IsJoin StoreBelow P Q 
 join_of P Q agree = record {
   left = record { slots = joined_left P.slots Q.slots agree; horizon = omega arith };
   right = record { slots = joined_right P.slots Q.slots agree; horizon = omega arith };
-  least = λ R a b. record { slots = joined_least P.slots Q.slots R.slots a.slots b.slots; horizon = let x = a.horizon in let y = b.horizon in omega arith };
+  least = λ R a b. record {
+    slots = joined_least P.slots Q.slots R.slots a.slots b.slots;
+    horizon = let x = a.horizon in
+        let y = b.horizon in omega arith;
+  };
 }
 
 pub store_laws : JoinLaws StoreBelow StoresAgree
@@ -185,7 +205,8 @@ pub is_join : (P Q N : StoreFields) → StoresAgree P Q
     → N.slots ≡ with_slots P.slots (map.entries Q.slots) → N.horizon ≡ max P.horizon Q.horizon
     → IsJoin StoreBelow P Q N
 is_join P Q N agree slots horizon =
-    let same : joined_store P Q ≡ N = λ i. record { slots = sym slots i; horizon = sym horizon i } in
+    let same : joined_store P Q ≡ N =
+    λ i. record { slots = sym slots i; horizon = sym horizon i } in
     subst (IsJoin StoreBelow P Q) same (join_of P Q agree)
 
 whole_slots : (a b c : Option Slot) → is_skipped_slot c ≡ false → SlotBelow a c → SlotBelow b c
@@ -199,24 +220,32 @@ whole_slots (Some (Held u)) (Some Skipped) (Some (Held w)) whole x y = absurd y
 whole_slots (Some Skipped) (Some t) (Some (Held w)) whole x y = absurd x
 
 pub whole_agree : WholeAgree
-whole_agree P Q R whole a b d = whole_slots (map.get P.slots d) (map.get Q.slots d) (map.get R.slots d) (whole d) (a.slots d) (b.slots d)
+whole_agree P Q R whole a b d = whole_slots (map.get P.slots d) (map.get Q.slots d)
+    (map.get R.slots d) (whole d) (a.slots d) (b.slots d)
 
 -- ---- the store after a call
 
 pub added_joins : (P Q : StoreFields) (f p : Dot × Body) (a : Added) → p ≡ f → AddsTo P p (Ok a) Q
     → Q.slots ≡ map.insert P.slots f.0 (joined_slot (map.get P.slots f.0) (Held f.1))
-added_joins P Q f p a same adds = added_by P Q f a (subst (λ (x : Dot × Body). AddsTo P x (Ok a) Q) same adds)
+added_joins P Q f p a same adds =
+    added_by P Q f a (subst (λ (x : Dot × Body). AddsTo P x (Ok a) Q) same adds)
   where
     added_by : (P Q : StoreFields) (f : Dot × Body) (a : Added) → AddsTo P f (Ok a) Q
         → Q.slots ≡ map.insert P.slots f.0 (joined_slot (map.get P.slots f.0) (Held f.1))
-    added_by P Q f added.New adds = ap (λ (X : StoreFields). X.slots) adds.1 ∙ ap (λ (o : Option Slot). map.insert P.slots f.0 (joined_slot o (Held f.1))) (sym adds.0)
-    added_by P Q f added.Held adds = ap (λ (X : StoreFields). X.slots) adds.1 ∙ by_slot (map.get P.slots f.0) refl adds.0
+    added_by P Q f added.New adds = ap (λ (X : StoreFields). X.slots) adds.1
+        ∙ ap (λ (o : Option Slot). map.insert P.slots f.0 (joined_slot o (Held f.1))) (sym adds.0)
+    added_by P Q f added.Held adds =
+        ap (λ (X : StoreFields). X.slots) adds.1 ∙ by_slot (map.get P.slots f.0) refl adds.0
       where
         by_slot : (o : Option Slot) → map.get P.slots f.0 ≡ o → HasFact f.1 o
             → P.slots ≡ map.insert P.slots f.0 (joined_slot (map.get P.slots f.0) (Held f.1))
         by_slot None at h = absurd h
-        by_slot (Some (Held c)) at h = sym (ap (λ (x : Option Slot). map.insert P.slots f.0 (joined_slot x (Held f.1))) at ∙ insert_held P.slots f.0 (Held c) at)
-        by_slot (Some Skipped) at h = sym (ap (λ (x : Option Slot). map.insert P.slots f.0 (joined_slot x (Held f.1))) at ∙ insert_held P.slots f.0 Skipped at)
+        by_slot (Some (Held c)) at h = sym (ap (λ (x : Option Slot).
+            map.insert P.slots f.0 (joined_slot x (Held f.1))) at
+            ∙ insert_held P.slots f.0 (Held c) at)
+        by_slot (Some Skipped) at h = sym (ap (λ (x : Option Slot).
+            map.insert P.slots f.0 (joined_slot x (Held f.1))) at
+            ∙ insert_held P.slots f.0 Skipped at)
 
 pub added_horizon : (P Q : StoreFields) (f : Dot × Body) (r : Result Added AddError)
     → AddsTo P f r Q → Q.horizon ≡ P.horizon
@@ -232,8 +261,10 @@ skipped_slot (Some Skipped) = refl
 
 pub skipped_joins : (P Q : StoreFields) (d : Dot) (a : Added) → Skips P d (Ok a) Q
     → Q.slots ≡ map.insert P.slots d (joined_slot (map.get P.slots d) Skipped)
-skipped_joins P Q d added.New skips = ap (λ (X : StoreFields). X.slots) skips.1 ∙ ap (λ (s : Slot). map.insert P.slots d s) (sym (skipped_slot (map.get P.slots d)))
-skipped_joins P Q d added.Held skips = ap (λ (X : StoreFields). X.slots) skips.1 ∙ ap (λ (s : Slot). map.insert P.slots d s) (sym (skipped_slot (map.get P.slots d)))
+skipped_joins P Q d added.New skips = ap (λ (X : StoreFields). X.slots) skips.1
+    ∙ ap (λ (s : Slot). map.insert P.slots d s) (sym (skipped_slot (map.get P.slots d)))
+skipped_joins P Q d added.Held skips = ap (λ (X : StoreFields). X.slots) skips.1
+    ∙ ap (λ (s : Slot). map.insert P.slots d s) (sym (skipped_slot (map.get P.slots d)))
 
 pub skipped_horizon : (P Q : StoreFields) (d : Dot) (r : Result Added AddError) → Skips P d r Q
     → Q.horizon ≡ P.horizon
@@ -245,4 +276,5 @@ skipped_horizon P Q d (Err Memory) skips = ap (λ (X : StoreFields). X.horizon) 
 -- skipping a dot that is skipped changes nothing
 pub skip_again : (P : StoreFields) (d : Dot) → map.get P.slots d ≡ Some Skipped
     → P ≡ with_skipped P d
-skip_again P d at = λ i. record { slots = sym (insert_held P.slots d Skipped at) i; horizon = P.horizon }
+skip_again P d at =
+    λ i. record { slots = sym (insert_held P.slots d Skipped at) i; horizon = P.horizon }

@@ -22,33 +22,42 @@ subset_trans F G H f g d b h = g d b (f d b h)
 -- inserting a fact of U into a set within U stays within U
 pub subset_insert : (F U : FactSet) (d : Dot) (b : Body) → IsSubset F U → map.get U d ≡ Some b
     → IsSubset (map.insert F d b) U
-subset_insert F U d b f u q c h = of_dot F d b q c (map.get U q ≡ Some c) (λ same bc. ap (map.get U) same ∙ u ∙ ap Some bc) (f q c) h
+subset_insert F U d b f u q c h = of_dot F d b q c (map.get U q ≡ Some c)
+    (λ same bc. ap (map.get U) same ∙ u ∙ ap Some bc) (f q c) h
 
 -- inserting a fact of U into a set within U removes nothing
 keeps_insert : (F U : FactSet) (d : Dot) (b : Body) → IsSubset F U → map.get U d ≡ Some b
     → IsSubset F (map.insert F d b)
-keeps_insert F U d b f u q c h = by_dot (λ o. o ≡ Some c) F d b q (λ same. sym u ∙ ap (map.get U) (sym same) ∙ f q c h) h
+keeps_insert F U d b f u q c h =
+    by_dot (λ o. o ≡ Some c) F d b q (λ same. sym u ∙ ap (map.get U) (sym same) ∙ f q c h) h
 
 pub subset_with_facts : (F U : FactSet) (fs : Facts) → IsSubset F U → AllIn U fs
     → IsSubset (with_facts F fs) U
 subset_with_facts F U [] f a = f
-subset_with_facts F U (x ∷ fs) f a = subset_with_facts (map.insert F x.0 x.1) U fs (subset_insert F U x.0 x.1 f a.0) a.1
+subset_with_facts F U (x ∷ fs) f a =
+    subset_with_facts (map.insert F x.0 x.1) U fs (subset_insert F U x.0 x.1 f a.0) a.1
 
 pub keeps_with_facts : (F U : FactSet) (fs : Facts) → IsSubset F U → AllIn U fs
     → IsSubset F (with_facts F fs)
 keeps_with_facts F U [] f a = subset_itself F
 keeps_with_facts F U (x ∷ fs) f a =
-    subset_trans F (map.insert F x.0 x.1) _ (keeps_insert F U x.0 x.1 f a.0) (keeps_with_facts (map.insert F x.0 x.1) U fs (subset_insert F U x.0 x.1 f a.0) a.1)
+    subset_trans F (map.insert F x.0 x.1) _ (keeps_insert F U x.0 x.1 f a.0)
+    (keeps_with_facts (map.insert F x.0 x.1) U fs (subset_insert F U x.0 x.1 f a.0) a.1)
 
 pub AllIn-take : (U : FactSet) (k : ℕ) (fs : Facts) → AllIn U fs → AllIn U (take k fs)
 AllIn-take U zero fs a = tt
 AllIn-take U (suc k) [] a = tt
 AllIn-take U (suc k) (f ∷ fs) a = (a.0, AllIn-take U k fs a.1)
 
-pub AllIn-filter : {X : Type 0} (U : map.FinMap dot_cmp X) (p : Dot × X → Bool) (fs : List (Dot × X))
+pub AllIn-filter : {X : Type 0} (U : map.FinMap dot_cmp X) (p : Dot × X → Bool)
+    (fs : List (Dot × X))
     → AllIn U fs → AllIn U (filter p fs)
 AllIn-filter U p [] a = tt
-AllIn-filter U p (f ∷ fs) a = elim (p f) as (λ t. AllIn U (cond t (f ∷ filter p fs) (filter p fs))) [ true ↦ (a.0, AllIn-filter U p fs a.1) | false ↦ AllIn-filter U p fs a.1 ]
+AllIn-filter U p (f ∷ fs) a = elim (p f) as
+    (λ t. AllIn U (cond t (f ∷ filter p fs) (filter p fs))) [
+      | true ↦ (a.0, AllIn-filter U p fs a.1)
+      | false ↦ AllIn-filter U p fs a.1
+    ]
 
 pub AllIn-subset : (F U : FactSet) (fs : Facts) → IsSubset F U → AllIn F fs → AllIn U fs
 AllIn-subset F U [] f a = tt

@@ -4,39 +4,28 @@
 --   put_slots, put_home           a slot is put
 --   taken_slots, taken_home       a slot is taken out
 --   table_put, table_marked, table_skipped, table_taken   the table stays one
---   walks_on, walks_out           one step of a walk
---   last_serial_is                the greatest serial of a region
 use Rattle.std.proofs.Common.{◌≡◌, ℕ, ◌+◌, ◌-◌, ◌<◌, ◌≤◌, Bool, true, false, cond, ◌&&◌, T, List}
-use Rattle.std.proofs.Common.{[], ◌∷◌, filter, map, length, Option, Some, None, IsSome, is_some}
-use Rattle.std.proofs.Common.{option_map, slice_get, refl, sym, ap, subst, ◌∙◌, inl, inr, arith}
-use Rattle.std.proofs.lemmas.Bool.{false≢true, cases_Bool, cond-true, cond-false, cases_lt}
+use Rattle.std.proofs.Common.{[], ◌∷◌, map, length, Option, Some, None, IsSome, option_map, refl}
+use Rattle.std.proofs.Common.{sym, ap, subst, ◌∙◌, inl, inr, arith}
+use Rattle.std.proofs.lemmas.Bool.{false≢true, cases_Bool, cond-true, cond-false}
 use Rattle.std.proofs.lemmas.List.{length-map}
-use Rattle.std.proofs.lemmas.Cmp.{tied_itself}
-use Rattle.std.specs.Ordering.{eq_by_cmp, is_eq, is_lt, ordering_reverse}
-use Rattle.std.proofs.Common.{Ordering, Less, Equal, Greater}
+use Rattle.std.specs.Ordering.{eq_by_cmp, is_lt}
 use Rattle.std.specs.FinMap as sets
 use Rattle.std.specs.FinMap.{find}
 use Rattle.std.specs.FinMap.Entries.{below_all}
 use Rattle.tk_handle.specs.declared.dot.Dot.{Dot}
 use Rattle.tk_handle.specs.Dot.{dot_cmp, dot_cmp_total, dot_cmp-IsAntisymmetric}
 use Rattle.tk_dots.specs.Marks.{value_of, without_value}
-use Rattle.tk_dots.specs.Pages.{IsAbove, IsNext, IsLast}
 use Rattle.tk_fact.specs.declared.body.Body.{Body}
 use Rattle.tk_store.specs.declared.slot.SlotRef.{SlotRef}
 use Rattle.tk_store.specs.declared.slot.SlotRef.TheVariants as ref
-use Rattle.tk_store.specs.NextDot.{last_serial}
-use Rattle.tk_store.specs.SlotShown.{shown_slot, HasDot, IsShown, WalksOn}
+use Rattle.tk_store.specs.SlotShown.{shown_slot, HasDot, IsShown}
 use Rattle.tk_store.specs.Slots.{Slot, Slots, Held, Skipped, held_slot, held_in, without_fact}
 use Rattle.tk_store.specs.Table.{Boxed, KeptMap, Shows, slot_of, slots_of, AreHome, IsTable}
-use Rattle.tk_store.specs.Walk.{is_above, above}
-use Rattle.tk_store.proofs.EntryLaws.{AllIn-entries}
 use Rattle.tk_store.proofs.FactSetLaws.{tied}
-use Rattle.tk_store.proofs.NextDotLaws.{at_most, at_most_last_serial}
 use Rattle.tk_store.proofs.PutLaws.{len_new}
-use Rattle.tk_store.proofs.WalkLaws.{goes_on, at_end}
 use Rattle.tk_store.proofs.SlotLaws.{get_held, held_put, held_skip, held_taken, held_most}
 use Rattle.tk_store.proofs.SlotLaws.{held_none, remove_free, len_less}
-use Rattle.tk_handle.proofs.TestLaws.{both, is_true}
 use Rattle.std.proofs.lemmas.Option.{none-some as none_is_not_some, same_Some as some_injective}
 
 -- ---- the slots of a table
@@ -52,33 +41,40 @@ below_said d (e ∷ es) = ap (λ b. is_lt (dot_cmp d e.0) && b) (below_said d es
 sorted_said : (es : List (Dot × (Option Boxed)))
     → sets.is_sorted dot_cmp (map said es) ≡ sets.is_sorted dot_cmp es
 sorted_said [] = refl
-sorted_said (e ∷ es) = ap (λ b. b && sets.is_sorted dot_cmp (map said es)) (below_said e.0 es) ∙ ap (λ b. below_all dot_cmp e.0 es && b) (sorted_said es)
+sorted_said (e ∷ es) = ap (λ b. b && sets.is_sorted dot_cmp (map said es)) (below_said e.0 es)
+    ∙ ap (λ b. below_all dot_cmp e.0 es && b) (sorted_said es)
 
 find_said : (q : Dot) (es : List (Dot × (Option Boxed)))
     → find dot_cmp q (map said es) ≡ option_map slot_of (find dot_cmp q es)
 find_said q [] = refl
 find_said q (e ∷ es) =
-    elim (eq_by_cmp dot_cmp q e.0) as (λ t. cond t (Some (slot_of e.1)) (find dot_cmp q (map said es)) ≡ option_map slot_of (cond t (Some e.1) (find dot_cmp q es))) [
+    elim (eq_by_cmp dot_cmp q e.0) as
+    (λ t. cond t (Some (slot_of e.1)) (find dot_cmp q (map said es))
+    ≡ option_map slot_of (cond t (Some e.1) (find dot_cmp q es))) [
       | true ↦ refl
       | false ↦ find_said q es
     ]
 
 entries_said : (m : KeptMap) → sets.entries (slots_of m) ≡ map said (sets.entries m)
-entries_said m = sets.entries-from_sorted dot_cmp _ (subst T (sym (sorted_said (sets.entries m))) (sets.entries_sorted m))
+entries_said m = sets.entries-from_sorted dot_cmp _
+    (subst T (sym (sorted_said (sets.entries m))) (sets.entries_sorted m))
 
 pub get_slots : (m : KeptMap) (q : Dot)
     → sets.get (slots_of m) q ≡ option_map slot_of (sets.get m q)
-get_slots m q = sets.get-entries (slots_of m) q ∙ ap (find dot_cmp q) (entries_said m) ∙ find_said q (sets.entries m) ∙ ap (option_map slot_of) (sym (sets.get-entries m q))
+get_slots m q = sets.get-entries (slots_of m) q ∙ ap (find dot_cmp q) (entries_said m)
+    ∙ find_said q (sets.entries m) ∙ ap (option_map slot_of) (sym (sets.get-entries m q))
 
 pub slots_none : (m : KeptMap) → m ≡ sets.empty → slots_of m ≡ sets.empty
 slots_none m none = sets.same_map dot_cmp_total dot_cmp-IsAntisymmetric _ _ (λ q.
-    get_slots m q ∙ ap (option_map slot_of) (ap (λ (x : KeptMap). sets.get x q) none ∙ sets.get-empty dot_cmp q) ∙ sym (sets.get-empty dot_cmp q))
+    get_slots m q
+    ∙ ap (option_map slot_of) (ap (λ (x : KeptMap). sets.get x q) none ∙ sets.get-empty dot_cmp q)
+    ∙ sym (sets.get-empty dot_cmp q))
 
 some_of : {A B : Type 0} (f : A → B) (o : Option A) → IsSome (option_map f o) → IsSome o
 some_of f None h = h
 some_of f (Some a) h = refl
 
-of_some : {A B : Type 0} (f : A → B) (o : Option A) → IsSome o → IsSome (option_map f o)
+pub of_some : {A B : Type 0} (f : A → B) (o : Option A) → IsSome o → IsSome (option_map f o)
 of_some f None h = h
 of_some f (Some a) h = refl
 
@@ -100,14 +96,20 @@ module _ (m : KeptMap) (F : Slots) (seen : slots_of m ≡ F) where
   -- what a look-up returns is the slot at the dot
   pub shown_kept : AreHome m → (d : Dot) (r : SlotRef) (k : Option Boxed) → sets.get m d ≡ Some k
       → Shows r k → (Some (slot_of k) ≡ Some (shown_slot r)) × HasDot d r
-  shown_kept home d (ref.Held f) (Some b) here shows = (ap (λ (x : Dot × Body). Some (Held x.1)) (sym shows), ap (λ (x : Dot × Body). x.0) shows ∙ home d b here)
+  shown_kept home d (ref.Held f) (Some b) here shows = (
+    ap (λ (x : Dot × Body). Some (Held x.1))
+        (sym shows),
+    ap (λ (x : Dot × Body). x.0) shows
+        ∙ home d b here,
+  )
   shown_kept home d (ref.Held f) None here shows = absurd shows
   shown_kept home d ref.Skipped (Some b) here shows = absurd shows
   shown_kept home d ref.Skipped None here shows = (refl, tt)
 
   pub shown : AreHome m → (d : Dot) (r : SlotRef) (k : Option Boxed) → sets.get m d ≡ Some k
       → Shows r k → IsShown d (Some r) (sets.get F d)
-  shown home d r k here shows = (let s = shown_kept home d r k here shows in (at d ∙ ap (option_map slot_of) here ∙ s.0, s.1))
+  shown home d r k here shows =
+      (let s = shown_kept home d r k here shows in (at d ∙ ap (option_map slot_of) here ∙ s.0, s.1))
 
   pub shown_none : (d : Dot) → sets.get m d ≡ None → sets.get F d ≡ None
   shown_none d none = at d ∙ ap (option_map slot_of) none
@@ -120,7 +122,9 @@ module _ (m : KeptMap) (F : Slots) (seen : slots_of m ≡ F) where
         → slots_of n ≡ sets.insert F d (slot_of k)
     put_slots k is = sets.same_map dot_cmp_total dot_cmp-IsAntisymmetric _ _ (λ q.
         get_slots n q ∙ ap (option_map slot_of) (is q)
-        ∙ mapped (eq_by_cmp dot_cmp q d) (Some k) (sets.get m q) ∙ ap (cond (eq_by_cmp dot_cmp q d) (Some (slot_of k))) (sym (at q)) ∙ sym (sets.get-insert dot_cmp_total F d (slot_of k) q))
+        ∙ mapped (eq_by_cmp dot_cmp q d) (Some k) (sets.get m q)
+        ∙ ap (cond (eq_by_cmp dot_cmp q d) (Some (slot_of k))) (sym (at q))
+        ∙ sym (sets.get-insert dot_cmp_total F d (slot_of k) q))
       where
         mapped : (t : Bool) (o p : Option (Option Boxed))
             → option_map slot_of (cond t o p) ≡ cond t (option_map slot_of o) (option_map slot_of p)
@@ -139,8 +143,12 @@ module _ (m : KeptMap) (F : Slots) (seen : slots_of m ≡ F) where
 
     pub taken_slots : n ≡ sets.remove m d → slots_of n ≡ sets.remove F d
     taken_slots is = sets.same_map dot_cmp_total dot_cmp-IsAntisymmetric _ _ (λ q.
-        get_slots n q ∙ ap (option_map slot_of) (ap (λ (x : KeptMap). sets.get x q) is ∙ sets.get-remove dot_cmp_total m d q)
-        ∙ mapped (eq_by_cmp dot_cmp q d) (sets.get m q) ∙ ap (cond (eq_by_cmp dot_cmp q d) None) (sym (at q)) ∙ sym (sets.get-remove dot_cmp_total F d q))
+        get_slots n q
+        ∙ ap (option_map slot_of)
+        (ap (λ (x : KeptMap). sets.get x q) is ∙ sets.get-remove dot_cmp_total m d q)
+        ∙ mapped (eq_by_cmp dot_cmp q d) (sets.get m q)
+        ∙ ap (cond (eq_by_cmp dot_cmp q d) None) (sym (at q))
+        ∙ sym (sets.get-remove dot_cmp_total F d q))
       where
         mapped : (t : Bool) (p : Option (Option Boxed))
             → option_map slot_of (cond t None p) ≡ cond t None (option_map slot_of p)
@@ -149,8 +157,15 @@ module _ (m : KeptMap) (F : Slots) (seen : slots_of m ≡ F) where
 
     pub taken_home : n ≡ sets.remove m d → AreHome m → AreHome n
     taken_home is home q c h = elim (cases_Bool (eq_by_cmp dot_cmp q d)) [
-      | inl same ↦ absurd (none_is_not_some (Some c) (sym (ap (λ (x : KeptMap). sets.get x q) is ∙ sets.get-remove dot_cmp_total m d q ∙ cond-true _ _ _ same) ∙ h))
-      | inr apart ↦ home q c (sym (ap (λ (x : KeptMap). sets.get x q) is ∙ sets.get-remove dot_cmp_total m d q ∙ cond-false _ _ _ apart) ∙ h)
+      | inl same ↦ absurd
+          (none_is_not_some (Some c)
+          (sym (ap (λ (x : KeptMap). sets.get x q) is ∙ sets.get-remove dot_cmp_total m d q
+          ∙ cond-true _ _ _ same)
+          ∙ h))
+      | inr apart ↦ home q c
+          (sym (ap (λ (x : KeptMap). sets.get x q) is ∙ sets.get-remove dot_cmp_total m d q
+          ∙ cond-false _ _ _ apart)
+          ∙ h)
     ]
 
 -- ---- a table stays one
@@ -166,11 +181,16 @@ held_known (Some s) h = refl
 
 -- a value is written over another
 pub set_over : (m n : KeptMap) (d : Dot) (k : Option Boxed) → IsSome (sets.get m d)
-    → ((q : Dot) → sets.get n q ≡ cond (eq_by_cmp dot_cmp q d) (option_map (λ _. k) (sets.get m q)) (sets.get m q))
+    → ((q : Dot)
+    → sets.get n q
+    ≡ cond (eq_by_cmp dot_cmp q d) (option_map (λ _. k) (sets.get m q)) (sets.get m q))
     → (q : Dot) → sets.get n q ≡ cond (eq_by_cmp dot_cmp q d) (Some k) (sets.get m q)
 set_over m n d k there is q =
-    is q ∙ elim (eq_by_cmp dot_cmp q d) as (λ t. eq_by_cmp dot_cmp q d ≡ t → cond t (option_map (λ _. k) (sets.get m q)) (sets.get m q) ≡ cond t (Some k) (sets.get m q)) [
-      | true ↦ λ same. over (sets.get m q) (subst (λ (x : Dot). IsSome (sets.get m x)) (sym (tied q d same)) there)
+    is q ∙ elim (eq_by_cmp dot_cmp q d) as
+    (λ t. eq_by_cmp dot_cmp q d ≡ t
+    → cond t (option_map (λ _. k) (sets.get m q)) (sets.get m q) ≡ cond t (Some k) (sets.get m q)) [
+      | true ↦ λ same. over (sets.get m q)
+          (subst (λ (x : Dot). IsSome (sets.get m x)) (sym (tied q d same)) there)
       | false ↦ λ _. refl
     ] refl
   where
@@ -180,12 +200,17 @@ set_over m n d k there is q =
 
 pub inserted : (m n : KeptMap) (d : Dot) (k : Option Boxed) → n ≡ sets.insert m d k → (q : Dot)
     → sets.get n q ≡ cond (eq_by_cmp dot_cmp q d) (Some k) (sets.get m q)
-inserted m n d k is q = ap (λ (x : KeptMap). sets.get x q) is ∙ sets.get-insert dot_cmp_total m d k q
+inserted m n d k is q =
+    ap (λ (x : KeptMap). sets.get x q) is ∙ sets.get-insert dot_cmp_total m d k q
 
 pub table_none : (m : KeptMap) → m ≡ sets.empty → IsTable m 0
 table_none m none = record {
-  home = λ d b h. absurd (none_is_not_some (Some b) (sym (ap (λ (x : KeptMap). sets.get x d) none ∙ sets.get-empty dot_cmp d) ∙ h));
-  counted = sym (ap (λ (s : Slots). sets.len (held_in s)) (slots_none m none) ∙ ap (λ (f : sets.FinMap dot_cmp Body). sets.len f) (held_none sets.empty refl) ∙ sets.len-empty dot_cmp Body);
+  home = λ d b h. absurd
+      (none_is_not_some (Some b)
+      (sym (ap (λ (x : KeptMap). sets.get x d) none ∙ sets.get-empty dot_cmp d) ∙ h));
+  counted = sym (ap (λ (s : Slots). sets.len (held_in s)) (slots_none m none)
+      ∙ ap (λ (f : sets.FinMap dot_cmp Body). sets.len f) (held_none sets.empty refl)
+      ∙ sets.len-empty dot_cmp Body);
 }
 
 module _ (m : KeptMap) (held : ℕ) (table : IsTable m held) (F : Slots) (seen : slots_of m ≡ F) where
@@ -196,15 +221,21 @@ module _ (m : KeptMap) (held : ℕ) (table : IsTable m held) (F : Slots) (seen :
   pub held_within : held ≤ sets.len m
   held_within =
       let most = held_most F in
-      let as_many : sets.len F ≡ sets.len m = ap (λ (s : Slots). sets.len s) (sym seen) ∙ sets.len-entries (slots_of m) ∙ ap length (entries_said m) ∙ length-map (sets.entries m) said ∙ sym (sets.len-entries m) in
+      let as_many : sets.len F ≡ sets.len m = ap (λ (s : Slots). sets.len s) (sym seen)
+      ∙ sets.len-entries (slots_of m) ∙ ap length (entries_said m)
+      ∙ length-map (sets.entries m) said ∙ sym (sets.len-entries m) in
       omega (arith, most, as_many, count)
 
   module _ (n : KeptMap) (d : Dot) where
     pub table_put : (b : Boxed) → sets.get F d ≡ None → n ≡ sets.insert m d (Some b) → b.value.0 ≡ d
         → IsTable n (held + 1)
     table_put b free is home = record {
-      home = put_home m F seen n d (Some b) (inserted m n d (Some b) is) (λ c e. ap (λ (k : Option Boxed). dot_of k d) (sym e) ∙ home) table.home;
-      counted = ap (λ (k : ℕ). k + 1) count ∙ sym (ap (λ (s : Slots). sets.len (held_in s)) (put_slots m F seen n d (Some b) (inserted m n d (Some b) is)) ∙ ap (λ (f : sets.FinMap dot_cmp Body). sets.len f) (held_put F d b.value.1)
+      home = put_home m F seen n d (Some b) (inserted m n d (Some b) is)
+          (λ c e. ap (λ (k : Option Boxed). dot_of k d) (sym e) ∙ home) table.home;
+      counted = ap (λ (k : ℕ). k + 1) count
+          ∙ sym (ap (λ (s : Slots). sets.len (held_in s))
+          (put_slots m F seen n d (Some b) (inserted m n d (Some b) is))
+          ∙ ap (λ (f : sets.FinMap dot_cmp Body). sets.len f) (held_put F d b.value.1)
           ∙ len_new (held_in F) d b.value.1 (get_held F d ∙ ap held_slot free));
     }
       where
@@ -214,8 +245,13 @@ module _ (m : KeptMap) (held : ℕ) (table : IsTable m held) (F : Slots) (seen :
 
     pub table_marked : sets.get F d ≡ None → n ≡ sets.insert m d None → IsTable n held
     table_marked free is = record {
-      home = put_home m F seen n d None (inserted m n d None is) (λ c e. absurd (no_fact c e)) table.home;
-      counted = count ∙ sym (ap (λ (s : Slots). sets.len (held_in s)) (put_slots m F seen n d None (inserted m n d None is)) ∙ ap (λ (f : sets.FinMap dot_cmp Body). sets.len f) (held_skip F d ∙ remove_free (held_in F) d (get_held F d ∙ ap held_slot free)));
+      home = put_home m F seen n d None (inserted m n d None is) (λ c e. absurd (no_fact c e))
+          table.home;
+      counted = count
+          ∙ sym (ap (λ (s : Slots). sets.len (held_in s))
+          (put_slots m F seen n d None (inserted m n d None is))
+          ∙ ap (λ (f : sets.FinMap dot_cmp Body). sets.len f)
+          (held_skip F d ∙ remove_free (held_in F) d (get_held F d ∙ ap held_slot free)));
     }
       where
         no_fact : (c : Boxed) → None ≡ Some c → ⊥
@@ -227,8 +263,11 @@ module _ (m : KeptMap) (held : ℕ) (table : IsTable m held) (F : Slots) (seen :
     table_skipped x there is = record {
       home = put_home m F seen n d None is (λ c e. absurd (no_fact c e)) table.home;
       counted =
-          let len : sets.len (sets.remove (held_in F) d) + 1 ≡ sets.len (held_in F) = len_less (held_in F) d x (get_held F d ∙ there) in
-          let now : sets.len (held_in (slots_of n)) ≡ sets.len (sets.remove (held_in F) d) = ap (λ (s : Slots). sets.len (held_in s)) (put_slots m F seen n d None is) ∙ ap (λ (f : sets.FinMap dot_cmp Body). sets.len f) (held_skip F d) in
+          let len : sets.len (sets.remove (held_in F) d) + 1 ≡ sets.len (held_in F) =
+          len_less (held_in F) d x (get_held F d ∙ there) in
+          let now : sets.len (held_in (slots_of n)) ≡ sets.len (sets.remove (held_in F) d) =
+          ap (λ (s : Slots). sets.len (held_in s)) (put_slots m F seen n d None is)
+          ∙ ap (λ (f : sets.FinMap dot_cmp Body). sets.len f) (held_skip F d) in
           omega (arith, len, now, count);
     }
       where
@@ -240,14 +279,18 @@ module _ (m : KeptMap) (held : ℕ) (table : IsTable m held) (F : Slots) (seen :
     table_taken x there is = record {
       home = taken_home m F seen n d is table.home;
       counted =
-          let len : sets.len (sets.remove (held_in F) d) + 1 ≡ sets.len (held_in F) = len_less (held_in F) d x (get_held F d ∙ there) in
-          let now : sets.len (held_in (slots_of n)) ≡ sets.len (sets.remove (held_in F) d) = ap (λ (s : Slots). sets.len (held_in s)) (taken_slots m F seen n d is) ∙ ap (λ (f : sets.FinMap dot_cmp Body). sets.len f) (held_taken F d) in
+          let len : sets.len (sets.remove (held_in F) d) + 1 ≡ sets.len (held_in F) =
+          len_less (held_in F) d x (get_held F d ∙ there) in
+          let now : sets.len (held_in (slots_of n)) ≡ sets.len (sets.remove (held_in F) d) =
+          ap (λ (s : Slots). sets.len (held_in s)) (taken_slots m F seen n d is)
+          ∙ ap (λ (f : sets.FinMap dot_cmp Body). sets.len f) (held_taken F d) in
           omega (arith, len, now, count);
     }
 
     -- a fact that is held is counted
     pub some_held : (x : Body) → held_slot (sets.get F d) ≡ Some x → 0 < held
-    some_held x there = let len = len_less (held_in F) d x (get_held F d ∙ there) in omega (arith, len, count)
+    some_held x there = let len = len_less (held_in F) d x (get_held F d ∙ there) in
+        omega (arith, len, count)
 
 -- ---- taking out
 
@@ -268,7 +311,8 @@ no_value_left m n d (Some None) h rest = rest
 no_value_left m n d (Some (Some b)) h rest = absurd (none_is_not_some b (sym h))
 
 removed_none : (F : Slots) (d : Dot) → sets.get F d ≡ None → F ≡ sets.remove F d
-removed_none F d none = sets.same_map dot_cmp_total dot_cmp-IsAntisymmetric _ _ (λ q. at_removed q ∙ sym (sets.get-remove dot_cmp_total F d q))
+removed_none F d none = sets.same_map dot_cmp_total dot_cmp-IsAntisymmetric _ _
+    (λ q. at_removed q ∙ sym (sets.get-remove dot_cmp_total F d q))
   where
     at_removed : (q : Dot) → sets.get F q ≡ cond (eq_by_cmp dot_cmp q d) None (sets.get F q)
     at_removed q = elim (cases_Bool (eq_by_cmp dot_cmp q d)) [
@@ -278,123 +322,17 @@ removed_none F d none = sets.same_map dot_cmp_total dot_cmp-IsAntisymmetric _ _ 
 
 pub no_fact_left : (m : KeptMap) (F : Slots) → slots_of m ≡ F
     → (d : Dot) (o : Option (Option Boxed)) → sets.get m d ≡ o → value_of o ≡ None
-    → (◌≡◌ {A = Option (Dot × Body)} None (option_map (λ (b : Body). (d, b)) (held_slot (sets.get F d)))) × (F ≡ without_fact F d (sets.get F d))
+    → (◌≡◌ {A = Option (Dot × Body)} None
+    (option_map (λ (b : Body). (d, b)) (held_slot (sets.get F d))))
+    × (F ≡ without_fact F d (sets.get F d))
 no_fact_left m F seen d None here h =
-    let free : sets.get F d ≡ None = at m F seen d ∙ ap (option_map slot_of) here in
-    (ap (λ (o : Option Slot). option_map (λ (b : Body). (d, b)) (held_slot o)) (sym free), removed_none F d free ∙ ap (without_fact F d) (sym free))
+    let free : sets.get F d ≡ None = at m F seen d ∙ ap (option_map slot_of) here in (
+      ap (λ (o : Option Slot). option_map (λ (b : Body). (d, b)) (held_slot o)) (sym free),
+      removed_none F d free ∙ ap (without_fact F d) (sym free),
+    )
 no_fact_left m F seen d (Some None) here h =
-    let mark : sets.get F d ≡ Some Skipped = at m F seen d ∙ ap (option_map slot_of) here in
-    (ap (λ (o : Option Slot). option_map (λ (b : Body). (d, b)) (held_slot o)) (sym mark), ap (without_fact F d) (sym mark))
+    let mark : sets.get F d ≡ Some Skipped = at m F seen d ∙ ap (option_map slot_of) here in (
+      ap (λ (o : Option Slot). option_map (λ (b : Body). (d, b)) (held_slot o)) (sym mark),
+      ap (without_fact F d) (sym mark),
+    )
 no_fact_left m F seen d (Some (Some b)) here h = absurd (none_is_not_some b (sym h))
-
--- ---- walking
-
-module _ {X : Type 0} where
-  -- each element of a list is above a dot that is below the list
-  pub below_found : (k : Dot) (es : List (Dot × X)) (q : Dot) (c : X) → T (below_all dot_cmp k es)
-      → find dot_cmp q es ≡ Some c → is_lt (dot_cmp k q) ≡ true
-  below_found k [] q c low h = absurd (none_is_not_some c h)
-  below_found k (e ∷ es) q c low h =
-      let l = both _ _ low in
-      elim (cases_Bool (eq_by_cmp dot_cmp q e.0)) [
-        | inl same ↦ ap (λ (x : Dot). is_lt (dot_cmp k x)) (tied q e.0 same) ∙ is_true _ l.0
-        | inr apart ↦ below_found k es q c l.1 (sym (cond-false _ _ _ apart) ∙ h)
-      ]
-
-  -- no element of the list is left out
-  pub found_past : (e : Dot × X) (es : List (Dot × X)) (q : Dot) (c : X)
-      → T (below_all dot_cmp e.0 es) → find dot_cmp q es ≡ Some c → find dot_cmp q (e ∷ es) ≡ Some c
-  found_past e es q c low h = cond-false _ _ _ (apart (dot_cmp e.0 q) (dot_cmp q e.0) (dot_cmp_total.antisymm q e.0) (below_found e.0 es q c low h)) ∙ h
-    where
-      apart : (o p : Ordering) → p ≡ ordering_reverse o → is_lt o ≡ true → is_eq p ≡ false
-      apart Less p e h = ap is_eq e
-      apart Equal p e h = absurd (false≢true h)
-      apart Greater p e h = absurd (false≢true h)
-
-  pub first_in : (a : Option Dot) (es : List (Dot × X)) (d : Dot) (b : X)
-      → T (sets.is_sorted dot_cmp es) → find dot_cmp d es ≡ Some b → is_above a (d, b) ≡ true
-      → ((q : Dot) (c : X) → find dot_cmp q es ≡ Some c → is_above a (q, c) ≡ true → is_lt (dot_cmp q d) ≡ false) → slice_get (filter (is_above a) es) 0 ≡ Some (d, b)
-  first_in a [] d b s here up least = absurd (none_is_not_some b here)
-  first_in a (e ∷ es) d b s here up least =
-      let l = both _ _ s in
-      elim (cases_Bool (eq_by_cmp dot_cmp d e.0)) [
-        | inl same ↦
-            let is : d ≡ e.0 = tied d e.0 same in
-            let one : e.1 ≡ b = some_injective e.1 b (sym (cond-true _ _ _ same) ∙ here) in
-            ap (λ t. slice_get (cond t (e ∷ filter (is_above a) es) (filter (is_above a) es)) 0) (moved a e d b is one up) ∙ ap (λ (f : Dot × X). Some f) (pair e.0 e.1 d b is one)
-        | inr apart ↦
-            let later : find dot_cmp d es ≡ Some b = sym (cond-false _ _ _ apart) ∙ here in
-            elim (cases_Bool (is_above a e)) [
-              | inl higher ↦ absurd (false≢true (sym (least e.0 e.1 (cond-true _ _ _ (ap is_eq (tied_itself dot_cmp_total e.0))) higher) ∙ below_found e.0 es d b l.0 later))
-              | inr lower ↦
-                  ap (λ t. slice_get (cond t (e ∷ filter (is_above a) es) (filter (is_above a) es)) 0) lower
-                  ∙ first_in a es d b l.1 later up (λ q c h. least q c (found_past e es q c l.0 h))
-            ]
-      ]
-    where
-      moved : (a : Option Dot) (e : Dot × X) (d : Dot) (b : X) → d ≡ e.0 → e.1 ≡ b
-          → is_above a (d, b) ≡ true → is_above a e ≡ true
-      moved None e d b i j up = refl
-      moved (Some x) e d b i j up = ap (λ (y : Dot). is_lt (dot_cmp x y)) (sym i) ∙ up
-
-      pair : (x : Dot) (y : X) (d : Dot) (b : X) → d ≡ x → y ≡ b → ◌≡◌ {A = Dot × X} (x, y) (d, b)
-      pair x y d b i j = ap (λ (z : Dot). (z, y)) (sym i) ∙ ap (λ (z : X). (d, z)) j
-
-  pub none_in : (a : Option Dot) (es : List (Dot × X)) → T (sets.is_sorted dot_cmp es)
-      → ((q : Dot) (c : X) → find dot_cmp q es ≡ Some c → is_above a (q, c) ≡ true → ⊥)
-      → slice_get (filter (is_above a) es) 0 ≡ None
-  none_in a [] s none = refl
-  none_in a (e ∷ es) s none =
-      let l = both _ _ s in
-      elim (cases_Bool (is_above a e)) [
-        | inl higher ↦ absurd (none e.0 e.1 (cond-true _ _ _ (ap is_eq (tied_itself dot_cmp_total e.0))) higher)
-        | inr lower ↦
-            ap (λ t. slice_get (cond t (e ∷ filter (is_above a) es) (filter (is_above a) es)) 0) lower
-            ∙ none_in a es l.1 (λ q c h. none q c (found_past e es q c l.0 h))
-      ]
-
-pub up_of : {X : Type 0} (a : Option Dot) (q : Dot) (c : X) → is_above a (q, c) ≡ true → IsAbove a q
-up_of None q c h = tt
-up_of (Some d) q c h = h
-
-pub up_is : {X : Type 0} (a : Option Dot) (q : Dot) (c : X) → IsAbove a q → is_above a (q, c) ≡ true
-up_is None q c h = refl
-up_is (Some d) q c h = h
-
-module _ (m : KeptMap) (F : Slots) (seen : slots_of m ≡ F) (after : Option Dot) where
-  there : (q : Dot) (c : Slot) → find dot_cmp q (sets.entries F) ≡ Some c → IsSome (sets.get m q)
-  there q c h = held_there m F seen q (ap is_some (sets.get-entries F q ∙ h))
-
-  first : (d : Dot) (k : Option Boxed) → IsNext m after (Some (d, k))
-      → slice_get (above F after) 0 ≡ Some (d, slot_of k)
-  first d k next =
-      let here : sets.get F d ≡ Some (slot_of k) = at m F seen d ∙ ap (option_map slot_of) next.held in
-      first_in after (sets.entries F) d (slot_of k) (sets.entries_sorted F) (sym (sets.get-entries F d) ∙ here) (up_is after d (slot_of k) next.above)
-      (λ q c h up. next.least q (up_of after q c up) (there q c h))
-
-  pub walks_on : AreHome m → (d : Dot) (k : Option Boxed) (r : SlotRef)
-      → IsNext m after (Some (d, k)) → Shows r k → WalksOn F after (Some (d, r))
-  walks_on home d k r next shows =
-      let s = shown_kept m F seen home d r k next.held shows in
-      let at_first : slice_get (above F after) 0 ≡ Some (d, shown_slot r) = first d k next ∙ ap (λ (o : Option Slot). option_map (λ (x : Slot). (d, x)) o) s.0 in
-      let on : above F after ≡ (d, shown_slot r) ∷ above F (Some d) = goes_on F after (d, shown_slot r) at_first in
-      (on, s.1, let more = ap length on in omega arith)
-
-  pub walks_out : IsNext m after None → above F after ≡ []
-  walks_out next = at_end F after (none_in after (sets.entries F) (sets.entries_sorted F) (λ q c h up. false≢true (sym (ap is_some (next q (up_of after q c up))) ∙ there q c h)))
-
--- ---- the greatest serial
-
-pub last_serial_is : (m : KeptMap) (F : Slots) → slots_of m ≡ F → (r n : ℕ) → IsLast m r n
-    → n ≡ last_serial r (sets.entries F)
-last_serial_is m F seen r n last =
-    let low : last_serial r (sets.entries F) ≤ n = at_most F r n (sets.entries F) (AllIn-entries F) (λ q b h same. last.greatest q same (held_there m F seen q (ap is_some h))) in
-    elim (cases_lt 0 n) [
-      | inl some ↦ let high : n ≤ last_serial r (sets.entries F) = counts some (sets.get F (record { region = r; serial = n })) refl in omega arith
-      | inr none ↦ omega arith
-    ]
-  where
-    counts : 0 < n → (o : Option Slot) → sets.get F (record { region = r; serial = n }) ≡ o
-        → n ≤ last_serial r (sets.entries F)
-    counts some None h = absurd (false≢true (sym (ap is_some (sym (at m F seen (record { region = r; serial = n })) ∙ h)) ∙ of_some _ (sets.get m (record { region = r; serial = n })) (last.there some)))
-    counts some (Some b) h = at_most_last_serial r (sets.entries F) (record { region = r; serial = n }) b refl (sym (sets.get-entries F (record { region = r; serial = n })) ∙ h)

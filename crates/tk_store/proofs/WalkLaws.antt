@@ -26,14 +26,17 @@ module _ {X : Type 0} where
   keeps_all a e [] h low = refl
   keeps_all a e (x ∷ es) h low =
       let l = both _ _ low in
-      ap (λ t. cond t (x ∷ filter (is_above a) es) (filter (is_above a) es)) (past a h) ∙ ap (λ rest. x ∷ rest) (keeps_all a e es h l.1)
+      ap (λ t. cond t (x ∷ filter (is_above a) es) (filter (is_above a) es)) (past a h)
+      ∙ ap (λ rest. x ∷ rest) (keeps_all a e es h l.1)
     where
       past : (a : Option Dot) → is_above a e ≡ true → is_above a x ≡ true
       past None h = refl
-      past (Some d) h = ap is_lt (dot_cmp_total.trans d e.0 x.0 (less _ (subst T (sym h) tt)) (less _ (both _ _ low).0))
+      past (Some d) h = ap is_lt
+          (dot_cmp_total.trans d e.0 x.0 (less _ (subst T (sym h) tt)) (less _ (both _ _ low).0))
 
   -- an entry below all of a list is not above the first fact that a walk of the list finds
-  first_is_above : (a : Option Dot) (e : Dot × X) (es : List (Dot × X)) (f : Dot × X) (rest : List (Dot × X))
+  first_is_above : (a : Option Dot) (e : Dot × X) (es : List (Dot × X)) (f : Dot × X)
+      (rest : List (Dot × X))
       → T (below_all dot_cmp e.0 es) → filter (is_above a) es ≡ f ∷ rest
       → is_above (Some f.0) e ≡ false
   first_is_above a e [] f rest low h = absurd (nothing h)
@@ -41,8 +44,13 @@ module _ {X : Type 0} where
       nothing : ¬ ([] ≡ f ∷ rest)
       nothing h = cc
   first_is_above a e (x ∷ es) f rest low h =
-      elim (is_above a x) as (λ t. cond t (x ∷ filter (is_above a) es) (filter (is_above a) es) ≡ f ∷ rest → is_above (Some f.0) e ≡ false) [
-        | true ↦ λ k. let same : x ≡ f = heads k in subst (λ (y : Dot × X). is_lt (dot_cmp y.0 e.0) ≡ false) same (ap is_lt (dot_cmp_total.antisymm x.0 e.0 ∙ ap ordering_reverse (less _ (both _ _ low).0)))
+      elim (is_above a x) as
+      (λ t. cond t (x ∷ filter (is_above a) es) (filter (is_above a) es) ≡ f ∷ rest
+      → is_above (Some f.0) e ≡ false) [
+        | true ↦ λ k. let same : x ≡ f = heads k in
+            subst (λ (y : Dot × X). is_lt (dot_cmp y.0 e.0) ≡ false) same
+            (ap is_lt
+            (dot_cmp_total.antisymm x.0 e.0 ∙ ap ordering_reverse (less _ (both _ _ low).0)))
         | false ↦ first_is_above a e es f rest (both _ _ low).1
       ] h
     where
@@ -58,14 +66,19 @@ module _ {X : Type 0} where
       nothing h = cc
   walk a (e ∷ es) f rest sorted h =
       let s = both _ _ sorted in
-      elim (is_above a e) as (λ t. is_above a e ≡ t → cond t (e ∷ filter (is_above a) es) (filter (is_above a) es) ≡ f ∷ rest → filter (is_above (Some f.0)) (e ∷ es) ≡ rest) [
+      elim (is_above a e) as
+      (λ t. is_above a e ≡ t
+      → cond t (e ∷ filter (is_above a) es) (filter (is_above a) es) ≡ f ∷ rest
+      → filter (is_above (Some f.0)) (e ∷ es) ≡ rest) [
         | true ↦ λ t k.
             let same : e ≡ f = heads k in
             subst (λ (y : Dot × X). filter (is_above (Some y.0)) (e ∷ es) ≡ rest) same
-            (ap (λ o. cond (is_lt o) (e ∷ filter (is_above (Some e.0)) es) (filter (is_above (Some e.0)) es)) (tied_itself dot_cmp_total e.0)
+            (ap (λ o. cond (is_lt o) (e ∷ filter (is_above (Some e.0)) es)
+            (filter (is_above (Some e.0)) es)) (tied_itself dot_cmp_total e.0)
             ∙ keeps_low es s.0 ∙ sym (keeps_all a e es t s.0) ∙ tails k)
         | false ↦ λ t k.
-            ap (λ t. cond t (e ∷ filter (is_above (Some f.0)) es) (filter (is_above (Some f.0)) es)) (first_is_above a e es f rest s.0 k)
+            ap (λ t. cond t (e ∷ filter (is_above (Some f.0)) es) (filter (is_above (Some f.0)) es))
+            (first_is_above a e es f rest s.0 k)
             ∙ walk a es f rest s.1 k
       ] refl h
     where
@@ -79,7 +92,9 @@ module _ {X : Type 0} where
           → filter (is_above (Some e.0)) xs ≡ xs
       keeps_low [] low = refl
       keeps_low (x ∷ xs) low =
-          ap (λ t. cond t (x ∷ filter (is_above (Some e.0)) xs) (filter (is_above (Some e.0)) xs)) (is_true _ (both _ _ low).0) ∙ ap (λ l. x ∷ l) (keeps_low xs (both _ _ low).1)
+          ap (λ t. cond t (x ∷ filter (is_above (Some e.0)) xs) (filter (is_above (Some e.0)) xs))
+          (is_true _ (both _ _ low).0)
+          ∙ ap (λ l. x ∷ l) (keeps_low xs (both _ _ low).1)
 
   -- a walk that goes on from the fact that it returned sees each fact once, and ends
   pub above_next : (F : map.FinMap dot_cmp X) (a : Option Dot) (f : Dot × X) (rest : List (Dot × X))
@@ -106,7 +121,9 @@ module _ {X : Type 0} where
 
   pub goes_on : (F : map.FinMap dot_cmp X) (a : Option Dot) (f : Dot × X)
       → slice_get (above F a) 0 ≡ Some f → above F a ≡ f ∷ above F (Some f.0)
-  goes_on F a f h = let r : (rest : List (Dot × X)) × (above F a ≡ f ∷ rest) = first_is (above F a) f h in r.1 ∙ ap (λ l. f ∷ l) (sym (above_next F a f r.0 r.1))
+  goes_on F a f h =
+      let r : (rest : List (Dot × X)) × (above F a ≡ f ∷ rest) = first_is (above F a) f h in
+      r.1 ∙ ap (λ l. f ∷ l) (sym (above_next F a f r.0 r.1))
 
   none_left : (es : List (Dot × X)) → slice_get es 0 ≡ None → es ≡ []
   none_left [] h = refl
@@ -120,10 +137,13 @@ module _ {X : Type 0} where
   at_end F a h = none_left (above F a) h
 
   -- one call of the walk returns the next fact and leaves the rest
-  pub steps_on : (F : map.FinMap dot_cmp X) (a : Option Dot) (now new : List (Dot × X)) (d : Dot) (f : Dot × X)
+  pub steps_on : (F : map.FinMap dot_cmp X) (a : Option Dot) (now new : List (Dot × X)) (d : Dot)
+      (f : Dot × X)
       → above F a ≡ now → slice_get (above F a) 0 ≡ Some f → d ≡ f.0 → new ≡ above F (Some d)
       → now ≡ f ∷ new
-  steps_on F a now new d f old here same after = sym old ∙ goes_on F a f here ∙ ap (λ (e : Dot). f ∷ above F (Some e)) (sym same) ∙ ap (λ l. f ∷ l) (sym after)
+  steps_on F a now new d f old here same after =
+      sym old ∙ goes_on F a f here ∙ ap (λ (e : Dot). f ∷ above F (Some e)) (sym same)
+      ∙ ap (λ l. f ∷ l) (sym after)
 
   pub none_on : (F : map.FinMap dot_cmp X) (a : Option Dot) (now : List (Dot × X)) → above F a ≡ now
       → slice_get (above F a) 0 ≡ None → now ≡ []
@@ -134,7 +154,8 @@ module _ {X : Type 0} where
 above_held : (a : Option Dot) (es : List (Dot × Slot))
     → filter (is_above a) (held_entries es) ≡ held_entries (filter (is_above a) es)
 above_held a [] = refl
-above_held a ((d, Held b) ∷ es) = by_test (is_above a (d, b)) (is_above a (d, Held b)) (same a) (above_held a es)
+above_held a ((d, Held b) ∷ es) =
+    by_test (is_above a (d, b)) (is_above a (d, Held b)) (same a) (above_held a es)
   where
     same : (a : Option Dot) → is_above a (d, b) ≡ is_above a (d, Held b)
     same None = refl
@@ -142,13 +163,17 @@ above_held a ((d, Held b) ∷ es) = by_test (is_above a (d, b)) (is_above a (d, 
 
     by_test : (t u : Bool) → t ≡ u
         → filter (is_above a) (held_entries es) ≡ held_entries (filter (is_above a) es)
-        → cond t ((d, b) ∷ filter (is_above a) (held_entries es)) (filter (is_above a) (held_entries es)) ≡ held_entries (cond u ((d, Held b) ∷ filter (is_above a) es) (filter (is_above a) es))
+        → cond t ((d, b) ∷ filter (is_above a) (held_entries es))
+        (filter (is_above a) (held_entries es))
+        ≡ held_entries (cond u ((d, Held b) ∷ filter (is_above a) es) (filter (is_above a) es))
     by_test true true i h = ap (λ (l : List (Dot × Body)). (d, b) ∷ l) h
     by_test false false i h = h
     by_test true false i h = absurd (true≢false i)
     by_test false true i h = absurd (true≢false (sym i))
 above_held a ((d, Skipped) ∷ es) =
-    elim (is_above a (d, Skipped)) as (λ t. filter (is_above a) (held_entries es) ≡ held_entries (cond t ((d, Skipped) ∷ filter (is_above a) es) (filter (is_above a) es))) [
+    elim (is_above a (d, Skipped)) as
+    (λ t. filter (is_above a) (held_entries es)
+    ≡ held_entries (cond t ((d, Skipped) ∷ filter (is_above a) es) (filter (is_above a) es))) [
       | true ↦ above_held a es
       | false ↦ above_held a es
     ]
@@ -164,8 +189,12 @@ IsFirstHeld ref.Skipped o = Unit {0}
 pub step_held : (S : Slots) (place after : Option Dot) (d : Dot) (r : SlotRef)
     → above (held_in S) place ≡ above (held_in S) after → IsStep S place d r
     → IsFirstHeld r (slice_get (above (held_in S) after) 0)
-step_held S place after d (ref.Held f) same step = sym step ∙ ap (λ (l : List (Dot × Body)). slice_get l 0) same
+step_held S place after d (ref.Held f) same step =
+    sym step ∙ ap (λ (l : List (Dot × Body)). slice_get l 0) same
 step_held S place after d ref.Skipped same step = tt
 
-pub none_held : (S : Slots) (place after : Option Dot) → above (held_in S) place ≡ above (held_in S) after → above (held_in S) place ≡ [] → ◌≡◌ {A = Option (Dot × Body)} None (slice_get (above (held_in S) after) 0)
-none_held S place after same out = sym (ap (λ (l : List (Dot × Body)). slice_get l 0) (sym same ∙ out))
+pub none_held : (S : Slots) (place after : Option Dot)
+    → above (held_in S) place ≡ above (held_in S) after → above (held_in S) place ≡ []
+    → ◌≡◌ {A = Option (Dot × Body)} None (slice_get (above (held_in S) after) 0)
+none_held S place after same out =
+    sym (ap (λ (l : List (Dot × Body)). slice_get l 0) (sym same ∙ out))

@@ -48,7 +48,8 @@ module _ (P : StoreFields) (whole : IsWhole P) where
   -- ---- adding a fact
 
   put_whole : (d : Dot) (b : Body) → IsWhole (with_fact P d b)
-  put_whole d b q = by_dot (λ o. is_skipped_slot o ≡ false) P.slots d (Held b) q (λ same. refl) (whole q)
+  put_whole d b q =
+      by_dot (λ o. is_skipped_slot o ≡ false) P.slots d (Held b) q (λ same. refl) (whole q)
 
   pub whole_adds : (f : Dot × Body) (r : Result Added AddError) (Q : StoreFields) → AddsTo P f r Q
       → Adds (held_facts P) f r (held_facts Q) × IsWhole Q
@@ -57,7 +58,10 @@ module _ (P : StoreFields) (whole : IsWhole P) where
     subst IsWhole (sym adds.1) (put_whole f.0 f.1),
   )
   whole_adds f (Ok added.Held) Q adds = (
-    (get_held P.slots f.0 ∙ by_slot (sets.get P.slots f.0) (whole f.0) adds.0, ap held_facts adds.1),
+    (
+      get_held P.slots f.0 ∙ by_slot (sets.get P.slots f.0) (whole f.0) adds.0,
+      ap held_facts adds.1,
+    ),
     subst IsWhole (sym adds.1) whole,
   )
     where
@@ -104,11 +108,13 @@ module _ (P : StoreFields) (whole : IsWhole P) where
   serials : (r : ℕ) (es : List (Dot × Slot)) → NoMarks es
       → last_serial r (held_entries es) ≡ last_serial r es
   serials r [] a = refl
-  serials r ((d, Held b) ∷ es) a = ap (λ n. max (if d.region == r then d.serial else 0) n) (serials r es a.1)
+  serials r ((d, Held b) ∷ es) a =
+      ap (λ n. max (if d.region == r then d.serial else 0) n) (serials r es a.1)
   serials r ((d, Skipped) ∷ es) a = absurd (true≢false a.0)
 
   pub whole_next : (r : ℕ) → next_serial P.slots r ≡ next_serial (held_facts P) r
-  whole_next r = ap (λ n. n + 1) (sym (ap (last_serial r) (entries_held P.slots) ∙ serials r (sets.entries P.slots) all_plain))
+  whole_next r = ap (λ n. n + 1)
+      (sym (ap (last_serial r) (entries_held P.slots) ∙ serials r (sets.entries P.slots) all_plain))
 
   -- ---- the dots that a vector does not cover
 
@@ -116,7 +122,11 @@ module _ (P : StoreFields) (whole : IsWhole P) where
       → map dot_of (filter (λ e. p e.0) (held_entries es)) ≡ map dot_of (filter (λ e. p e.0) es)
   dots_kept p [] a = refl
   dots_kept p ((d, Held b) ∷ es) a =
-      elim (p d) as (λ t. map dot_of (cond t ((d, b) ∷ filter (λ e. p e.0) (held_entries es)) (filter (λ e. p e.0) (held_entries es))) ≡ map dot_of (cond t ((d, Held b) ∷ filter (λ e. p e.0) es) (filter (λ e. p e.0) es))) [
+      elim (p d) as
+      (λ t. map dot_of
+      (cond t ((d, b) ∷ filter (λ e. p e.0) (held_entries es))
+      (filter (λ e. p e.0) (held_entries es)))
+      ≡ map dot_of (cond t ((d, Held b) ∷ filter (λ e. p e.0) es) (filter (λ e. p e.0) es))) [
         | true ↦ ap (λ (l : List Dot). d ∷ l) (dots_kept p es a.1)
         | false ↦ dots_kept p es a.1
       ]
@@ -130,10 +140,16 @@ module _ (P : StoreFields) (whole : IsWhole P) where
   one_filter : {X : Type 0} (v : Vector) (after : Option Dot) (es : List (Dot × X))
       → filter (is_beyond v) (filter (is_above after) es) ≡ filter (λ e. wanted v after e.0) es
   one_filter v after [] = refl
-  one_filter v None (e ∷ es) = ap (λ l. cond (not (nat_le e.0.serial (entry v e.0.region))) (e ∷ l) l) (one_filter v None es)
+  one_filter v None (e ∷ es) =
+      ap (λ l. cond (not (nat_le e.0.serial (entry v e.0.region))) (e ∷ l) l) (one_filter v None es)
   one_filter v (Some a) (e ∷ es) =
-      elim (is_lt (dot_cmp a e.0)) as (λ t. filter (is_beyond v) (cond t (e ∷ filter (is_above (Some a)) es) (filter (is_above (Some a)) es)) ≡ cond (cond t (not (nat_le e.0.serial (entry v e.0.region))) false) (e ∷ filter (λ e. wanted v (Some a) e.0) es) (filter (λ e. wanted v (Some a) e.0) es)) [
-        | true ↦ ap (λ l. cond (not (nat_le e.0.serial (entry v e.0.region))) (e ∷ l) l) (one_filter v (Some a) es)
+      elim (is_lt (dot_cmp a e.0)) as
+      (λ t. filter (is_beyond v)
+      (cond t (e ∷ filter (is_above (Some a)) es) (filter (is_above (Some a)) es))
+      ≡ cond (cond t (not (nat_le e.0.serial (entry v e.0.region))) false)
+      (e ∷ filter (λ e. wanted v (Some a) e.0) es) (filter (λ e. wanted v (Some a) e.0) es)) [
+        | true ↦ ap (λ l. cond (not (nat_le e.0.serial (entry v e.0.region))) (e ∷ l) l)
+            (one_filter v (Some a) es)
         | false ↦ one_filter v (Some a) es
       ]
 
@@ -142,7 +158,9 @@ module _ (P : StoreFields) (whole : IsWhole P) where
   whole_beyond v after =
       ap (map dot_of) (one_filter v after (sets.entries P.slots))
       ∙ sym (dots_kept (wanted v after) (sets.entries P.slots) all_plain)
-      ∙ sym (ap (map dot_of) (one_filter v after (sets.entries (held_facts P)) ∙ ap (filter (λ e. wanted v after e.0)) (entries_held P.slots)))
+      ∙ sym (ap (map dot_of)
+      (one_filter v after (sets.entries (held_facts P))
+      ∙ ap (filter (λ e. wanted v after e.0)) (entries_held P.slots)))
 
 -- ---- two whole stores
 
@@ -151,7 +169,8 @@ module _ (P Q : StoreFields) (p : IsWhole P) (q : IsWhole Q) where
       → SlotAgrees a b → (x y : Body) → held_slot a ≡ Some x → held_slot b ≡ Some y → x ≡ y
   agree_slots None b h k s x y i j = absurd (none_is_not_some x i)
   agree_slots (Some (Held c)) None h k s x y i j = absurd (none_is_not_some y j)
-  agree_slots (Some (Held c)) (Some (Held d)) h k s x y i j = sym (some_injective c x i) ∙ s ∙ some_injective d y j
+  agree_slots (Some (Held c)) (Some (Held d)) h k s x y i j =
+      sym (some_injective c x i) ∙ s ∙ some_injective d y j
   agree_slots (Some (Held c)) (Some Skipped) h k s x y i j = absurd (true≢false k)
   agree_slots (Some Skipped) b h k s x y i j = absurd (true≢false h)
 
@@ -165,8 +184,11 @@ module _ (P Q : StoreFields) (p : IsWhole P) (q : IsWhole Q) where
 
   pub agree_is : StoresAgree P Q ↔ Agree (held_facts P) (held_facts Q)
   agree_is = (
-    λ agree d x y at there. agree_slots (sets.get P.slots d) (sets.get Q.slots d) (p d) (q d) (agree d) x y (sym (get_held P.slots d) ∙ at) (sym (get_held Q.slots d) ∙ there),
-    λ agree d. slots_agree (sets.get P.slots d) (sets.get Q.slots d) (p d) (q d) (λ x y at there. agree d x y (get_held P.slots d ∙ at) (get_held Q.slots d ∙ there)),
+    λ agree d x y at there.
+        agree_slots (sets.get P.slots d) (sets.get Q.slots d) (p d) (q d) (agree d) x y
+        (sym (get_held P.slots d) ∙ at) (sym (get_held Q.slots d) ∙ there),
+    λ agree d. slots_agree (sets.get P.slots d) (sets.get Q.slots d) (p d) (q d)
+        (λ x y at there. agree d x y (get_held P.slots d ∙ at) (get_held Q.slots d ∙ there)),
   )
 
   below_slots : (a b : Option Slot) → is_skipped_slot a ≡ false → is_skipped_slot b ≡ false
@@ -187,8 +209,15 @@ module _ (P Q : StoreFields) (p : IsWhole P) (q : IsWhole Q) where
 
   pub below_is : P.horizon ≤ Q.horizon → StoreBelow P Q ↔ IsSubset (held_facts P) (held_facts Q)
   below_is le = (
-    λ below d x at. get_held Q.slots d ∙ below_slots (sets.get P.slots d) (sets.get Q.slots d) (p d) (q d) (below.slots d) x (sym (get_held P.slots d) ∙ at),
-    λ within. record { slots = λ d. slots_below (sets.get P.slots d) (sets.get Q.slots d) (p d) (q d) (λ x at. sym (get_held Q.slots d) ∙ within d x (get_held P.slots d ∙ at)); horizon = le },
+    λ below d x at.
+        get_held Q.slots d
+        ∙ below_slots (sets.get P.slots d) (sets.get Q.slots d) (p d) (q d) (below.slots d) x
+        (sym (get_held P.slots d) ∙ at),
+    λ within. record {
+      slots = λ d. slots_below (sets.get P.slots d) (sets.get Q.slots d) (p d) (q d)
+          (λ x at. sym (get_held Q.slots d) ∙ within d x (get_held P.slots d ∙ at));
+      horizon = le;
+    },
   )
 
 -- ---- an empty store, and a call that changes nothing
@@ -197,12 +226,15 @@ pub empty_held : (P : StoreFields) → P ≡ empty_store → held_facts P ≡ se
 empty_held P is = held_none P.slots (ap (λ (Q : StoreFields). Q.slots) is)
 
 pub empty_whole : (P : StoreFields) → P ≡ empty_store → IsWhole P
-empty_whole P is d = ap (λ (Q : StoreFields). is_skipped Q.slots d) is ∙ ap is_skipped_slot (sets.get-empty dot_cmp d)
+empty_whole P is d = ap (λ (Q : StoreFields). is_skipped Q.slots d) is
+    ∙ ap is_skipped_slot (sets.get-empty dot_cmp d)
 
 -- adding a fact at a dot that is held changes nothing
 pub known_kept : (P Q : StoreFields) (f : Dot × Body) (r : Result Added AddError)
     → IsSome (sets.get (held_facts P) f.0) → AddsTo P f r Q → Q ≡ P
-known_kept P Q f (Ok added.New) known adds = absurd (true≢false (sym known ∙ ap is_some (get_held P.slots f.0 ∙ ap held_slot adds.0)))
+known_kept P Q f (Ok added.New) known adds =
+    absurd (true≢false (sym known ∙ ap is_some (get_held P.slots f.0 ∙ ap held_slot adds.0)))
 known_kept P Q f (Ok added.Held) known adds = adds.1
 known_kept P Q f (Err Conflict) known adds = adds.1
-known_kept P Q f (Err Memory) known adds = absurd (true≢false (sym known ∙ ap is_some (get_held P.slots f.0 ∙ ap held_slot adds.0)))
+known_kept P Q f (Err Memory) known adds =
+    absurd (true≢false (sym known ∙ ap is_some (get_held P.slots f.0 ∙ ap held_slot adds.0)))

@@ -25,23 +25,28 @@ below_as d (e ∷ es) = ap (λ b. is_lt (dot_cmp d e.0) && b) (below_as d es)
 sorted_as : (es : List (Dot × Body))
     → sets.is_sorted dot_cmp (map as_slot es) ≡ sets.is_sorted dot_cmp es
 sorted_as [] = refl
-sorted_as (e ∷ es) = ap (λ b. b && sets.is_sorted dot_cmp (map as_slot es)) (below_as e.0 es) ∙ ap (λ b. below_all dot_cmp e.0 es && b) (sorted_as es)
+sorted_as (e ∷ es) = ap (λ b. b && sets.is_sorted dot_cmp (map as_slot es)) (below_as e.0 es)
+    ∙ ap (λ b. below_all dot_cmp e.0 es && b) (sorted_as es)
 
 find_as : (q : Dot) (es : List (Dot × Body))
     → find dot_cmp q (map as_slot es) ≡ option_map Held (find dot_cmp q es)
 find_as q [] = refl
 find_as q (e ∷ es) =
-    elim (eq_by_cmp dot_cmp q e.0) as (λ t. cond t (Some (Held e.1)) (find dot_cmp q (map as_slot es)) ≡ option_map Held (cond t (Some e.1) (find dot_cmp q es))) [
+    elim (eq_by_cmp dot_cmp q e.0) as
+    (λ t. cond t (Some (Held e.1)) (find dot_cmp q (map as_slot es))
+    ≡ option_map Held (cond t (Some e.1) (find dot_cmp q es))) [
       | true ↦ refl
       | false ↦ find_as q es
     ]
 
 entries_as : (F : FactSet) → sets.entries (whole_store F).slots ≡ map as_slot (sets.entries F)
-entries_as F = sets.entries-from_sorted dot_cmp _ (subst T (sym (sorted_as (sets.entries F))) (sets.entries_sorted F))
+entries_as F = sets.entries-from_sorted dot_cmp _
+    (subst T (sym (sorted_as (sets.entries F))) (sets.entries_sorted F))
 
 pub get_whole_store : (F : FactSet) (q : Dot)
     → sets.get (whole_store F).slots q ≡ option_map Held (sets.get F q)
-get_whole_store F q = sets.get-entries (whole_store F).slots q ∙ ap (find dot_cmp q) (entries_as F) ∙ find_as q (sets.entries F) ∙ ap (option_map Held) (sym (sets.get-entries F q))
+get_whole_store F q = sets.get-entries (whole_store F).slots q ∙ ap (find dot_cmp q) (entries_as F)
+    ∙ find_as q (sets.entries F) ∙ ap (option_map Held) (sym (sets.get-entries F q))
 
 back : (o : Option Body) → held_slot (option_map Held o) ≡ o
 back None = refl
@@ -58,7 +63,8 @@ plain (Some Skipped) h = absurd (true≢false h)
 
 slots_are : (P : StoreFields) → IsWhole P → P.slots ≡ (whole_store (held_facts P)).slots
 slots_are P whole = sets.same_map dot_cmp_total dot_cmp-IsAntisymmetric _ _ (λ q.
-    plain (sets.get P.slots q) (whole q) ∙ ap (option_map Held) (sym (get_held P.slots q)) ∙ sym (get_whole_store (held_facts P) q))
+    plain (sets.get P.slots q) (whole q) ∙ ap (option_map Held) (sym (get_held P.slots q))
+    ∙ sym (get_whole_store (held_facts P) q))
 
 pub whole_is : (P : StoreFields) → IsWhole P → P.horizon ≡ 0 → P ≡ whole_store (held_facts P)
 whole_is P whole level =

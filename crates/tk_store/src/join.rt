@@ -185,7 +185,7 @@ impl Join for FactStore {
 
     fn join_from(&mut self, other: &Self) -> Result<(), JoinError> {
         if !self.agrees(other) {
-            return Err(JoinError::Apart);
+            return Err(JoinError::Conflict);
         }
         let alloc = self.allocator();
         match self.take_all(alloc, other) {

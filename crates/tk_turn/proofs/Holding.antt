@@ -61,7 +61,8 @@ stays_none : (change : LinkFields → LinkFields) → ((x : LinkFields) → (cha
 stays_none change clears [] before after k same none =
     ap (λ (x : List LinkFields). (get_or x k new_link).held) same ∙ none
 stays_none change clears (place ∷ places) before after k (one, short, is_one, later) none =
-    stays_none change clears places (set before place (change one)) after k later (of (cases_eq k place))
+    stays_none change clears places (set before place (change one)) after k later
+    (of (cases_eq k place))
   where
     of : (k ≡ place) ⊎ (k ≡ place → ⊥)
         → (get_or (set before place (change one)) k new_link).held ≡ []
@@ -94,7 +95,8 @@ pub none_held_after : {S : Type 0} (decides : Decides S) (places : List ℕ) (ol
     → ((x : LinkFields) → (change x).held ≡ [])
     → AreDecidedAt decides places old before mid decided logged
     → AreChangedAt change places decided after → NoneHeld before → NoneHeld after
-none_held_after decides places old before mid decided logged change after clears made changed none = λ k.
+none_held_after decides places old before mid decided logged change after clears made changed none =
+    λ k.
     of k (is_in k places)
   where
     of : (k : ℕ) → IsIn k places ⊎ (IsIn k places → ⊥) → (get_or after k new_link).held ≡ []
@@ -111,7 +113,8 @@ changed_elsewhere : (change : LinkFields → LinkFields) (places : List ℕ)
 changed_elsewhere change [] before after k same none =
     ap (λ (x : List LinkFields). get_or x k new_link) same
 changed_elsewhere change (place ∷ places) before after k (one, short, is_one, later) none =
-    changed_elsewhere change places (set before place (change one)) after k later (λ i. none (inr i))
+    changed_elsewhere change places (set before place (change one)) after k later
+    (λ i. none (inr i))
     ∙ get_or-set_other before place k (change one) new_link (λ e. none (inl e))
 
 -- the connection that was set at a place
@@ -138,14 +141,17 @@ changed_once : (change : LinkFields → LinkFields) (places : List ℕ)
     → AreChangedAt change places before after → IsIn k places
     → get_or after k new_link ≡ change (get_or before k new_link)
 changed_once change [] before after k distinct same i = absurd i
-changed_once change (place ∷ places) before after k (none, distinct) (one, short, is_one, later) (inl e) =
+changed_once change (place ∷ places) before after k (none, distinct) (one, short, is_one, later)
+    (inl e) =
     changed_elsewhere change places (set before place (change one)) after k later
     (λ i. none (subst (λ (n : ℕ). IsIn n places) e i))
     ∙ set_there before place k (change one) e short
     ∙ ap change (is_there before place k one e short is_one)
-changed_once change (place ∷ places) before after k (none, distinct) (one, short, is_one, later) (inr i) =
+changed_once change (place ∷ places) before after k (none, distinct) (one, short, is_one, later)
+    (inr i) =
     changed_once change places (set before place (change one)) after k distinct later i
-    ∙ ap change (get_or-set_other before place k (change one) new_link (apart place k places none i))
+    ∙ ap change
+    (get_or-set_other before place k (change one) new_link (apart place k places none i))
 
 -- the decisions of one connection
 abbrev Own : {S : Type 0} → Decides S → LinkFields → LinkFields → Type 0

@@ -24,17 +24,20 @@ pub record Turning {S : Type 0} (decides : Decides S) (places : List ℕ) (old :
 
 -- the connection at one more place is decided
 pub turned_at : {S : Type 0} (decides : Decides S) (places : List ℕ) (old : S)
-    (before : List LinkFields) (at : ℕ) (now mid : S) (links : List LinkFields) (logged first : List ℕ)
+    (before : List LinkFields) (at : ℕ) (now mid : S) (links : List LinkFields)
+    (logged first : List ℕ)
     (place : ℕ) (one then : LinkFields) → at < length places → place ≡ get_or places at place
     → place < length links → one ≡ get_or links place one → MayDecide decides now one mid then first
     → Turning decides places old before at now links logged
     → Turning decides places old before (at + 1) mid (set links place then) (logged ++ first)
-turned_at decides places old before at now mid links logged first place one then within is_there short
+turned_at decides places old before at now mid links logged first place one then within is_there
+    short
     is_one made so_far = record {
       joins = λ new after rest later.
           let parted : drop at places ≡ place ∷ drop (at + 1) places =
           first_place places at place within is_there in
-          let now_on = subst (λ (x : List ℕ). AreDecidedAt decides x now links new after (first ++ rest))
+          let now_on =
+          subst (λ (x : List ℕ). AreDecidedAt decides x now links new after (first ++ rest))
           (sym parted) (one, then, mid, first, rest, short, is_one, made, refl, later) in
           subst (λ (x : List ℕ). AreDecidedAt decides places old before new after x)
           (sym (append_assoc logged first rest)) (so_far.joins new after (first ++ rest) now_on);

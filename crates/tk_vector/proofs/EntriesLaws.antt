@@ -50,7 +50,8 @@ not_less a b h e = grind (arith, nat_tests)
 -- the first i + 1 entries are the first i, and the next
 one_more : (es : Entries) (i : ℕ) (e : ℕ × ℕ) → i < length es → e ≡ get_or es i e
     → take (i + 1) es ≡ take i es ++ (e ∷ [])
-one_more es i e within is = (take_at_read es i e within).1 ∙ ap (λ x. take i es ++ (x ∷ [])) (sym is)
+one_more es i e within is =
+    (take_at_read es i e within).1 ∙ ap (λ x. take i es ++ (x ∷ [])) (sym is)
 
 all_append : (es fs : Entries) → AllByRecursion entry_field.Fits es
     → AllByRecursion entry_field.Fits fs → AllByRecursion entry_field.Fits (es ++ fs)
@@ -62,11 +63,13 @@ all_append (e ∷ es) fs a b = (a.0, all_append es fs a.1 b)
 -- regions that rise differ at least as much as their places
 spread : (e : ℕ × ℕ) (es : Entries) (last : ℕ × ℕ) → T (is_sorted nat_cmp (e ∷ es))
     → slice_get (e ∷ es) (length es) ≡ Some last → e.0 + length es ≤ last.0
-spread e [] last h at = let same : e ≡ last = some_is e last at in subst (λ (x : ℕ × ℕ). e.0 + 0 ≤ x.0) same (omega arith)
+spread e [] last h at = let same : e ≡ last = some_is e last at in
+    subst (λ (x : ℕ × ℕ). e.0 + 0 ≤ x.0) same (omega arith)
 spread e (f ∷ es) last h at =
     let above = left (below_all nat_cmp e.0 (f ∷ es)) (is_sorted nat_cmp (f ∷ es)) h in
     let lt = below e.0 f.0 (left (is_lt (nat_cmp e.0 f.0)) (below_all nat_cmp e.0 es) above) in
-    let rest = spread f es last (right (below_all nat_cmp e.0 (f ∷ es)) (is_sorted nat_cmp (f ∷ es)) h) at in
+    let rest =
+    spread f es last (right (below_all nat_cmp e.0 (f ∷ es)) (is_sorted nat_cmp (f ∷ es)) h) at in
     omega arith
 
 -- there are no more entries than regions
@@ -106,19 +109,27 @@ abbrev pub Answers : Entries → Bool → Type 0
 Answers es answer = IsAllAdjacentAnswer (λ one next b. b ≡ nat_lt one.0 next.0) es answer
 
 pub is_rising : (es : Entries) (answer : Bool) → Answers es answer → answer ≡ is_sorted nat_cmp es
-is_rising es true h = sym (true_of _ (neighbours es (λ k d lt. lt_from_test _ _ (subst (λ n. true ≡ nat_lt (get_or es k d).0 (get_or es n d).0) (add-one k) (h k d (omega arith))))))
+is_rising es true h = sym (true_of _
+    (neighbours es
+    (λ k d lt. lt_from_test _ _
+    (subst (λ n. true ≡ nat_lt (get_or es k d).0 (get_or es n d).0) (add-one k)
+    (h k d (omega arith))))))
 is_rising es false (k, lt, h) = by_test (is_sorted nat_cmp es) refl
   where
     by_test : (b : Bool) → is_sorted nat_cmp es ≡ b → false ≡ b
     by_test true e =
         let d : ℕ × ℕ = (0, 0) in
-        absurd (not_less _ _ (rises nat_cmp es (subst T (sym e) tt) k (k + 1) d (omega arith) lt) (h d))
+        absurd (not_less _ _ (rises nat_cmp es (subst T (sym e) tt) k (k + 1) d (omega arith) lt)
+        (h d))
     by_test false e = refl
 
 -- the vector of a vector's entries is that vector
 pub rising_entries : (v : Vector) → rising (map.entries v) ≡ Some v
 rising_entries v =
-    rw (true_of _ (map.entries_sorted v)) (ap (λ w. Some w) (map.same_entries_map _ v (map.entries-from_sorted nat_cmp (map.entries v) (map.entries_sorted v))))
+    rw (true_of _ (map.entries_sorted v))
+    (ap (λ w. Some w)
+    (map.same_entries_map _ v
+    (map.entries-from_sorted nat_cmp (map.entries v) (map.entries_sorted v))))
 
 -- ---- the entries in bytes
 
@@ -130,11 +141,15 @@ pub more_written : (es : Entries) (i : ℕ) (e : ℕ × ℕ) (old before after :
 more_written es i e old before after within is so_far one =
     one ∙ ap (λ bytes. bytes ++ entry_field.spell e) so_far
     ∙ append_assoc old (flat_map entry_field.spell (take i es)) (entry_field.spell e)
-    ∙ ap (λ bytes. old ++ bytes) (ap (λ bytes. flat_map entry_field.spell (take i es) ++ bytes) (sym (append-nil (entry_field.spell e)))
-    ∙ sym (flat_map-append entry_field.spell (take i es) (e ∷ [])) ∙ ap (flat_map entry_field.spell) (sym (one_more es i e within is)))
+    ∙ ap (λ bytes. old ++ bytes)
+    (ap (λ bytes. flat_map entry_field.spell (take i es) ++ bytes)
+    (sym (append-nil (entry_field.spell e)))
+    ∙ sym (flat_map-append entry_field.spell (take i es) (e ∷ []))
+    ∙ ap (flat_map entry_field.spell) (sym (one_more es i e within is)))
 
 -- the entries written so far, and one more, have a spelling
 pub more_fits : (es : Entries) (i : ℕ) (e : ℕ × ℕ) → i < length es → e ≡ get_or es i e
     → AllByRecursion entry_field.Fits (take i es) → entry_field.Fits e
     → AllByRecursion entry_field.Fits (take (i + 1) es)
-more_fits es i e within is so_far fits = subst (AllByRecursion entry_field.Fits) (sym (one_more es i e within is)) (all_append (take i es) (e ∷ []) so_far (fits, tt))
+more_fits es i e within is so_far fits = subst (AllByRecursion entry_field.Fits)
+    (sym (one_more es i e within is)) (all_append (take i es) (e ∷ []) so_far (fits, tt))

@@ -37,9 +37,17 @@ gets count (Ok v) old after new e h = e ∙ h
 gets count (Err Malformed) old after new e h = e ∙ h
 gets count (Err Memory) old after new e h = tt
 
-pub gets_listed : (count : ℕ) (result : Result (Vec (ℕ × ℕ)) ReadError) (old rest after new : List ℕ)
-    → Some rest ≡ ((bytes_of (length magic)).read old >>= λ m. cond (bytes_eq m.0 magic) (Some m.1) None)
-    → (number w16).read rest ≡ Some (count, after) → GetsManyBy entry_field.read count result after new → Gets (λ v. v.items) listed result old new
+pub gets_listed : (count : ℕ) (result : Result (Vec (ℕ × ℕ)) ReadError)
+    (old rest after new : List ℕ)
+    → Some rest ≡ ((bytes_of (length magic)).read old >>= λ m.
+    cond (bytes_eq m.0 magic) (Some m.1) None)
+    → (number w16).read rest ≡ Some (count, after)
+    → GetsManyBy entry_field.read count result after new → Gets (λ v. v.items) listed result old new
 gets_listed count result old rest after new m n h =
-    let counting : (counted (number w16) entry_field).read rest ≡ read_many entry_field.read count after = ap (λ (o : Option (ℕ × List ℕ)). o >>= λ n. read_many entry_field.read n.0 n.1) n in
-    gets count result old after new (behind (λ bytes. (counted (number w16) entry_field).read bytes) ((bytes_of (length magic)).read old) rest m ∙ counting) h
+    let counting : (counted (number w16) entry_field).read rest
+    ≡ read_many entry_field.read count after =
+    ap (λ (o : Option (ℕ × List ℕ)). o >>= λ n. read_many entry_field.read n.0 n.1) n in
+    gets count result old after new
+    (behind (λ bytes. (counted (number w16) entry_field).read bytes)
+    ((bytes_of (length magic)).read old) rest m
+    ∙ counting) h

@@ -29,12 +29,14 @@ same_dots (x ∷ xs) [] p q e = absurd (cc)
 same_dots (x ∷ xs) (y ∷ ys) p q e =
     let first : dot_text x ≡ dot_text y = cc in
     let rest : map dot_text xs ≡ map dot_text ys = cc in
-    ap (λ z. z ∷ xs) (parted_injective colon colon_parts x y (All-head IsDot x xs p) (All-head IsDot y ys q) first)
+    ap (λ z. z ∷ xs)
+    (parted_injective colon colon_parts x y (All-head IsDot x xs p) (All-head IsDot y ys q) first)
     ∙ ap (λ zs. y ∷ zs) (same_dots xs ys (All-tail IsDot x xs p) (All-tail IsDot y ys q) rest)
 
 -- what a test of neighbours returns: whether the regions of the dots rise
 abbrev pub Answers : List Dot → Bool → Type 0
-Answers dots answer = IsAllAdjacentAnswer (λ one next b. b ≡ nat_lt one.region next.region) dots answer
+Answers dots answer =
+    IsAllAdjacentAnswer (λ one next b. b ≡ nat_lt one.region next.region) dots answer
 
 pub rising : (dots : List Dot) (answer : Bool) → Answers dots answer → answer ≡ true → IsRising dots
 rising dots true h e = λ k d lt. lt_from_test _ _ (h k d lt)
@@ -43,21 +45,26 @@ rising dots false h e = absurd (cc)
 not_rising : (dots : List Dot) (answer : Bool) → Answers dots answer → answer ≡ false
     → ¬ (IsRising dots)
 not_rising dots true h e up = cc
-not_rising dots false (k, lt, h) e up = let d : Dot = record { region = 0; serial = 0 } in test_from_lt _ _ (up k d lt) (h d)
+not_rising dots false (k, lt, h) e up = let d : Dot = record { region = 0; serial = 0 } in
+    test_from_lt _ _ (up k d lt) (h d)
 
 pub entry_there : (text entry : List ℕ) (k : ℕ)
-    → (k < length (slice_split is_comma text)) × (entry ≡ get_or (slice_split is_comma text) k entry)
+    → (k < length (slice_split is_comma text))
+    × (entry ≡ get_or (slice_split is_comma text) k entry)
     → IsNoDotText entry → AreNoDots text
 entry_there text entry k at none dots h =
     let d : Dot = record { region = 0; serial = 0 } in
-    let there : k < length dots = omega (arith, at.0, ap length h.spelled, length-map dots dot_text) in
+    let there : k < length dots =
+    omega (arith, at.0, ap length h.spelled, length-map dots dot_text) in
     none (get_or dots k d) (record {
       range = h.ranges k d there;
-      spelled = at.1 ∙ ap (λ entries. get_or entries k entry) h.spelled ∙ get_or-map dot_text dots k d entry there;
+      spelled = at.1 ∙ ap (λ entries. get_or entries k entry) h.spelled
+          ∙ get_or-map dot_text dots k d entry there;
     })
 
 pub none_rising : (text : List ℕ) (dots : List Dot) (answer : Bool)
     → slice_split is_comma text ≡ map dot_text dots → All IsDot dots → Answers dots answer
     → answer ≡ false → AreNoDots text
 none_rising text dots answer spelled ranges test is others h =
-    not_rising dots answer test is (subst IsRising (same_dots others dots h.ranges ranges (sym h.spelled ∙ spelled)) h.rising)
+    not_rising dots answer test is
+    (subst IsRising (same_dots others dots h.ranges ranges (sym h.spelled ∙ spelled)) h.rising)

@@ -48,7 +48,8 @@ lowered_within v r n p h = grind (arith, nat_tests)
 -- the entries after an insertion
 entry_insert : (v : Vector) (r n q : ℕ)
     → entry (map.insert v r n) q ≡ (if q == r then n else entry v q)
-entry_insert v r n q = ap (λ o. unwrap_or o 0) (map.get-insert nat_cmp_total v r n q) ∙ inside (eq_by_cmp nat_cmp q r) (q == r) (number_tied q r) (map.get v q)
+entry_insert v r n q = ap (λ o. unwrap_or o 0) (map.get-insert nat_cmp_total v r n q)
+    ∙ inside (eq_by_cmp nat_cmp q r) (q == r) (number_tied q r) (map.get v q)
   where
     inside : (s t : Bool) → s ≡ t → (o : Option ℕ)
         → unwrap_or (cond s (Some n) o) 0 ≡ (if t then n else unwrap_or o 0)
@@ -56,7 +57,8 @@ entry_insert v r n q = ap (λ o. unwrap_or o 0) (map.get-insert nat_cmp_total v 
     inside false t e o = rw (← e) refl
 
 entry_remove : (v : Vector) (r q : ℕ) → entry (map.remove v r) q ≡ (if q == r then 0 else entry v q)
-entry_remove v r q = ap (λ o. unwrap_or o 0) (map.get-remove nat_cmp_total v r q) ∙ inside (eq_by_cmp nat_cmp q r) (q == r) (number_tied q r) (map.get v q)
+entry_remove v r q = ap (λ o. unwrap_or o 0) (map.get-remove nat_cmp_total v r q)
+    ∙ inside (eq_by_cmp nat_cmp q r) (q == r) (number_tied q r) (map.get v q)
   where
     inside : (s t : Bool) → s ≡ t → (o : Option ℕ)
         → unwrap_or (cond s None o) 0 ≡ (if t then 0 else unwrap_or o 0)
@@ -69,8 +71,10 @@ entry_empty r = ap (λ o. unwrap_or o 0) (map.get-empty nat_cmp r)
 pub entry_raised : (v : Vector) (r n q : ℕ)
     → entry (raised v r n) q ≡ (if q == r then max n (entry v r) else entry v q)
 entry_raised v r n q = elim (cases_lt (entry v r) n) [
-  | inl lt ↦ ap (λ w. entry w q) (raised_above v r n lt) ∙ entry_insert v r n q ∙ grind (arith, nat_tests)
-  | inr ge ↦ ap (λ w. entry w q) (raised_within v r n ge) ∙ kept (entry v q) (entry v r) ge (λ same. ap (entry v) same)
+  | inl lt ↦
+      ap (λ w. entry w q) (raised_above v r n lt) ∙ entry_insert v r n q ∙ grind (arith, nat_tests)
+  | inr ge ↦ ap (λ w. entry w q) (raised_within v r n ge)
+      ∙ kept (entry v q) (entry v r) ge (λ same. ap (entry v) same)
 ]
   where
     kept : (x y : ℕ) → n ≤ y → (q ≡ r → x ≡ y) → x ≡ (if q == r then max n y else x)
@@ -80,10 +84,13 @@ pub entry_lowered : (v : Vector) (r n q : ℕ)
     → entry (lowered v r n) q ≡ (if q == r then min n (entry v r) else entry v q)
 entry_lowered v r n q = elim (cases_lt 0 n) [
   | inl some ↦ elim (cases_lt n (entry v r)) [
-    | inl lt ↦ ap (λ w. entry w q) (lowered_below v r n some lt) ∙ entry_insert v r n q ∙ grind (arith, nat_tests)
-    | inr ge ↦ ap (λ w. entry w q) (lowered_within v r n some ge) ∙ kept (entry v q) (entry v r) ge (λ same. ap (entry v) same)
+    | inl lt ↦ ap (λ w. entry w q) (lowered_below v r n some lt) ∙ entry_insert v r n q
+        ∙ grind (arith, nat_tests)
+    | inr ge ↦ ap (λ w. entry w q) (lowered_within v r n some ge)
+        ∙ kept (entry v q) (entry v r) ge (λ same. ap (entry v) same)
   ]
-  | inr none ↦ ap (λ w. entry w q) (lowered_none v r n (omega arith)) ∙ entry_remove v r q ∙ grind (arith, nat_tests)
+  | inr none ↦ ap (λ w. entry w q) (lowered_none v r n (omega arith)) ∙ entry_remove v r q
+      ∙ grind (arith, nat_tests)
 ]
   where
     kept : (x y : ℕ) → y ≤ n → (q ≡ r → x ≡ y) → x ≡ (if q == r then min n y else x)

@@ -8,7 +8,7 @@ ghost use Rattle.tk_vector.specs.declared.join.JoinError.TheVariants as error;
 #[derive(Clone, Copy, PartialEq, Eq)]
 pub enum JoinError {
     /// The two don't agree. Nothing changed.
-    Apart,
+    Conflict,
     /// Memory ran out. The value is above the old one and below the join.
     Memory,
 }
@@ -33,7 +33,7 @@ pub trait Join {
     fn join_from(&mut self, other: &Self) -> Result<(), JoinError>
         ensures ok { OnOk result (IsJoin within self.old other.now self.new) }
         ensures agrees { OnOk result (agree self.old other.now) }
-        ensures apart { result ≡ Err error.Apart
+        ensures conflict { result ≡ Err error.Conflict
             → (agree self.old other.now → ⊥) × (self.new ≡ self.old) }
         ensures memory { result ≡ Err error.Memory
             → agree self.old other.now × within self.old self.new

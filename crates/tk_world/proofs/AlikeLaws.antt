@@ -1,5 +1,5 @@
--- Two regions of one number and settings whose stores stand for the same facts answer alike, as long
--- as the moment is before both horizons or before none. Key results:
+-- Two regions of one number and settings whose stores stand for the same facts answer alike, as
+-- long as the moment is before both horizons or before none. Key results:
 --   stands_dots      a store knows the dots of the facts for which it stands
 --   kept_stands      a store that holds all facts stands for them
 --   kept_decides     it decides as those facts do
@@ -48,7 +48,9 @@ stands_dots P U F S q = by (map.get P.slots q) (map.get F q) (S q)
 
 -- a store that holds all facts stands for them
 pub kept_stands : (k : Kept) (U : FactSet) → IsSubset k.facts U → StandsFor (kept_store k) U k.facts
-kept_stands k U within d = subst (λ (o : Option Slot). SlotStands U k.horizon d o (map.get k.facts d)) (sym (get_whole_store k.facts d)) (by (map.get k.facts d) refl)
+kept_stands k U within d = subst (λ (o : Option Slot).
+    SlotStands U k.horizon d o (map.get k.facts d)) (sym (get_whole_store k.facts d))
+    (by (map.get k.facts d) refl)
   where
     by : (f : Option Body) → map.get k.facts d ≡ f → SlotStands U k.horizon d (option_map Held f) f
     by None at = refl
@@ -56,11 +58,13 @@ kept_stands k U within d = subst (λ (o : Option Slot). SlotStands U k.horizon d
 
 -- a store that holds all facts decides as those facts do, whatever its horizon
 kept_decides : (k : Kept) (place : Place) (now : ℕ) (words : List ℕ) (request : RequestFields)
-    → decision_of (kept_store k) place now words request ≡ decision_of (whole_store k.facts) place now words request
+    → decision_of (kept_store k) place now words request
+    ≡ decision_of (whole_store k.facts) place now words request
 kept_decides k place now words request = by request.endpoint
   where
     by : (e : Endpoint)
-        → decision_by e (kept_store k) place now words request ≡ decision_by e (whole_store k.facts) place now words request
+        → decision_by e (kept_store k) place now words request
+        ≡ decision_by e (whole_store k.facts) place now words request
     by endpoint.Authorize = refl
     by endpoint.Token = refl
     by endpoint.Introspect = refl
@@ -73,7 +77,8 @@ kept_decides k place now words request = by request.endpoint
     by endpoint.Withdraw = refl
     by endpoint.SignOut = refl
 
-module _ (n : ℕ) (settings : SettingsFields) (U : FactSet) (P : StoreFields) (k : Kept) (SP : StandsFor P U k.facts) (within : IsSubset k.facts U) (sound : AreSound U) where
+module _ (n : ℕ) (settings : SettingsFields) (U : FactSet) (P : StoreFields) (k : Kept)
+    (SP : StandsFor P U k.facts) (within : IsSubset k.facts U) (sound : AreSound U) where
   abbrev Q : StoreFields
   Q = kept_store k
 
@@ -81,10 +86,13 @@ module _ (n : ℕ) (settings : SettingsFields) (U : FactSet) (P : StoreFields) (
   region_of R = record { number = n; settings = settings; facts = R }
 
   pub serials_same : next_serial P.slots n ≡ next_serial Q.slots n
-  serials_same = next_same P.slots k.facts (stands_dots P U k.facts SP) n ∙ sym (next_same Q.slots k.facts (stands_dots Q U k.facts (kept_stands k U within)) n)
+  serials_same = next_same P.slots k.facts (stands_dots P U k.facts SP) n
+      ∙ sym (next_same Q.slots k.facts (stands_dots Q U k.facts (kept_stands k U within)) n)
 
   pub places_same : place_in (region_of P) ≡ place_in (region_of Q)
-  places_same = ap (λ (m : ℕ). record { number = n; next = m; lives = lives_of settings; choices = settings.choices }) serials_same
+  places_same = ap (λ (m : ℕ).
+      record { number = n; next = m; lives = lives_of settings; choices = settings.choices })
+      serials_same
 
   module _ (now : ℕ) (words : List ℕ) (both : nat_lt now P.horizon ≡ nat_lt now Q.horizon) where
     from_horizon : (h : ℕ) → nat_lt now h ≡ false → h ≤ now
@@ -94,7 +102,8 @@ module _ (n : ℕ) (settings : SettingsFields) (U : FactSet) (P : StoreFields) (
     place = place_in (region_of Q)
 
     abbrev prepared_at : Bool → StoreFields → Place → RequestFields → PreparedFields
-    prepared_at t R place request = cond t (early_in place) (prepared_by settings.cap place (decision_of R place now words request))
+    prepared_at t R place request = cond t (early_in place)
+        (prepared_by settings.cap place (decision_of R place now words request))
 
     -- what is prepared is what the region with all facts prepares, or what it prepares for a first
     -- revocation
@@ -106,38 +115,53 @@ module _ (n : ℕ) (settings : SettingsFields) (U : FactSet) (P : StoreFields) (
       prepares : p ≡ prepared_by settings.cap place decision
 
     at_place : (request : RequestFields)
-        → prepared_of (region_of P) now words request ≡ prepared_at (nat_lt now P.horizon) P place request
-    at_place request = ap (λ (x : Place). prepared_at (nat_lt now P.horizon) P x request) places_same
+        → prepared_of (region_of P) now words request
+        ≡ prepared_at (nat_lt now P.horizon) P place request
+    at_place request =
+        ap (λ (x : Place). prepared_at (nat_lt now P.horizon) P x request) places_same
 
     decided : (t : Bool) (request : RequestFields) → nat_lt now P.horizon ≡ t
-        → (prepared_at t P place request ≡ prepared_at t Q place request) ⊎ Anew request (prepared_at t P place request)
+        → (prepared_at t P place request ≡ prepared_at t Q place request)
+        ⊎ Anew request (prepared_at t P place request)
     decided true request e = inl refl
-    decided false request e = elim (decision_stands P U k.facts SP sound place now (from_horizon P.horizon e) words request) [
-      | inl same ↦ inl (ap (prepared_by settings.cap place) (same ∙ sym (kept_decides k place now words request)))
-      | inr first ↦ inr (record {
-        revokes = first.0;
-        soon = from_horizon Q.horizon (sym both ∙ e);
-        decision = decision_of P place now words request;
-        anew = first.1;
-        prepares = refl;
-      })
-    ]
+    decided false request e = elim (decision_stands P U k.facts SP sound place now
+        (from_horizon P.horizon e) words request) [
+          | inl same ↦ inl
+              (ap (prepared_by settings.cap place)
+              (same ∙ sym (kept_decides k place now words request)))
+          | inr first ↦ inr (record {
+            revokes = first.0;
+            soon = from_horizon Q.horizon (sym both ∙ e);
+            decision = decision_of P place now words request;
+            anew = first.1;
+            prepares = refl;
+          })
+        ]
 
     prepared_tells : (request : RequestFields)
-        → (prepared_of (region_of P) now words request ≡ prepared_of (region_of Q) now words request) ⊎ Anew request (prepared_of (region_of P) now words request)
+        → (prepared_of (region_of P) now words request
+        ≡ prepared_of (region_of Q) now words request)
+        ⊎ Anew request (prepared_of (region_of P) now words request)
     prepared_tells request =
-        subst (λ (p : PreparedFields). (p ≡ prepared_of (region_of Q) now words request) ⊎ Anew request p) (sym (at_place request))
-        (subst (λ (t : Bool). (prepared_at (nat_lt now P.horizon) P place request ≡ prepared_at t Q place request) ⊎ Anew request (prepared_at (nat_lt now P.horizon) P place request)) both
+        subst (λ (p : PreparedFields).
+        (p ≡ prepared_of (region_of Q) now words request) ⊎ Anew request p) (sym (at_place request))
+        (subst (λ (t : Bool).
+        (prepared_at (nat_lt now P.horizon) P place request ≡ prepared_at t Q place request)
+        ⊎ Anew request (prepared_at (nat_lt now P.horizon) P place request)) both
         (decided (nat_lt now P.horizon) request refl))
 
     abbrev Tells : Arrival → Type 0
-    Tells heard = TellsBy (region_of Q) k.facts now words heard (answer_by (region_of P) now words heard) (fact_by (region_of P) now words heard)
+    Tells heard = TellsBy (region_of Q) k.facts now words heard
+        (answer_by (region_of P) now words heard) (fact_by (region_of P) now words heard)
 
     pub tells_by : (heard : Arrival) → Tells heard
     tells_by Silence = inl (refl, refl)
     tells_by (Refused why) = inl (refl, refl)
     tells_by (Request request) = elim (prepared_tells request) [
-      | inl same ↦ inl (ap (λ (p : PreparedFields). rendered p.reply None p.logged) same, ap (λ (p : PreparedFields). p.fact) same)
+      | inl same ↦ inl (
+        ap (λ (p : PreparedFields). rendered p.reply None p.logged) same,
+        ap (λ (p : PreparedFields). p.fact) same,
+      )
       | inr first ↦ inr (record {
         request = request;
         is = refl;

@@ -16,13 +16,16 @@ spelled_bundle bytes b fits e = ap (whole bundle) e ∙ whole_again bundle bundl
 -- bytes that spell a bundle are read as that bundle
 pub made_bundle : (bytes : List ℕ) (b : BundleFields) → bundle.Fits b → bytes ≡ bundle_bytes b
     → bundle_in_bytes bytes ≡ b
-made_bundle bytes b fits e = ap (λ (o : Option BundleFields). unwrap_or o no_bundle) (spelled_bundle bytes b fits e)
+made_bundle bytes b fits e =
+    ap (λ (o : Option BundleFields). unwrap_or o no_bundle) (spelled_bundle bytes b fits e)
 
 pub made_readable : (bytes : List ℕ)
     → ((b : BundleFields) × bundle.Fits b × (bytes ≡ bundle_bytes b)) → IsReadable bytes
-made_readable bytes made = spelled_bundle bytes made.0 made.1 made.2 ∙ ap (λ (b : BundleFields). Some b) (sym (made_bundle bytes made.0 made.1 made.2))
+made_readable bytes made = spelled_bundle bytes made.0 made.1 made.2
+    ∙ ap (λ (b : BundleFields). Some b) (sym (made_bundle bytes made.0 made.1 made.2))
 
 -- readable bytes are the spelling of their bundle
 pub readable_bytes : (bytes : List ℕ) → IsBytes bytes → IsReadable bytes
     → bytes ≡ bundle_bytes (bundle_in_bytes bytes)
-readable_bytes bytes fits readable = (whole_takes bundle bundle_exact bytes (bundle_in_bytes bytes) fits readable).1
+readable_bytes bytes fits readable =
+    (whole_takes bundle bundle_exact bytes (bundle_in_bytes bytes) fits readable).1

@@ -40,11 +40,16 @@ short_page F v after = omega (arith, length-take 128 (beyond F v after))
 
 -- ---- regions
 
-pub region_of_get : {A : Type 0} (m : map.FinMap nat_cmp A) (n : ℕ) (k : A) (r : ℕ) (P : Option A → Type 0)
+pub region_of_get : {A : Type 0} (m : map.FinMap nat_cmp A) (n : ℕ) (k : A) (r : ℕ)
+    (P : Option A → Type 0)
     → (r ≡ n → P (Some k)) → ((r ≡ n → ⊥) → P (map.get m r)) → P (map.get (map.insert m n k) r)
 region_of_get m n k r P here there =
     subst P (sym (map.get-insert nat_cmp_total m n k r))
-    (elim (eq_by_cmp nat_cmp r n) as (λ t. eq_by_cmp nat_cmp r n ≡ t → P (cond t (Some k) (map.get m r))) [ true ↦ λ e. here (same_number r n e) | false ↦ λ e. there (other_number r n e) ] refl)
+    (elim (eq_by_cmp nat_cmp r n) as
+    (λ t. eq_by_cmp nat_cmp r n ≡ t → P (cond t (Some k) (map.get m r))) [
+      | true ↦ λ e. here (same_number r n e)
+      | false ↦ λ e. there (other_number r n e)
+    ] refl)
   where
     same_number : (a b : ℕ) → eq_by_cmp nat_cmp a b ≡ true → a ≡ b
     same_number a b h = grind (arith, nat_tests)
@@ -55,11 +60,14 @@ region_of_get m n k r P here there =
 -- the region that a look-up after an insertion finds, by its two cases
 of_region : (s : State) (n : ℕ) (k : Kept) (r : ℕ) (j : Kept) (P : Type 0) → (r ≡ n → k ≡ j → P)
     → (map.get s.regions r ≡ Some j → P) → map.get (map.insert s.regions n k) r ≡ Some j → P
-of_region s n k r j P here there h = region_of_get s.regions n k r (λ o. o ≡ Some j → P) (λ e q. here e (some_injective k j q)) (λ _. there) h
+of_region s n k r j P here there h = region_of_get s.regions n k r (λ o. o ≡ Some j → P)
+    (λ e q. here e (some_injective k j q)) (λ _. there) h
 
 region_here : (s : State) (n : ℕ) (k : Kept) (r : ℕ) → r ≡ n
     → map.get (map.insert s.regions n k) r ≡ Some k
-region_here s n k r same = map.get-insert nat_cmp_total s.regions n k r ∙ ap (λ o. cond (is_eq o) (Some k) (map.get s.regions r)) (ap (nat_cmp r) (sym same) ∙ tied_itself nat_cmp_total r)
+region_here s n k r same = map.get-insert nat_cmp_total s.regions n k r
+    ∙ ap (λ o. cond (is_eq o) (Some k) (map.get s.regions r))
+    (ap (nat_cmp r) (sym same) ∙ tied_itself nat_cmp_total r)
 
 -- a region's facts grow within U
 pub consists_kept : (s : State) (U : FactSet) (n : ℕ) (k j : Kept) → Consists s U
@@ -67,11 +75,20 @@ pub consists_kept : (s : State) (U : FactSet) (n : ℕ) (k j : Kept) → Consist
     → Consists (with_region s n j) U
 consists_kept s U n k j c at within grows = record {
   sound = c.sound;
-  held = λ r i h. of_region s n j r i (IsSubset i.facts U) (λ _ same. subst (λ (x : Kept). IsSubset x.facts U) same within) (c.held r i) h;
+  held = λ r i h. of_region s n j r i (IsSubset i.facts U)
+      (λ _ same. subst (λ (x : Kept). IsSubset x.facts U) same within) (c.held r i) h;
   home = λ d b h.
       let old = c.home d b h in
-      region_of_get s.regions n j d.region (λ o. (i : Kept) × (o ≡ Some i) × (map.get i.facts d ≡ Some b))
-      (λ same. (j, refl, grows d b (ap (λ (x : Kept). map.get x.facts d) (some_injective k old.0 (sym at ∙ ap (map.get s.regions) (sym same) ∙ old.1)) ∙ old.2)))
+      region_of_get s.regions n j d.region
+      (λ o. (i : Kept) × (o ≡ Some i) × (map.get i.facts d ≡ Some b))
+      (λ same. (
+        j,
+        refl,
+        grows d b
+            (ap (λ (x : Kept). map.get x.facts d)
+            (some_injective k old.0 (sym at ∙ ap (map.get s.regions) (sym same) ∙ old.1))
+            ∙ old.2),
+      ))
       (λ _. old);
   carried = c.carried;
   capped = c.capped;
@@ -83,11 +100,17 @@ pub consists_opened : (s : State) (U : FactSet) (n : ℕ) → Consists s U → m
     → Consists (with_region s n new_kept) U
 consists_opened s U n c none = record {
   sound = c.sound;
-  held = λ r i h. of_region s n new_kept r i (IsSubset i.facts U) (λ _ same d b at. absurd (none_is_not_some b (sym (map.get-empty dot_cmp d) ∙ ap (λ (x : Kept). map.get x.facts d) same ∙ at))) (c.held r i) h;
+  held = λ r i h. of_region s n new_kept r i (IsSubset i.facts U)
+      (λ _ same d b at.
+      absurd (none_is_not_some b
+      (sym (map.get-empty dot_cmp d) ∙ ap (λ (x : Kept). map.get x.facts d) same ∙ at)))
+      (c.held r i) h;
   home = λ d b h.
       let old = c.home d b h in
-      region_of_get s.regions n new_kept d.region (λ o. (i : Kept) × (o ≡ Some i) × (map.get i.facts d ≡ Some b))
-      (λ same. absurd (none_is_not_some old.0 (sym none ∙ ap (map.get s.regions) (sym same) ∙ old.1)))
+      region_of_get s.regions n new_kept d.region
+      (λ o. (i : Kept) × (o ≡ Some i) × (map.get i.facts d ≡ Some b))
+      (λ same. absurd
+      (none_is_not_some old.0 (sym none ∙ ap (map.get s.regions) (sym same) ∙ old.1)))
       (λ _. old);
   carried = c.carried;
   capped = c.capped;
@@ -101,19 +124,23 @@ free_everywhere s U n k d c at own free = elim (map.get U d) as (λ o. map.get U
   | None ↦ λ _. refl
   | Some b ↦ λ h.
       let old = c.home d b h in
-      absurd (none_is_not_some b (sym free ∙ ap (λ (x : Kept). map.get x.facts d) (some_injective k old.0 (sym at ∙ ap (map.get s.regions) (sym own) ∙ old.1)) ∙ old.2))
+      absurd (none_is_not_some b
+      (sym free ∙ ap (λ (x : Kept). map.get x.facts d)
+      (some_injective k old.0 (sym at ∙ ap (map.get s.regions) (sym own) ∙ old.1)) ∙ old.2))
 ] refl
 
 -- a set is part of that set with a fact at a free dot
 pub subset_more : (U : FactSet) (d : Dot) (b : Body) → map.get U d ≡ None
     → IsSubset U (map.insert U d b)
-subset_more U d b new q c h = by_dot (λ o. o ≡ Some c) U d b q (λ same. absurd (none_is_not_some c (sym new ∙ ap (map.get U) (sym same) ∙ h))) h
+subset_more U d b new q c h = by_dot (λ o. o ≡ Some c) U d b q
+    (λ same. absurd (none_is_not_some c (sym new ∙ ap (map.get U) (sym same) ∙ h))) h
 
 -- a fact is made at a free dot of its own region
 pub consists_made : (s : State) (U : FactSet) (n : ℕ) (k : Kept) (d : Dot) (b : Body) → Consists s U
     → map.get s.regions n ≡ Some k → d.region ≡ n → map.get k.facts d ≡ None
     → d.serial ≤ s.settings.cap → refusal_of b ≡ None
-    → Consists (with_region s n (record { facts = map.insert k.facts d b; horizon = k.horizon })) (map.insert U d b)
+    → Consists (with_region s n (record { facts = map.insert k.facts d b; horizon = k.horizon }))
+    (map.insert U d b)
 consists_made s U n k d b c at own free under passes =
     let F : FactSet = k.facts in
     let j : Kept = record { facts = map.insert F d b; horizon = k.horizon } in
@@ -123,23 +150,37 @@ consists_made s U n k d b c at own free under passes =
       sound = IsFactSet-insert U d b c.sound passes;
       held = λ r i h. of_region s n j r i (IsSubset i.facts (map.insert U d b))
           (λ _ same. subst (λ (x : Kept). IsSubset x.facts (map.insert U d b)) same (λ q e z.
-          of_dot F d b q e (map.get (map.insert U d b) q ≡ Some e) (λ here bc. ap (map.get (map.insert U d b)) here ∙ get_here U d b ∙ ap Some bc) (λ y. grows q e (c.held n k at q e y)) z))
+          of_dot F d b q e (map.get (map.insert U d b) q ≡ Some e)
+          (λ here bc. ap (map.get (map.insert U d b)) here ∙ get_here U d b ∙ ap Some bc)
+          (λ y. grows q e (c.held n k at q e y)) z))
           (λ y. subset_trans i.facts U _ (c.held r i y) grows) h;
       home = λ q e h.
-          of_dot U d b q e ((i : Kept) × (map.get (map.insert s.regions n j) q.region ≡ Some i) × (map.get i.facts q ≡ Some e))
-          (λ here bc. (j, region_here s n j q.region (ap (λ x. x.region) here ∙ own), ap (map.get j.facts) here ∙ get_here F d b ∙ ap Some bc))
+          of_dot U d b q e
+          ((i : Kept) × (map.get (map.insert s.regions n j) q.region ≡ Some i)
+          × (map.get i.facts q ≡ Some e))
+          (λ here bc. (
+            j,
+            region_here s n j q.region (ap (λ x. x.region) here ∙ own),
+            ap (map.get j.facts) here ∙ get_here F d b ∙ ap Some bc,
+          ))
           (λ y.
           let old = c.home q e y in
-          region_of_get s.regions n j q.region (λ o. (i : Kept) × (o ≡ Some i) × (map.get i.facts q ≡ Some e))
+          region_of_get s.regions n j q.region
+          (λ o. (i : Kept) × (o ≡ Some i) × (map.get i.facts q ≡ Some e))
           (λ same. (
             j,
             refl,
-            by_dot (λ o. o ≡ Some e) F d b q (λ here. absurd (none_is_not_some e (sym new ∙ ap (map.get U) (sym here) ∙ y)))
-                (ap (λ (x : Kept). map.get x.facts q) (some_injective k old.0 (sym at ∙ ap (map.get s.regions) (sym same) ∙ old.1)) ∙ old.2),
+            by_dot (λ o. o ≡ Some e) F d b q
+                (λ here. absurd (none_is_not_some e (sym new ∙ ap (map.get U) (sym here) ∙ y)))
+                (ap (λ (x : Kept). map.get x.facts q)
+                (some_injective k old.0 (sym at ∙ ap (map.get s.regions) (sym same) ∙ old.1))
+                ∙ old.2),
           ))
           (λ _. old)) h;
-      carried = λ i fs h. let x = c.carried i fs h in (AllIn-subset U (map.insert U d b) fs.facts grows x.0, x.1);
-      capped = λ q e h. of_dot U d b q e (q.serial ≤ s.settings.cap) (λ here bc. subst (λ x. x.serial ≤ s.settings.cap) (sym here) under) (c.capped q e) h;
+      carried = λ i fs h. let x = c.carried i fs h in
+          (AllIn-subset U (map.insert U d b) fs.facts grows x.0, x.1);
+      capped = λ q e h. of_dot U d b q e (q.serial ≤ s.settings.cap)
+          (λ here bc. subst (λ x. x.serial ≤ s.settings.cap) (sym here) under) (c.capped q e) h;
       low = c.low;
     }
 
@@ -157,7 +198,9 @@ consists_bundle s U b c a short = record {
   sound = c.sound;
   held = c.held;
   home = c.home;
-  carried = λ i e h. at_end s.bundles b i e (AllIn U e.facts × (length e.facts ≤ 128)) (c.carried i e) (λ same. subst (λ (x : Sent). AllIn U x.facts × (length x.facts ≤ 128)) same (a, short)) h;
+  carried = λ i e h. at_end s.bundles b i e (AllIn U e.facts × (length e.facts ≤ 128))
+      (c.carried i e)
+      (λ same. subst (λ (x : Sent). AllIn U x.facts × (length x.facts ≤ 128)) same (a, short)) h;
   capped = c.capped;
   low = c.low;
 }

@@ -65,14 +65,16 @@ count : (fs : List (Bor (List ℕ))) (l : List (List ℕ)) → texts fs ≡ l �
 count [] [] e = refl
 count [] (a ∷ l) e = absurd (cc)
 count (x ∷ fs) [] e = absurd (cc)
-count (x ∷ fs) (a ∷ l) e = let rest : texts fs ≡ l = cc in let n = count fs l rest in omega (arith, n)
+count (x ∷ fs) (a ∷ l) e = let rest : texts fs ≡ l = cc in
+    let n = count fs l rest in omega (arith, n)
 
 -- ---- names
 
 -- the first field of a request is not that of another event
 no_request_named : (name other : List ℕ) (form : List (List ℕ)) (request : List ℕ)
     → asked_of name form ≡ Some request → asked_of other form ≡ None → name ≢ other
-no_request_named name other form request h none same = some_is_not_none request (sym h ∙ ap (λ n. asked_of n form) same ∙ none)
+no_request_named name other form request h none same =
+    some_is_not_none request (sym h ∙ ap (λ n. asked_of n form) same ∙ none)
   where
     some_is_not_none : (q : List ℕ) → ¬ (Some q ≡ None)
     some_is_not_none q h = cc
@@ -99,8 +101,14 @@ module _ (fs : List (Bor (List ℕ))) where
       → IsVectorText (text_at fs 2) vector → IsCursorText (text_at fs 3) after
       → IsEventForm (texts fs) (Pull region vector after)
   pull_there region vector after long name at is place =
-      let at_region = region_found (text_at fs 1) region at in
-      (text_at fs 2, text_at fs 3, rw (four fs long, name, at_region.1) refl, at_region.0, is, place)
+      let at_region = region_found (text_at fs 1) region at in (
+        text_at fs 2,
+        text_at fs 3,
+        rw (four fs long, name, at_region.1) refl,
+        at_region.0,
+        is,
+        place,
+      )
 
   pub prune_there : (region horizon : ℕ) → length fs ≡ 3 → text_at fs 0 ≡ codes "prune"
       → region_in (text_at fs 1) ≡ Some region → moment_in (text_at fs 2) ≡ Some horizon
@@ -112,8 +120,11 @@ module _ (fs : List (Bor (List ℕ))) where
 
   -- five fields that begin with `prune_some` are those of a slice
   pub slice_texts : length fs ≡ 5 → text_at fs 0 ≡ codes "prune_some"
-      → codes "prune_some" ∷ text_at fs 1 ∷ text_at fs 2 ∷ text_at fs 3 ∷ text_at fs 4 ∷ [] ≡ texts fs
-  slice_texts long name = ap (λ t. t ∷ text_at fs 1 ∷ text_at fs 2 ∷ text_at fs 3 ∷ text_at fs 4 ∷ []) (sym name) ∙ sym (five fs long)
+      → codes "prune_some" ∷ text_at fs 1 ∷ text_at fs 2 ∷ text_at fs 3 ∷ text_at fs 4 ∷ []
+      ≡ texts fs
+  slice_texts long name = ap (λ t.
+      t ∷ text_at fs 1 ∷ text_at fs 2 ∷ text_at fs 3 ∷ text_at fs 4 ∷ []) (sym name)
+      ∙ sym (five fs long)
 
 -- ---- the fields of no event
 
@@ -132,11 +143,13 @@ module _ (fs : List (Bor (List ℕ))) where
   open_bad long none (Pull region vector after) h = absurd (omega (arith, count fs _ h.2))
   open_bad long none (Deliver bundle region) h = absurd (omega (arith, count fs _ h.0))
   open_bad long none (Prune region horizon) h = absurd (omega (arith, count fs _ h.0))
-  open_bad long none (PruneSome region horizon after most) h = absurd (omega (arith, count fs _ h.1))
+  open_bad long none (PruneSome region horizon after most) h =
+      absurd (omega (arith, count fs _ h.1))
 
   -- three fields that begin with `deliver` are those of a delivery or of no event
   deliver_only : length fs ≡ 3 → text_at fs 0 ≡ codes "deliver"
-      → ((bundle region : ℕ) → text_at fs 1 ≡ decimal bundle → bundle < 2 ^ 64 → text_at fs 2 ≡ decimal region → IsRegion region → ⊥)
+      → ((bundle region : ℕ) → text_at fs 1 ≡ decimal bundle → bundle < 2 ^ 64
+      → text_at fs 2 ≡ decimal region → IsRegion region → ⊥)
       → IsNoEventForm (texts fs)
   deliver_only long name none (Open region) h = absurd (omega (arith, count fs _ h.0))
   deliver_only long name none (Request region now words request) h =
@@ -151,15 +164,18 @@ module _ (fs : List (Bor (List ℕ))) where
       let parts = sym (three fs long) ∙ h.0 in
       let same : text_at fs 0 ≡ codes "prune" = cc in
       names_differ (sym name ∙ same)
-  deliver_only long name none (PruneSome region horizon after most) h = absurd (omega (arith, count fs _ h.1))
+  deliver_only long name none (PruneSome region horizon after most) h =
+      absurd (omega (arith, count fs _ h.1))
 
   pub deliver_bad_region : length fs ≡ 3 → text_at fs 0 ≡ codes "deliver"
       → region_in (text_at fs 2) ≡ None → IsNoEventForm (texts fs)
-  deliver_bad_region long name none = deliver_only long name (λ bundle region same high at is. no_region (text_at fs 2) region none is at)
+  deliver_bad_region long name none = deliver_only long name
+      (λ bundle region same high at is. no_region (text_at fs 2) region none is at)
 
   -- three fields that begin with `prune` are those of a prune or of no event
   prune_only : length fs ≡ 3 → text_at fs 0 ≡ codes "prune"
-      → ((region horizon : ℕ) → text_at fs 1 ≡ decimal region → IsRegion region → text_at fs 2 ≡ decimal horizon → IsMoment horizon → ⊥)
+      → ((region horizon : ℕ) → text_at fs 1 ≡ decimal region → IsRegion region
+      → text_at fs 2 ≡ decimal horizon → IsMoment horizon → ⊥)
       → IsNoEventForm (texts fs)
   prune_only long name none (Open region) h = absurd (omega (arith, count fs _ h.0))
   prune_only long name none (Request region now words request) h =
@@ -174,19 +190,24 @@ module _ (fs : List (Bor (List ℕ))) where
   prune_only long name none (Prune region horizon) h =
       let parts = sym (three fs long) ∙ h.0 in
       none region horizon (cc) h.1 (cc) h.2
-  prune_only long name none (PruneSome region horizon after most) h = absurd (omega (arith, count fs _ h.1))
+  prune_only long name none (PruneSome region horizon after most) h =
+      absurd (omega (arith, count fs _ h.1))
 
   pub prune_bad_region : length fs ≡ 3 → text_at fs 0 ≡ codes "prune"
       → region_in (text_at fs 1) ≡ None → IsNoEventForm (texts fs)
-  prune_bad_region long name none = prune_only long name (λ region horizon at is then late. no_region (text_at fs 1) region none is at)
+  prune_bad_region long name none = prune_only long name
+      (λ region horizon at is then late. no_region (text_at fs 1) region none is at)
 
   pub prune_bad_moment : length fs ≡ 3 → text_at fs 0 ≡ codes "prune"
       → moment_in (text_at fs 2) ≡ None → IsNoEventForm (texts fs)
-  prune_bad_moment long name none = prune_only long name (λ region horizon at is then late. no_moment (text_at fs 2) horizon none late then)
+  prune_bad_moment long name none = prune_only long name
+      (λ region horizon at is then late. no_moment (text_at fs 2) horizon none late then)
 
   -- four fields that begin with `pull` are those of a pull or of no event
   pull_only : length fs ≡ 4 → text_at fs 0 ≡ codes "pull"
-      → ((region : ℕ) (vector : Vector) (after : Option Dot) → text_at fs 1 ≡ decimal region → IsRegion region → IsVectorText (text_at fs 2) vector → IsCursorText (text_at fs 3) after → ⊥)
+      → ((region : ℕ) (vector : Vector) (after : Option Dot) → text_at fs 1 ≡ decimal region
+      → IsRegion region → IsVectorText (text_at fs 2) vector → IsCursorText (text_at fs 3) after
+      → ⊥)
       → IsNoEventForm (texts fs)
   pull_only long name none (Open region) h = absurd (omega (arith, count fs _ h.0))
   pull_only long name none (Request region now words request) h =
@@ -197,18 +218,22 @@ module _ (fs : List (Bor (List ℕ))) where
       let parts = sym (four fs long) ∙ h.2 in
       let entries : h.0 ≡ text_at fs 2 = cc in
       let place : h.1 ≡ text_at fs 3 = cc in
-      none region vector after (cc) h.3 (subst (λ t. IsVectorText t vector) entries h.4) (subst (λ t. IsCursorText t after) place h.5)
+      none region vector after (cc) h.3 (subst (λ t. IsVectorText t vector) entries h.4)
+      (subst (λ t. IsCursorText t after) place h.5)
   pull_only long name none (Deliver bundle region) h = absurd (omega (arith, count fs _ h.0))
   pull_only long name none (Prune region horizon) h = absurd (omega (arith, count fs _ h.0))
-  pull_only long name none (PruneSome region horizon after most) h = absurd (omega (arith, count fs _ h.1))
+  pull_only long name none (PruneSome region horizon after most) h =
+      absurd (omega (arith, count fs _ h.1))
 
   pub pull_bad_region : length fs ≡ 4 → text_at fs 0 ≡ codes "pull"
       → region_in (text_at fs 1) ≡ None → IsNoEventForm (texts fs)
-  pull_bad_region long name none = pull_only long name (λ region vector after at is entries place. no_region (text_at fs 1) region none is at)
+  pull_bad_region long name none = pull_only long name
+      (λ region vector after at is entries place. no_region (text_at fs 1) region none is at)
 
   pub pull_bad_vector : length fs ≡ 4 → text_at fs 0 ≡ codes "pull" → IsNoVectorText (text_at fs 2)
       → IsNoEventForm (texts fs)
-  pull_bad_vector long name none = pull_only long name (λ region vector after at is entries place. none vector entries)
+  pull_bad_vector long name none =
+      pull_only long name (λ region vector after at is entries place. none vector entries)
 
   -- three or more fields with another name are those of a request or of no event
   pub record IsOther : Type 0 where
@@ -219,14 +244,19 @@ module _ (fs : List (Bor (List ℕ))) where
     pub slice : length fs ≡ 5 → text_at fs 0 ≢ codes "prune_some"
 
   request_only : IsOther
-      → ((region now : ℕ) (request : List ℕ) → text_at fs 1 ≡ decimal region → IsRegion region → text_at fs 2 ≡ decimal now → IsMoment now → asked_of (text_at fs 0) (texts (drop 3 fs)) ≡ Some request → ⊥)
+      → ((region now : ℕ) (request : List ℕ) → text_at fs 1 ≡ decimal region → IsRegion region
+      → text_at fs 2 ≡ decimal now → IsMoment now
+      → asked_of (text_at fs 0) (texts (drop 3 fs)) ≡ Some request → ⊥)
       → IsNoEventForm (texts fs)
-  request_only other none (Open region) h = let long = other.long in absurd (omega (arith, count fs _ h.0))
+  request_only other none (Open region) h = let long = other.long in
+      absurd (omega (arith, count fs _ h.0))
   request_only other none (Request region now words request) h =
       let parts = sym (three_up fs other.long) ∙ h.2 in
       let name : h.0 ≡ text_at fs 0 = cc in
       let form : h.1 ≡ texts (drop 3 fs) = cc in
-      none region now request.items (cc) h.3 (cc) h.4 (subst (λ t. asked_of (text_at fs 0) t ≡ Some request.items) form (subst (λ t. asked_of t h.1 ≡ Some request.items) name h.5))
+      none region now request.items (cc) h.3 (cc) h.4
+      (subst (λ t. asked_of (text_at fs 0) t ≡ Some request.items) form
+      (subst (λ t. asked_of t h.1 ≡ Some request.items) name h.5))
   request_only other none (Pull region vector after) h =
       let long = count fs _ h.2 in
       let parts = sym (four fs long) ∙ h.2 in
@@ -249,12 +279,18 @@ module _ (fs : List (Bor (List ℕ))) where
   rest = take (length fs - 3) (drop 3 fs)
 
   pub request_bad : IsOther
-      → ((region now : ℕ) (request : List ℕ) → text_at fs 1 ≡ decimal region → IsRegion region → text_at fs 2 ≡ decimal now → IsMoment now → asked_of (text_at fs 0) (texts rest) ≡ Some request → ⊥)
+      → ((region now : ℕ) (request : List ℕ) → text_at fs 1 ≡ decimal region → IsRegion region
+      → text_at fs 2 ≡ decimal now → IsMoment now
+      → asked_of (text_at fs 0) (texts rest) ≡ Some request → ⊥)
       → IsNoEventForm (texts fs)
-  request_bad other none = request_only other (λ region now request at is then late form. none region now request at is then late (subst (λ l. asked_of (text_at fs 0) (texts l) ≡ Some request) (sym (take_rest fs 3)) form))
+  request_bad other none = request_only other
+      (λ region now request at is then late form.
+      none region now request at is then late
+      (subst (λ l. asked_of (text_at fs 0) (texts l) ≡ Some request) (sym (take_rest fs 3)) form))
 
   pub with_rest : 3 ≤ length fs → text_at fs 0 ∷ text_at fs 1 ∷ text_at fs 2 ∷ texts rest ≡ texts fs
-  with_rest long = ap (λ l. text_at fs 0 ∷ text_at fs 1 ∷ text_at fs 2 ∷ texts l) (take_rest fs 3) ∙ sym (three_up fs long)
+  with_rest long = ap (λ l. text_at fs 0 ∷ text_at fs 1 ∷ text_at fs 2 ∷ texts l) (take_rest fs 3)
+      ∙ sym (three_up fs long)
 
   -- fewer than three fields are those of `open` or of no event
   pub no_form : length fs < 3 → (length fs ≡ 2 → text_at fs 0 ≢ codes "open")
@@ -267,7 +303,8 @@ module _ (fs : List (Bor (List ℕ))) where
   no_form short other (Pull region vector after) h = absurd (omega (arith, count fs _ h.2))
   no_form short other (Deliver bundle region) h = absurd (omega (arith, count fs _ h.0))
   no_form short other (Prune region horizon) h = absurd (omega (arith, count fs _ h.0))
-  no_form short other (PruneSome region horizon after most) h = absurd (omega (arith, count fs _ h.1))
+  no_form short other (PruneSome region horizon after most) h =
+      absurd (omega (arith, count fs _ h.1))
 
 -- ---- the fields of a slice
 
@@ -277,7 +314,8 @@ module _ (at then place most : List ℕ) where
   slice_fields = codes "prune_some" ∷ at ∷ then ∷ place ∷ most ∷ []
 
   -- five fields that begin with `prune_some` are those of a slice or of no event
-  slice_only : ((region horizon : ℕ) → at ≡ decimal region → IsRegion region → then ≡ decimal horizon → IsMoment horizon → ⊥)
+  slice_only : ((region horizon : ℕ) → at ≡ decimal region → IsRegion region
+      → then ≡ decimal horizon → IsMoment horizon → ⊥)
       → IsNoEventForm slice_fields
   slice_only none (Open region) h = absurd (omega (arith, ap length h.0))
   slice_only none (Request region now words request) h =
@@ -292,20 +330,25 @@ module _ (at then place most : List ℕ) where
       none region horizon (cc) h.2 (cc) h.3
 
   pub slice_bad_region : region_in at ≡ None → IsNoEventForm slice_fields
-  slice_bad_region none = slice_only (λ region horizon is here now late. no_region at region none here is)
+  slice_bad_region none =
+      slice_only (λ region horizon is here now late. no_region at region none here is)
 
   pub slice_bad_moment : moment_in then ≡ None → IsNoEventForm slice_fields
-  slice_bad_moment none = slice_only (λ region horizon is here now late. no_moment then horizon none late now)
+  slice_bad_moment none =
+      slice_only (λ region horizon is here now late. no_moment then horizon none late now)
 
 -- ---- lines
 
-module _ (line : List ℕ) (fs : List (Bor (List ℕ))) (parts : texts fs ≡ slice_split is_space line) where
+module _ (line : List ℕ) (fs : List (Bor (List ℕ)))
+    (parts : texts fs ≡ slice_split is_space line) where
   pub line_there : (event : Event) → IsPrintable line
       → AllWithin (λ f. 0 < length f.now) fs 0 (length fs) → IsEventForm (texts fs) event
       → IsEventLine line event
   line_there event plain each form = record {
     printable = plain;
-    parted = subst (All (λ field. 0 < length field)) parts (All-map (λ field. 0 < length field) (λ f. f.now) fs (All-from_all_within (λ f. 0 < length f.now) fs each));
+    parted = subst (All (λ field. 0 < length field)) parts
+        (All-map (λ field. 0 < length field) (λ f. f.now) fs
+        (All-from_all_within (λ f. 0 < length f.now) fs each));
     form = subst (λ fields. IsEventForm fields event) parts form;
   }
 
@@ -314,6 +357,8 @@ module _ (line : List ℕ) (fs : List (Bor (List ℕ))) (parts : texts fs ≡ sl
       → IsNoEventLine line
   line_bad (k, there, empty) event h =
       let d : Bor (List ℕ) = record { ref_ptr = (0, 0); now = [] } in
-      let long = h.parted k [] (omega (arith, ap length parts, length-map fs (λ (f : Bor (List ℕ)). f.now))) in
-      let same = sym (ap (λ l. get_or l k []) parts) ∙ get_or-map (λ (f : Bor (List ℕ)). f.now) fs k d [] there in
+      let long =
+      h.parted k [] (omega (arith, ap length parts, length-map fs (λ (f : Bor (List ℕ)). f.now))) in
+      let same = sym (ap (λ l. get_or l k []) parts)
+      ∙ get_or-map (λ (f : Bor (List ℕ)). f.now) fs k d [] there in
       omega (arith, empty d, ap length same)

@@ -54,9 +54,15 @@ module _ (P : StoreFields) (U F : FactSet) (S : StandsFor P U F) where
       → (is_mark (d, x) ≡ true → horizon ≡ Some P.horizon) → sets.get P.slots d ≡ Some x
       → sets.get F d ≡ Some b → ItemStands U horizon d x b
   one_item horizon d (Held c) b marks at here =
-      let stands : SlotStands U P.horizon d (Some (Held c)) (Some b) = subst (λ (f : Option Body). SlotStands U P.horizon d (Some (Held c)) f) here (subst (λ (o : Option Slot). SlotStands U P.horizon d o (sets.get F d)) at (S d)) in
+      let stands : SlotStands U P.horizon d (Some (Held c)) (Some b) =
+      subst (λ (f : Option Body). SlotStands U P.horizon d (Some (Held c)) f) here
+      (subst (λ (o : Option Slot). SlotStands U P.horizon d o (sets.get F d)) at (S d)) in
       some_injective c b (sym stands.0)
-  one_item horizon d Skipped b marks at here = (P.horizon, marks refl, (subst (λ (o : Option Slot). SlotStands U P.horizon d o (sets.get F d)) at (S d)).1)
+  one_item horizon d Skipped b marks at here = (
+    P.horizon,
+    marks refl,
+    (subst (λ (o : Option Slot). SlotStands U P.horizon d o (sets.get F d)) at (S d)).1,
+  )
 
   first_same : (d e : Dot) (ds es : List Dot) → d ∷ ds ≡ e ∷ es → d ≡ e
   first_same d e ds es h = cc
@@ -80,8 +86,10 @@ module _ (P : StoreFields) (U F : FactSet) (S : StandsFor P U F) where
   known_items horizon (i ∷ is) (f ∷ fs) marks dots known held =
       let same : i.0 ≡ f.0 = first_same i.0 f.0 (map dot_of is) (map dot_of fs) dots in (
         same,
-        one_item horizon f.0 i.1 f.1 (λ m. marks (or_left (is_mark i) (list_any is_mark is) m)) (ap (sets.get P.slots) (sym same) ∙ known.0) held.0,
-        known_items horizon is fs (λ m. marks (or_right (is_mark i) (list_any is_mark is) m)) (rest_same i.0 f.0 (map dot_of is) (map dot_of fs) dots) known.1 held.1,
+        one_item horizon f.0 i.1 f.1 (λ m. marks (or_left (is_mark i) (list_any is_mark is) m))
+            (ap (sets.get P.slots) (sym same) ∙ known.0) held.0,
+        known_items horizon is fs (λ m. marks (or_right (is_mark i) (list_any is_mark is) m))
+            (rest_same i.0 f.0 (map dot_of is) (map dot_of fs) dots) known.1 held.1,
       )
 
   module _ (v : Vector) (after : Option Dot) where
@@ -95,7 +103,8 @@ module _ (P : StoreFields) (U F : FactSet) (S : StandsFor P U F) where
     beyond_same = beyond_dots P.slots F (stands_dots P U F S) v after
 
     page_dots : map dot_of its_items ≡ map dot_of its_facts
-    page_dots = take_dots max_items (beyond P.slots v after) ∙ ap (take max_items) beyond_same ∙ sym (take_dots max_items (beyond F v after))
+    page_dots = take_dots max_items (beyond P.slots v after) ∙ ap (take max_items) beyond_same
+        ∙ sym (take_dots max_items (beyond F v after))
 
     horizon_marks : (t : Bool) → t ≡ true → cond t (Some P.horizon) None ≡ Some P.horizon
     horizon_marks true h = refl
@@ -104,16 +113,19 @@ module _ (P : StoreFields) (U F : FactSet) (S : StandsFor P U F) where
     -- the items of a page stand for the facts of the page
     pub page_items : ItemsStand U (bundles.page_of P v after).bundle.horizon its_items its_facts
     page_items =
-        known_items (bundles.page_of P v after).bundle.horizon its_items its_facts (horizon_marks (list_any is_mark its_items)) page_dots
+        known_items (bundles.page_of P v after).bundle.horizon its_items its_facts
+        (horizon_marks (list_any is_mark its_items)) page_dots
         (AllIn-part P.slots max_items (beyond P.slots v after) (AllIn-beyond P.slots v after))
         (AllIn-part F max_items (beyond F v after) (AllIn-beyond F v after))
 
     -- the horizon of a page is none, or the store's
-    pub page_horizon : ((bundles.page_of P v after).bundle.horizon ≡ None) ⊎ ((bundles.page_of P v after).bundle.horizon ≡ Some P.horizon)
+    pub page_horizon : ((bundles.page_of P v after).bundle.horizon ≡ None)
+        ⊎ ((bundles.page_of P v after).bundle.horizon ≡ Some P.horizon)
     page_horizon = by (list_any is_mark its_items)
       where
         by : (t : Bool)
-            → (cond t (Some P.horizon) None ≡ None) ⊎ (cond t (Some P.horizon) None ≡ Some P.horizon)
+            → (cond t (Some P.horizon) None ≡ None)
+            ⊎ (cond t (Some P.horizon) None ≡ Some P.horizon)
         by true = inr refl
         by false = inl refl
 
@@ -121,10 +133,13 @@ module _ (P : StoreFields) (U F : FactSet) (S : StandsFor P U F) where
     page_length = sym (length_dots its_items) ∙ ap length page_dots ∙ length_dots its_facts
 
     pub page_last : (bundles.page_of P v after).last ≡ (page_of F v after).last
-    page_last = ap (λ (ds : List Dot). slice_get ds (length its_items - 1)) page_dots ∙ ap (λ n. slice_get (map dot_of its_facts) (n - 1)) page_length
+    page_last = ap (λ (ds : List Dot). slice_get ds (length its_items - 1)) page_dots
+        ∙ ap (λ n. slice_get (map dot_of its_facts) (n - 1)) page_length
 
     pub page_more : (bundles.page_of P v after).more ≡ (page_of F v after).more
-    page_more = ap (nat_lt max_items) (sym (length_dots (beyond P.slots v after)) ∙ ap length beyond_same ∙ length_dots (beyond F v after))
+    page_more = ap (nat_lt max_items)
+        (sym (length_dots (beyond P.slots v after)) ∙ ap length beyond_same
+        ∙ length_dots (beyond F v after))
 
 -- ---- bundles
 
@@ -138,13 +153,20 @@ module _ (U V : FactSet) (within : IsSubset U V) where
   items_more : (horizon : Option ℕ) (is : Items) (fs : Facts) → ItemsStand U horizon is fs
       → ItemsStand V horizon is fs
   items_more horizon [] [] h = tt
-  items_more horizon (i ∷ is) (f ∷ fs) h = (h.0, item_more horizon f.0 i.1 f.1 h.1, items_more horizon is fs h.2)
+  items_more horizon (i ∷ is) (f ∷ fs) h =
+      (h.0, item_more horizon f.0 i.1 f.1 h.1, items_more horizon is fs h.2)
   items_more horizon is fs h = absurd h
 
   pub bundles_more : (bs : List BundleFields) (cs : List Sent) → BundlesStand U bs cs
       → BundlesStand V bs cs
   bundles_more [] [] h = tt
-  bundles_more (b ∷ bs) (c ∷ cs) h = (record { horizon = h.0.horizon; items = items_more b.horizon b.items c.facts h.0.items }, bundles_more bs cs h.1)
+  bundles_more (b ∷ bs) (c ∷ cs) h = (
+    record {
+      horizon = h.0.horizon;
+      items = items_more b.horizon b.items c.facts h.0.items;
+    },
+    bundles_more bs cs h.1,
+  )
   bundles_more bs cs h = absurd h
 
 module _ (U : FactSet) where
@@ -166,7 +188,8 @@ module _ (U : FactSet) where
       → (c : Sent) × (slice_get cs i ≡ Some c) × BundleStands U b c
   bundle_at [] [] zero b h at = absurd (none_is_not_some b at)
   bundle_at [] [] (suc i) b h at = absurd (none_is_not_some b at)
-  bundle_at (x ∷ bs) (y ∷ cs) zero b h at = (y, refl, subst (λ (z : BundleFields). BundleStands U z y) (some_injective x b at) h.0)
+  bundle_at (x ∷ bs) (y ∷ cs) zero b h at =
+      (y, refl, subst (λ (z : BundleFields). BundleStands U z y) (some_injective x b at) h.0)
   bundle_at (x ∷ bs) (y ∷ cs) (suc i) b h at = bundle_at bs cs i b h.1 at
   bundle_at bs cs i b h at = absurd h
 
@@ -198,10 +221,13 @@ module _ (U : FactSet) (t : ℕ) where
       → (d : Dot) (o : Option Slot) (f : Option Body) (x : Slot) (b : Body) → SlotStands U t d o f
       → sets.get U d ≡ Some b → ItemStands U horizon d x b
       → SlotStands U t d (Some (joined_slot o x)) (Some b)
-  joined_stands horizon late d None f (Held c) b h made item = (sym (ap (λ (y : Body). Some y) item), made ∙ sym (ap (λ (y : Body). Some y) item))
-  joined_stands horizon late d None f Skipped b h made item = (sym made, may_more U U (λ q y z. z) item.0 t (late item.0 item.1) d item.2)
+  joined_stands horizon late d None f (Held c) b h made item =
+      (sym (ap (λ (y : Body). Some y) item), made ∙ sym (ap (λ (y : Body). Some y) item))
+  joined_stands horizon late d None f Skipped b h made item =
+      (sym made, may_more U U (λ q y z. z) item.0 t (late item.0 item.1) d item.2)
   joined_stands horizon late d (Some (Held e)) f (Held c) b h made item = (sym made ∙ h.1, h.1)
-  joined_stands horizon late d (Some (Held e)) f Skipped b h made item = (sym made, may_more U U (λ q y z. z) item.0 t (late item.0 item.1) d item.2)
+  joined_stands horizon late d (Some (Held e)) f Skipped b h made item =
+      (sym made, may_more U U (λ q y z. z) item.0 t (late item.0 item.1) d item.2)
   joined_stands horizon late d (Some Skipped) f x b h made item = (sym made, h.1)
 
   put_stands : (S : Slots) (F : FactSet) (horizon : Option ℕ) → ((m : ℕ) → horizon ≡ Some m → m ≤ t)
@@ -210,16 +236,22 @@ module _ (U : FactSet) (t : ℕ) where
       → SlotsStand U t (sets.insert S d (joined_slot (sets.get S d) x)) (sets.insert F d b)
   put_stands S F horizon late d x b stands made item =
       slot_put U t S d (joined_slot (sets.get S d) x) (sets.insert F d b)
-      (subst (λ (f : Option Body). SlotStands U t d (Some (joined_slot (sets.get S d) x)) f) (sym (get_here F d b)) (joined_stands horizon late d (sets.get S d) (sets.get F d) x b (stands d) made item))
-      (λ q ne. subst (λ (f : Option Body). SlotStands U t q (sets.get S q) f) (sym (by_dot (λ o. o ≡ sets.get F q) F d b q (λ same. absurd (ne same)) refl)) (stands q))
+      (subst (λ (f : Option Body). SlotStands U t d (Some (joined_slot (sets.get S d) x)) f)
+      (sym (get_here F d b))
+      (joined_stands horizon late d (sets.get S d) (sets.get F d) x b (stands d) made item))
+      (λ q ne. subst (λ (f : Option Body). SlotStands U t q (sets.get S q) f)
+      (sym (by_dot (λ o. o ≡ sets.get F q) F d b q (λ same. absurd (ne same)) refl)) (stands q))
 
   all_stand : (horizon : Option ℕ) → ((m : ℕ) → horizon ≡ Some m → m ≤ t)
       → (is : Items) (fs : Facts) (S : Slots) (F : FactSet) → ItemsStand U horizon is fs
       → AllIn U fs → SlotsStand U t S F → SlotsStand U t (with_slots S is) (with_facts F fs)
   all_stand horizon late [] [] S F items all stands = stands
   all_stand horizon late (i ∷ is) (f ∷ fs) S F items all stands =
-      all_stand horizon late is fs (sets.insert S i.0 (joined_slot (sets.get S i.0) i.1)) (sets.insert F f.0 f.1) items.2 all.1
-      (subst (λ (d : Dot). SlotsStand U t (sets.insert S d (joined_slot (sets.get S d) i.1)) (sets.insert F f.0 f.1)) (sym items.0)
+      all_stand horizon late is fs (sets.insert S i.0 (joined_slot (sets.get S i.0) i.1))
+      (sets.insert F f.0 f.1) items.2 all.1
+      (subst (λ (d : Dot).
+      SlotsStand U t (sets.insert S d (joined_slot (sets.get S d) i.1)) (sets.insert F f.0 f.1))
+      (sym items.0)
       (put_stands S F horizon late f.0 i.1 f.1 stands all.0 items.1))
   all_stand horizon late is fs S F items all stands = absurd items
 
@@ -236,10 +268,13 @@ raised_horizon P h horizon moment same is = ap (raised_to h) is ∙ by horizon
 pub items_stand : (P : StoreFields) (U F : FactSet) (horizon : Option ℕ) (is : Items) (fs : Facts)
     → ItemsStand U horizon is fs → AllIn U fs → StandsFor P U F
     → StandsFor (items_taken (raised P horizon) is) U (with_facts F fs)
-items_stand P U F None is fs items all S = all_stand U P.horizon None (λ m h. absurd (none_is_not_some m h)) is fs P.slots F items all S
+items_stand P U F None is fs items all S =
+    all_stand U P.horizon None (λ m h. absurd (none_is_not_some m h)) is fs P.slots F items all S
 items_stand P U F (Some moment) is fs items all S =
-    all_stand U (max P.horizon moment) (Some moment) (λ m h. late m (some_injective moment m h)) is fs P.slots F items all
-    (λ d. slot_more U U (λ q y z. z) P.horizon (max P.horizon moment) (omega arith) d (sets.get P.slots d) (sets.get F d) (S d))
+    all_stand U (max P.horizon moment) (Some moment) (λ m h. late m (some_injective moment m h)) is
+    fs P.slots F items all
+    (λ d. slot_more U U (λ q y z. z) P.horizon (max P.horizon moment) (omega arith) d
+    (sets.get P.slots d) (sets.get F d) (S d))
   where
     late : (m : ℕ) → moment ≡ m → m ≤ max P.horizon moment
     late m same = omega (arith, same)
@@ -270,9 +305,11 @@ module _ (P : StoreFields) (U F : FactSet) (S : StandsFor P U F) where
       → SlotStands U P.horizon d o f → sets.get U d ≡ Some b → ItemStands U horizon d x b
       → SlotAgrees o (Some x)
   agrees horizon d None f x b h made item = tt
-  agrees horizon d (Some (Held e)) f (Held c) b h made item = some_injective e c (sym h.1 ∙ made ∙ ap (λ (y : Body). Some y) (sym item))
+  agrees horizon d (Some (Held e)) f (Held c) b h made item =
+      some_injective e c (sym h.1 ∙ made ∙ ap (λ (y : Body). Some y) (sym item))
   agrees horizon d (Some (Held e)) f Skipped b h made item = passes_of U item.0 d e item.2 h.1
-  agrees horizon d (Some Skipped) f (Held c) b h made item = passes_of U P.horizon d c h.1 (made ∙ ap (λ (y : Body). Some y) (sym item))
+  agrees horizon d (Some Skipped) f (Held c) b h made item =
+      passes_of U P.horizon d c h.1 (made ∙ ap (λ (y : Body). Some y) (sym item))
   agrees horizon d (Some Skipped) f Skipped b h made item = tt
 
   -- what is known agrees with the items of a bundle
@@ -280,7 +317,8 @@ module _ (P : StoreFields) (U F : FactSet) (S : StandsFor P U F) where
       → AllIn U fs → AgreesWith P.slots is
   items_agree horizon [] [] items all = tt
   items_agree horizon (i ∷ is) (f ∷ fs) items all = (
-    subst (λ (d : Dot). SlotAgrees (sets.get P.slots d) (Some i.1)) (sym items.0) (agrees horizon f.0 (sets.get P.slots f.0) (sets.get F f.0) i.1 f.1 (S f.0) all.0 items.1),
+    subst (λ (d : Dot). SlotAgrees (sets.get P.slots d) (Some i.1)) (sym items.0)
+        (agrees horizon f.0 (sets.get P.slots f.0) (sets.get F f.0) i.1 f.1 (S f.0) all.0 items.1),
     items_agree horizon is fs items.2 all.1,
   )
   items_agree horizon is fs items all = absurd items
@@ -292,18 +330,22 @@ before : (region r serial next : ℕ) → (region ≡ r → serial < next)
     → (region == r) && nat_le next serial ≡ false
 before region r serial next h = grind (arith, nat_tests)
 
-module _ (s : State) (U : FactSet) (c : Consists s U) (r : ℕ) (k : Kept) (at : sets.get s.regions r ≡ Some k) where
+module _ (s : State) (U : FactSet) (c : Consists s U) (r : ℕ) (k : Kept)
+    (at : sets.get s.regions r ≡ Some k) where
   -- a region holds all facts under its own number
   own_held : (d : Dot) (b : Body) → sets.get U d ≡ Some b → d.region ≡ r
       → sets.get k.facts d ≡ Some b
   own_held d b h own =
       let home = c.home d b h in
-      ap (λ (x : Kept). sets.get x.facts d) (some_injective k home.0 (sym at ∙ ap (sets.get s.regions) (sym own) ∙ home.1)) ∙ home.2
+      ap (λ (x : Kept). sets.get x.facts d)
+      (some_injective k home.0 (sym at ∙ ap (sets.get s.regions) (sym own) ∙ home.1))
+      ∙ home.2
 
   own_before : (d : Dot) (b : Body) → sets.get U d ≡ Some b → d.region ≡ r
       → d.serial < next_serial k.facts r
   own_before d b h own =
-      let most = at_most_last_serial r (sets.entries k.facts) d b own (sym (sets.get-entries k.facts d) ∙ own_held d b h own) in
+      let most = at_most_last_serial r (sets.entries k.facts) d b own
+      (sym (sets.get-entries k.facts d) ∙ own_held d b h own) in
       omega arith
 
   -- a region has made each dot under its own number
@@ -313,6 +355,8 @@ module _ (s : State) (U : FactSet) (c : Consists s U) (r : ℕ) (k : Kept) (at :
   items_made horizon (i ∷ is) (f ∷ fs) items all =
       let next : Dot = record { region = r; serial = next_serial k.facts r } in
       none_of (is_unmade next i.0) (has_unmade next is)
-      (ap (is_unmade next) items.0 ∙ before f.0.region r f.0.serial (next_serial k.facts r) (λ own. own_before f.0 f.1 all.0 own))
+      (ap (is_unmade next) items.0
+      ∙ before f.0.region r f.0.serial (next_serial k.facts r)
+      (λ own. own_before f.0 f.1 all.0 own))
       (items_made horizon is fs items.2 all.1)
   items_made horizon is fs items all = absurd items

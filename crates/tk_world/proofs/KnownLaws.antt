@@ -51,13 +51,16 @@ module _ {X : Type 0} where
   sorted_bare : (es : List (Dot × X))
       → sets.is_sorted dot_cmp (map bare es) ≡ sets.is_sorted dot_cmp es
   sorted_bare [] = refl
-  sorted_bare (e ∷ es) = ap (λ b. b && sets.is_sorted dot_cmp (map bare es)) (below_bare e.0 es) ∙ ap (λ b. below_all dot_cmp e.0 es && b) (sorted_bare es)
+  sorted_bare (e ∷ es) = ap (λ b. b && sets.is_sorted dot_cmp (map bare es)) (below_bare e.0 es)
+      ∙ ap (λ b. below_all dot_cmp e.0 es && b) (sorted_bare es)
 
   find_bare : (q : Dot) (es : List (Dot × X))
       → find dot_cmp q (map bare es) ≡ option_map naught (find dot_cmp q es)
   find_bare q [] = refl
   find_bare q (e ∷ es) =
-      elim (eq_by_cmp dot_cmp q e.0) as (λ t. cond t (Some 0) (find dot_cmp q (map bare es)) ≡ option_map naught (cond t (Some e.1) (find dot_cmp q es))) [
+      elim (eq_by_cmp dot_cmp q e.0) as
+      (λ t. cond t (Some 0) (find dot_cmp q (map bare es))
+      ≡ option_map naught (cond t (Some e.1) (find dot_cmp q es))) [
         | true ↦ refl
         | false ↦ find_bare q es
       ]
@@ -68,11 +71,13 @@ module _ {X : Type 0} where
 
   entries_known : (m : sets.FinMap dot_cmp X)
       → sets.entries (known_of m) ≡ map bare (sets.entries m)
-  entries_known m = sets.entries-from_sorted dot_cmp _ (subst T (sym (sorted_bare (sets.entries m))) (sets.entries_sorted m))
+  entries_known m = sets.entries-from_sorted dot_cmp _
+      (subst T (sym (sorted_bare (sets.entries m))) (sets.entries_sorted m))
 
   get_known : (m : sets.FinMap dot_cmp X) (q : Dot)
       → sets.get (known_of m) q ≡ option_map naught (sets.get m q)
-  get_known m q = sets.get-entries (known_of m) q ∙ ap (find dot_cmp q) (entries_known m) ∙ find_bare q (sets.entries m) ∙ ap (option_map naught) (sym (sets.get-entries m q))
+  get_known m q = sets.get-entries (known_of m) q ∙ ap (find dot_cmp q) (entries_known m)
+      ∙ find_bare q (sets.entries m) ∙ ap (option_map naught) (sym (sets.get-entries m q))
 
   dots_bare : (es : List (Dot × X)) → map dot_of (map bare es) ≡ map dot_of es
   dots_bare [] = refl
@@ -87,7 +92,9 @@ module _ {X : Type 0} where
   filter_dots p t same [] = refl
   filter_dots p t same (e ∷ es) =
       ap (λ b. map dot_of (cond b (e ∷ filter p es) (filter p es))) (same e)
-      ∙ elim (t e.0) as (λ b. map dot_of (cond b (e ∷ filter p es) (filter p es)) ≡ cond b (e.0 ∷ filter t (map dot_of es)) (filter t (map dot_of es))) [
+      ∙ elim (t e.0) as
+      (λ b. map dot_of (cond b (e ∷ filter p es) (filter p es))
+      ≡ cond b (e.0 ∷ filter t (map dot_of es)) (filter t (map dot_of es))) [
         | true ↦ ap (λ (l : List Dot). e.0 ∷ l) (filter_dots p t same es)
         | false ↦ filter_dots p t same es
       ]
@@ -102,10 +109,12 @@ module _ {X : Type 0} where
   past_is (Some q) e = refl
 
   beyond_filtered : (m : sets.FinMap dot_cmp X) (v : Vector) (after : Option Dot)
-      → map dot_of (beyond m v after) ≡ filter (is_uncovered v) (filter (is_past after) (map dot_of (sets.entries m)))
+      → map dot_of (beyond m v after)
+      ≡ filter (is_uncovered v) (filter (is_past after) (map dot_of (sets.entries m)))
   beyond_filtered m v after =
       filter_dots (is_beyond v) (is_uncovered v) (λ e. refl) (above m after)
-      ∙ ap (filter (is_uncovered v)) (filter_dots (is_above after) (is_past after) (past_is after) (sets.entries m))
+      ∙ ap (filter (is_uncovered v))
+      (filter_dots (is_above after) (is_past after) (past_is after) (sets.entries m))
 
   last_dots : (r : ℕ) (es : List (Dot × X)) → last_serial r es ≡ last_of_dots r (map dot_of es)
   last_dots r [] = refl
@@ -115,7 +124,8 @@ module _ {X : Type 0} where
 abbrev pub SameDots : {X Y : Type 0} → sets.FinMap dot_cmp X → sets.FinMap dot_cmp Y → Type 0
 SameDots m n = (q : Dot) → is_some (sets.get m q) ≡ is_some (sets.get n q)
 
-module _ {X Y : Type 0} (m : sets.FinMap dot_cmp X) (n : sets.FinMap dot_cmp Y) (same : SameDots m n) where
+module _ {X Y : Type 0} (m : sets.FinMap dot_cmp X) (n : sets.FinMap dot_cmp Y)
+    (same : SameDots m n) where
   zero_as : (o : Option X) (p : Option Y) → is_some o ≡ is_some p
       → option_map naught o ≡ option_map naught p
   zero_as None None h = refl
@@ -124,21 +134,27 @@ module _ {X Y : Type 0} (m : sets.FinMap dot_cmp X) (n : sets.FinMap dot_cmp Y) 
   zero_as (Some x) (Some y) h = refl
 
   known_same : known_of m ≡ known_of n
-  known_same = sets.same_map dot_cmp_total dot_cmp-IsAntisymmetric _ _ (λ q. get_known m q ∙ zero_as (sets.get m q) (sets.get n q) (same q) ∙ sym (get_known n q))
+  known_same = sets.same_map dot_cmp_total dot_cmp-IsAntisymmetric _ _
+      (λ q. get_known m q ∙ zero_as (sets.get m q) (sets.get n q) (same q) ∙ sym (get_known n q))
 
   pub dots_same : map dot_of (sets.entries m) ≡ map dot_of (sets.entries n)
   dots_same =
-      sym (dots_bare (sets.entries m)) ∙ ap (map dot_of) (sym (entries_known m) ∙ ap sets.entries known_same ∙ entries_known n)
+      sym (dots_bare (sets.entries m))
+      ∙ ap (map dot_of) (sym (entries_known m) ∙ ap sets.entries known_same ∙ entries_known n)
       ∙ dots_bare (sets.entries n)
 
   pub len_same : sets.len m ≡ sets.len n
-  len_same = sets.len-entries m ∙ sym (length_dots (sets.entries m)) ∙ ap length dots_same ∙ length_dots (sets.entries n) ∙ sym (sets.len-entries n)
+  len_same = sets.len-entries m ∙ sym (length_dots (sets.entries m)) ∙ ap length dots_same
+      ∙ length_dots (sets.entries n) ∙ sym (sets.len-entries n)
 
   pub next_same : (r : ℕ) → next_serial m r ≡ next_serial n r
-  next_same r = ap (λ x. x + 1) (last_dots r (sets.entries m) ∙ ap (last_of_dots r) dots_same ∙ sym (last_dots r (sets.entries n)))
+  next_same r = ap (λ x. x + 1)
+      (last_dots r (sets.entries m) ∙ ap (last_of_dots r) dots_same
+      ∙ sym (last_dots r (sets.entries n)))
 
   pub beyond_dots : (v : Vector) (after : Option Dot)
       → map dot_of (beyond m v after) ≡ map dot_of (beyond n v after)
   beyond_dots v after =
-      beyond_filtered m v after ∙ ap (λ (ds : List Dot). filter (is_uncovered v) (filter (is_past after) ds)) dots_same
+      beyond_filtered m v after
+      ∙ ap (λ (ds : List Dot). filter (is_uncovered v) (filter (is_past after) ds)) dots_same
       ∙ sym (beyond_filtered n v after)

@@ -2,6 +2,7 @@ pub mod AlikeLaws
 pub mod BundleLaws
 pub mod ConsistencyLaws
 pub mod EventForms
+pub mod EventStands
 pub mod HeadlineLaws
 pub mod ItemLaws
 pub mod KnownLaws

@@ -47,13 +47,15 @@ moment_found text n e =
     range n t = grind (arith, nat_tests)
 
 pub no_region : (text : List ℕ) (n : ℕ) → region_in text ≡ None → IsRegion n → text ≢ decimal n
-no_region text n none range same = none_is_not_some n (sym none ∙ ap region_in same ∙ given is_region n (omega arith) (test n range))
+no_region text n none range same = none_is_not_some n
+    (sym none ∙ ap region_in same ∙ given is_region n (omega arith) (test n range))
   where
     test : (n : ℕ) → IsRegion n → is_region n ≡ true
     test n h = grind (arith, nat_tests)
 
 pub no_moment : (text : List ℕ) (n : ℕ) → moment_in text ≡ None → IsMoment n → text ≢ decimal n
-no_moment text n none range same = none_is_not_some n (sym none ∙ ap moment_in same ∙ given is_moment n (omega arith) (test n range))
+no_moment text n none range same = none_is_not_some n
+    (sym none ∙ ap moment_in same ∙ given is_moment n (omega arith) (test n range))
   where
     test : (n : ℕ) → IsMoment n → is_moment n ≡ true
     test n h = grind (arith, nat_tests)

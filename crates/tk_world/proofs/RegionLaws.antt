@@ -30,7 +30,8 @@ many rs = length-map rs entry_of
 -- the entry of the region at an index
 pub entry_at : (rs : List EdgeFields) (i : ℕ) (p : EdgeFields) → i < length (entries_of rs)
     → p ≡ get_or rs i p → entry_of p ≡ get_or (entries_of rs) i (entry_of p)
-entry_at rs i p within is = ap entry_of is ∙ sym (get_or-map entry_of rs i p (entry_of p) (subst (λ n. i < n) (many rs) within))
+entry_at rs i p within is = ap entry_of is
+    ∙ sym (get_or-map entry_of rs i p (entry_of p) (subst (λ n. i < n) (many rs) within))
 
 pub entries_set : (rs : List EdgeFields) (i : ℕ) (q : EdgeFields)
     → entries_of (set rs i q) ≡ set (entries_of rs) i (entry_of q)
@@ -47,7 +48,23 @@ entries_insert (r ∷ rs) (suc i) q = ap (λ es. entry_of r ∷ es) (entries_ins
 
 -- a region with this entry
 abbrev region_of : ℕ × StoreFields → EdgeFields
-region_of e = record { region = record { number = e.0; settings = record { code = 0; access = 0; refresh = 0; family = 0; cap = 0; choices = profile_choices }; facts = e.1 }; terms = accept_all; sealed = false }
+region_of e = record {
+  region = record {
+    number = e.0;
+    settings = record {
+      code = 0;
+      access = 0;
+      refresh = 0;
+      family = 0;
+      cap = 0;
+      choices = profile_choices;
+    };
+    facts =
+        e.1;
+  };
+  terms = accept_all;
+  sealed = false;
+}
 
 get_entry : (rs : List EdgeFields) (i : ℕ) (d : EdgeFields)
     → get_or (entries_of rs) i (entry_of d) ≡ entry_of (get_or rs i d)
@@ -65,13 +82,19 @@ at_entry (r ∷ rs) (suc i) d = at_entry rs i d
 by_entries : (rs : List EdgeFields) (k : ℕ) (r : Result ℕ ℕ)
     → IsBinarySearchResult (λ (edge : EdgeFields). nat_cmp edge.region.number k) rs r
     → IsBinarySearchResult (λ (e : ℕ × StoreFields). nat_cmp e.0 k) (entries_of rs) r
-by_entries rs k (Ok i) here = λ d. subst (λ e. nat_cmp e.0 k ≡ Equal) (sym (at_entry rs i d)) (here (region_of d))
+by_entries rs k (Ok i) here =
+    λ d. subst (λ e. nat_cmp e.0 k ≡ Equal) (sym (at_entry rs i d)) (here (region_of d))
 by_entries rs k (Err i) parted = λ rises.
-    let along : IsNonDecreasingBy (λ (edge : EdgeFields). ordering_index (nat_cmp edge.region.number k)) rs =
-    λ a b d le lt. let x = rises a b (entry_of d) le (subst (λ n. b < n) (sym (many rs)) lt) in rw (get_entry rs a d, get_entry rs b d) at x in
+    let along : IsNonDecreasingBy
+    (λ (edge : EdgeFields). ordering_index (nat_cmp edge.region.number k)) rs =
+    λ a b d le lt. let x = rises a b (entry_of d) le (subst (λ n. b < n) (sym (many rs)) lt) in
+    rw (get_entry rs a d, get_entry rs b d) at x in
     let p = parted along in (
-      λ j d le lt. subst (λ e. nat_cmp e.0 k ≡ Less) (sym (at_entry rs j d)) (p.0 j (region_of d) le lt),
-      λ j d le lt. subst (λ e. nat_cmp e.0 k ≡ Greater) (sym (at_entry rs j d)) (p.1 j (region_of d) le (subst (λ n. j < n) (many rs) lt)),
+      λ j d le lt.
+          subst (λ e. nat_cmp e.0 k ≡ Less) (sym (at_entry rs j d)) (p.0 j (region_of d) le lt),
+      λ j d le lt.
+          subst (λ e. nat_cmp e.0 k ≡ Greater) (sym (at_entry rs j d))
+          (p.1 j (region_of d) le (subst (λ n. j < n) (many rs) lt)),
     )
 
 in_entries : (rs : List EdgeFields) (r : Result ℕ ℕ) → IsSearchInRange r (length rs)
@@ -82,7 +105,9 @@ pub searched_entries : (rs : List EdgeFields) → T (map.is_sorted nat_cmp (entr
     → (k : ℕ) (r : Result ℕ ℕ) → IsSearchInRange r (length rs)
     → IsBinarySearchResult (λ (edge : EdgeFields). nat_cmp edge.region.number k) rs r
     → MatchResult r (IsAt nat_cmp (entries_of rs) k) (IsGap nat_cmp (entries_of rs) k)
-searched_entries rs sorted k r within result = searched nat_cmp nat_cmp_total (entries_of rs) sorted k r (in_entries rs r within) (by_entries rs k r result)
+searched_entries rs sorted k r within result =
+    searched nat_cmp nat_cmp_total (entries_of rs) sorted k r (in_entries rs r within)
+    (by_entries rs k r result)
 
 -- ---- settings
 

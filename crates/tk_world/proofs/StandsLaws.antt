@@ -32,12 +32,14 @@ use Rattle.tk_world.proofs.ItemLaws.{bundles_more}
 pub same_again : {A : Type 0} (m : map.FinMap nat_cmp A) (r : ℕ) (x : A) → map.get m r ≡ Some x
     → map.insert m r x ≡ m
 same_again m r x at = map.same_map nat_cmp_total map.nat_cmp-IsAntisymmetric _ _ (λ q.
-    region_of_get m r x q (λ o. o ≡ map.get m q) (λ same. sym at ∙ ap (map.get m) (sym same)) (λ _. refl))
+    region_of_get m r x q (λ o. o ≡ map.get m q) (λ same. sym at ∙ ap (map.get m) (sym same))
+    (λ _. refl))
 
 -- ---- a region of a world
 
 -- a region that is open in the world is open in the state
-pub record OpenFor (w : WorldFields) (U : FactSet) (s : State) (r : ℕ) (P : StoreFields) : Type 0 where
+pub record OpenFor (w : WorldFields) (U : FactSet) (s : State) (r : ℕ)
+    (P : StoreFields) : Type 0 where
   pub k : Kept
   pub at : map.get s.regions r ≡ Some k
   pub stands : StandsFor P U k.facts
@@ -45,7 +47,8 @@ pub record OpenFor (w : WorldFields) (U : FactSet) (s : State) (r : ℕ) (P : St
 
 pub open_for : (w : WorldFields) (U : FactSet) (s : State) → WorldStands w U s
     → (r : ℕ) (P : StoreFields) → map.get w.regions r ≡ Some P → OpenFor w U s r P
-open_for w U s S r P at = by (map.get s.regions r) refl (subst (λ (o : Option StoreFields). RegionFor U o (map.get s.regions r)) at (S.regions r))
+open_for w U s S r P at = by (map.get s.regions r) refl
+    (subst (λ (o : Option StoreFields). RegionFor U o (map.get s.regions r)) at (S.regions r))
   where
     by : (o : Option Kept) → map.get s.regions r ≡ o → RegionFor U (Some P) o → OpenFor w U s r P
     by None is x = absurd x
@@ -53,7 +56,8 @@ open_for w U s S r P at = by (map.get s.regions r) refl (subst (λ (o : Option S
 
 pub closed_for : (w : WorldFields) (U : FactSet) (s : State) → WorldStands w U s → (r : ℕ)
     → map.get w.regions r ≡ None → map.get s.regions r ≡ None
-closed_for w U s S r at = by (map.get s.regions r) (subst (λ (o : Option StoreFields). RegionFor U o (map.get s.regions r)) at (S.regions r))
+closed_for w U s S r at = by (map.get s.regions r)
+    (subst (λ (o : Option StoreFields). RegionFor U o (map.get s.regions r)) at (S.regions r))
   where
     by : (o : Option Kept) → RegionFor U None o → o ≡ None
     by None x = refl
@@ -80,8 +84,11 @@ stands_put w U V s r P k S more consists sound stands level = record {
   sound = sound;
   regions = λ q.
       region_of_get w.regions r P q (λ o. RegionFor V o (map.get (map.insert s.regions r k) q))
-      (λ same. region_of_get s.regions r k q (λ o. RegionFor V (Some P) o) (λ _. (stands, level)) (λ other. absurd (other same)))
-      (λ other. region_of_get s.regions r k q (λ o. RegionFor V (map.get w.regions q) o) (λ same. absurd (other same)) (λ _. region_more (map.get w.regions q) (map.get s.regions q) (S.regions q)));
+      (λ same. region_of_get s.regions r k q (λ o. RegionFor V (Some P) o) (λ _. (stands, level))
+      (λ other. absurd (other same)))
+      (λ other. region_of_get s.regions r k q (λ o. RegionFor V (map.get w.regions q) o)
+      (λ same. absurd (other same))
+      (λ _. region_more (map.get w.regions q) (map.get s.regions q) (S.regions q)));
   bundles = bundles_more U V more w.bundles s.bundles S.bundles;
 }
   where
@@ -100,13 +107,16 @@ unchanged_stands w new U s same S = subst (λ (x : WorldFields). WorldStands x U
 -- setting the store that a region has changes nothing
 pub put_back : (w : WorldFields) (r : ℕ) (P : StoreFields) → map.get w.regions r ≡ Some P
     → with_store w r P ≡ w
-put_back w r P at = ap (λ (m : map.FinMap nat_cmp StoreFields). record { settings = w.settings; regions = m; bundles = w.bundles }) (same_again w.regions r P at)
+put_back w r P at = ap (λ (m : map.FinMap nat_cmp StoreFields).
+    record { settings = w.settings; regions = m; bundles = w.bundles })
+    (same_again w.regions r P at)
 
 abbrev pub no_facts : FactSet
 no_facts = map.empty
 
 pub empty_stands : (U : FactSet) → StandsFor empty_store U no_facts
-empty_stands U d = subst (λ (o : Option Slot). SlotStands U 0 d o (map.get no_facts d)) (sym (map.get-empty dot_cmp d)) (map.get-empty dot_cmp d)
+empty_stands U d = subst (λ (o : Option Slot). SlotStands U 0 d o (map.get no_facts d))
+    (sym (map.get-empty dot_cmp d)) (map.get-empty dot_cmp d)
 
 -- ---- worlds
 
@@ -119,14 +129,28 @@ pub new_stands : (settings : SettingsFields) → settings.cap ≤ greatest_cap
 new_stands settings low = record {
   settings = refl;
   consists = new_consists settings low;
-  sound = record { ends = λ k m c code other minted under issues. absurd (nothing_minted k m minted); parents = λ d k u. absurd (nothing_used d k u); reuses = λ d reuse at. absurd (none_is_not_some (ReuseSeen reuse) (sym (map.get-empty dot_cmp d) ∙ at)); refreshed = λ d f at. absurd (none_is_not_some (AccessRefreshed f) (sym (map.get-empty dot_cmp d) ∙ at)) };
-  regions = λ r. subst (λ (o : Option StoreFields). RegionFor no_facts o (map.get no_kept r)) (sym (map.get-empty nat_cmp r))
+  sound = record {
+    ends = λ k m c code other minted under issues. absurd (nothing_minted k m minted);
+    parents = λ d k u. absurd (nothing_used d k u);
+    reuses = λ d reuse at.
+        absurd (none_is_not_some (ReuseSeen reuse) (sym (map.get-empty dot_cmp d) ∙ at));
+    refreshed =
+        λ d f at. absurd
+        (none_is_not_some (AccessRefreshed f) (sym (map.get-empty dot_cmp d) ∙ at));
+  };
+  regions = λ r. subst (λ (o : Option StoreFields). RegionFor no_facts o (map.get no_kept r))
+      (sym (map.get-empty nat_cmp r))
       (subst (λ (o : Option Kept). RegionFor no_facts None o) (sym (map.get-empty nat_cmp r)) tt);
   bundles = tt;
 }
   where
     nothing_minted : (k : TokenId) (m : MintedFields) → minted_in (map.get no_facts) k ≡ Some m → ⊥
-    nothing_minted k m h = none_is_not_some m (sym (ap (option_and_then (λ (b : Body). minted_of b k.kind)) (map.get-empty dot_cmp k.dot)) ∙ h)
+    nothing_minted k m h = none_is_not_some m
+        (sym (ap (option_and_then (λ (b : Body). minted_of b k.kind)) (map.get-empty dot_cmp k.dot))
+        ∙ h)
 
     nothing_used : (d : Dot) (k : TokenId) → use_of (links_in (map.get no_facts) d) ≡ Some k → ⊥
-    nothing_used d k h = none_is_not_some k (sym (ap (λ (o : Option Body). use_of (option_and_then link_of o)) (map.get-empty dot_cmp d)) ∙ h)
+    nothing_used d k h = none_is_not_some k
+        (sym (ap (λ (o : Option Body). use_of (option_and_then link_of o))
+        (map.get-empty dot_cmp d))
+        ∙ h)

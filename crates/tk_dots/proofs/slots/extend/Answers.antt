@@ -7,7 +7,9 @@ pub loop-slots-preserved : goal.loop-slots-preserved
 loop-slots-preserved g c = record {
   len = omega arith;
   room = omega arith;
-  items = λ j. ap (λ (xs : List (Option g.row.V.Denot)). get_or xs j None) c.push_reserved.ensures.items ∙ push_none c.loop-slots.slots.items j ∙ c.loop-slots.invariant.items j;
+  items = λ j. ap (λ (xs : List (Option g.row.V.Denot)). get_or xs j None)
+      c.push_reserved.ensures.items
+      ∙ push_none c.loop-slots.slots.items j ∙ c.loop-slots.invariant.items j;
 }
 
 pub returns-clause-items : goal.returns-clause-items

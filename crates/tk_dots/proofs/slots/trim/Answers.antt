@@ -8,6 +8,8 @@ loop-slots-preserved g c =
     let split = rw popped at c.pop.ensures.items in
     let shorter = rw popped at c.pop.ensures.cases in
     record {
-      items = λ j. sym (push_none c.pop.new.self.items j) ∙ ap (λ (xs : List (Option g.row.V.Denot)). get_or xs j None) (sym split) ∙ c.loop-slots.invariant.items j;
+      items = λ j. sym (push_none c.pop.new.self.items j)
+          ∙ ap (λ (xs : List (Option g.row.V.Denot)). get_or xs j None) (sym split)
+          ∙ c.loop-slots.invariant.items j;
       len = omega (arith, c.loop-slots.invariant.len);
     }

@@ -5,4 +5,7 @@ use Rattle.tk_family.specs.Children.{child_cmp, child_key, others_in}
 use Rattle.tk_family.proofs.children.drop_child.Goals as goal
 
 pub returns : goal.returns
-returns c = λ k e. c.remove.ensures.updates.0 (child_key k e) ∙ ap (λ (x : Child). cond (is_at (child_cmp x) (child_key k e)) false (others_in c.args.others.now k e)) c.key.ensures
+returns c = λ k e. c.remove.ensures.updates.0 (child_key k e)
+    ∙ ap (λ (x : Child).
+    cond (is_at (child_cmp x) (child_key k e)) false (others_in c.args.others.now k e))
+    c.key.ensures

@@ -6,6 +6,7 @@ use Rattle.tk_family.proofs.gather.push_children.Given as goal
 
 abbrev pub invariant-loop-child : goal.invariant-loop-child
 invariant-loop-child l = record {
-  pushing : Pushing (links_of (table l.rows)) l.fn.dot l.above (dots_of l.child-iterator) l.fn.list.items l.list.items;
+  pushing : Pushing (links_of (table l.rows)) l.fn.dot l.above (dots_of l.child-iterator)
+      l.fn.list.items l.list.items;
   capacity : vec_capacity l.fn.list ≤ vec_capacity l.list;
 }

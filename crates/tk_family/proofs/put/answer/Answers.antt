@@ -3,4 +3,5 @@ use Rattle.tk_family.proofs.Gathering.{Gathers-permuted}
 use Rattle.tk_family.proofs.put.answer.Goals as goal
 
 pub returns-clause-whole : goal.returns-clause-whole
-returns-clause-whole c = λ _. Gathers-permuted (links_of (table c.args.rows.now)) c.args.dot c.args.link.now _ _ c.sort_unstable.ensures.permutation c.in_ok-dots.ensures
+returns-clause-whole c = λ _. Gathers-permuted (links_of (table c.args.rows.now)) c.args.dot
+    c.args.link.now _ _ c.sort_unstable.ensures.permutation c.in_ok-dots.ensures

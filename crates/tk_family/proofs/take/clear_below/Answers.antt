@@ -1,5 +1,5 @@
 use Rattle.tk_family.specs.Rows.{table}
-use Rattle.tk_family.proofs.Counting.{clear-fits}
+use Rattle.tk_family.proofs.Recounting.{clear-fits}
 use Rattle.tk_family.proofs.Taking.{codes_below}
 use Rattle.tk_family.proofs.take.clear_below.Goals as goal
 
@@ -8,4 +8,7 @@ clear-requires-in-Ok c =
     let T = table c.args.rows.now in
     let ys = c.gather_into.new.list.items in
     let got = c.in-Ok.ensures.ok in
-    rw c.as_slice.ensures.value (clear-fits T c.args.code ys c.requires.forest.bads got.distinct (codes_below T c.args.dot c.args.link.now c.args.code ys c.requires.forest c.requires.here c.requires.code got))
+    rw c.as_slice.ensures.value
+    (clear-fits T c.args.code ys c.requires.forest.bads got.distinct
+    (codes_below T c.args.dot c.args.link.now c.args.code ys c.requires.forest c.requires.here
+    c.requires.code got))

@@ -6,4 +6,7 @@ use Rattle.tk_family.proofs.Writing.{changed}
 use Rattle.tk_family.proofs.write.set_unmarked.Goals as goal
 
 pub returns-in-Some-clause-rows : goal.returns-in-Some-clause-rows
-returns-in-Some-clause-rows c = changed (table c.args.rows.now) (table c.put_row.new.rows) c.args.at c.unpack.result c.unmarked_as-changed.result (λ (o : Option Row). without_mark o c.args.kind) (sym c.in-Some.ensures ∙ ap (λ (r : Row). Some r) (sym c.unpack.ensures)) c.unmarked_as-changed.ensures c.put_row.ensures.rows
+returns-in-Some-clause-rows c = changed (table c.args.rows.now) (table c.put_row.new.rows) c.args.at
+    c.unpack.result c.unmarked_as-changed.result (λ (o : Option Row). without_mark o c.args.kind)
+    (sym c.in-Some.ensures ∙ ap (λ (r : Row). Some r) (sym c.unpack.ensures))
+    c.unmarked_as-changed.ensures c.put_row.ensures.rows

@@ -6,4 +6,8 @@ use Rattle.tk_family.proofs.Writing.{changed}
 use Rattle.tk_family.proofs.write.set_users.Goals as goal
 
 pub returns-in-Some-clause-rows : goal.returns-in-Some-clause-rows
-returns-in-Some-clause-rows c = changed (table c.args.rows.now) (table c.put_row.new.rows) c.args.at c.unpack.result c.with_users-changed.result (λ (o : Option Row). with_users o c.args.first c.args.kind c.args.uses) (sym c.in-Some.ensures ∙ ap (λ (r : Row). Some r) (sym c.unpack.ensures)) c.with_users-changed.ensures c.put_row.ensures.rows
+returns-in-Some-clause-rows c = changed (table c.args.rows.now) (table c.put_row.new.rows) c.args.at
+    c.unpack.result c.with_users-changed.result
+    (λ (o : Option Row). with_users o c.args.first c.args.kind c.args.uses)
+    (sym c.in-Some.ensures ∙ ap (λ (r : Row). Some r) (sym c.unpack.ensures))
+    c.with_users-changed.ensures c.put_row.ensures.rows

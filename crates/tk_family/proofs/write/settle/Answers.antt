@@ -12,7 +12,11 @@ loop-at-preserved c = record {
       let i = c.loop-at.at-index in
       let list : List Dot = c.args.list.now in
       let at : Dot = c.at-item.result in
-      subst (λ (l : List Dot). table c.set_code.new.rows q ≡ settled (table c.args.rows.now) l c.args.code q) (sym (take_more list i at c.loop-at-test.true ∙ ap (λ (x : Dot). take i list ++ x ∷ []) (sym c.at-item.is)))
-      (settled-more (table c.args.rows.now) (table c.loop-at.rows) (table c.set_code.new.rows) (take i list) at c.args.code c.loop-at.invariant.rows c.set_code.ensures.rows q);
+      subst (λ (l : List Dot).
+      table c.set_code.new.rows q ≡ settled (table c.args.rows.now) l c.args.code q)
+      (sym (take_more list i at c.loop-at-test.true
+      ∙ ap (λ (x : Dot). take i list ++ x ∷ []) (sym c.at-item.is)))
+      (settled-more (table c.args.rows.now) (table c.loop-at.rows) (table c.set_code.new.rows)
+      (take i list) at c.args.code c.loop-at.invariant.rows c.set_code.ensures.rows q);
   len = c.set_code.ensures.len ∙ c.loop-at.invariant.len;
 }

@@ -6,4 +6,7 @@ use Rattle.tk_family.specs.Writes.{unsettled}
 use Rattle.tk_family.proofs.write.unsettle.Given as goal
 
 abbrev pub invariant-loop-at : goal.invariant-loop-at
-invariant-loop-at l = record { rows : (q : Dot) → table l.rows q ≡ unsettled (table l.initial.rows) (take l.at-index l.list) q; len : map.len l.rows ≡ map.len l.initial.rows }
+invariant-loop-at l = record {
+  rows : (q : Dot) → table l.rows q ≡ unsettled (table l.initial.rows) (take l.at-index l.list) q;
+  len : map.len l.rows ≡ map.len l.initial.rows;
+}

@@ -20,11 +20,15 @@ returns-then-first-eq43 c = is_decimal_in c.args.text.now None (elim c.then-firs
 ])
 
 pub returns-in_default-from_utf8 : goal.returns-in_default-from_utf8
-returns-in_default-from_utf8 c = is_decimal_in c.args.text.now None (no_text c.args.text.now c.in_default-from_utf8.ensures.cases.0)
+returns-in_default-from_utf8 c = is_decimal_in c.args.text.now None
+    (no_text c.args.text.now c.in_default-from_utf8.ensures.cases.0)
 
 pub returns : goal.returns
 returns c =
-    c.ok.ensures.value ∙ is_decimal_in c.args.text.now _ (parsed c.args.text.now c.parse.result (rw c.in-Ok.ensures.cases.0 at c.parse.ensures.value.0) c.if-first-eq43.false
+    c.ok.ensures.value
+    ∙ is_decimal_in c.args.text.now _
+    (parsed c.args.text.now c.parse.result (rw c.in-Ok.ensures.cases.0 at c.parse.ensures.value.0)
+    c.if-first-eq43.false
     (λ zero. elim c.if-first-eq48.branch [
       | then-first-eq48 w ↦ grind (arith, nat_tests)
       | else-first-eq48 w ↦ absurd (w.if-first-eq48.false zero)

@@ -14,7 +14,8 @@ returns-in_err-check_registrable-clause-err c = grind (arith, common_steps)
 pub returns-in_err-check_registrable-clause-bad : goal.returns-in_err-check_registrable-clause-bad
 returns-in_err-check_registrable-clause-bad c = grind (arith, common_steps)
 
-pub returns-in_err-check_registrable-clause-refused : goal.returns-in_err-check_registrable-clause-refused
+pub returns-in_err-check_registrable-clause-refused
+    : goal.returns-in_err-check_registrable-clause-refused
 returns-in_err-check_registrable-clause-refused c = grind (arith, common_steps)
 
 pub loop-uri-smaller : goal.loop-uri-smaller

@@ -6,5 +6,6 @@ use Rattle.tk_put.proofs.put.put.Given as goal
 abbrev pub invariant-loop : goal.invariant-loop
 invariant-loop g l = record {
   within : l.written ≤ length l.bytes;
-  so_far : Appends (g.O.Write.contents l.fn.output) (g.O.Write.contents l.output) (take l.written l.bytes);
+  so_far : Appends (g.O.Write.contents l.fn.output) (g.O.Write.contents l.output)
+      (take l.written l.bytes);
 }

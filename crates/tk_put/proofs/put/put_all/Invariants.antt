@@ -5,4 +5,5 @@ use Rattle.tk_put.proofs.put.put_all.Given as goal
 
 -- the pieces so far are written
 abbrev pub invariant-loop-piece : goal.invariant-loop-piece
-invariant-loop-piece g l = Appends (g.O.Write.contents l.fn.output) (g.O.Write.contents l.output) (joined_text (take l.piece-index l.pieces))
+invariant-loop-piece g l = Appends (g.O.Write.contents l.fn.output) (g.O.Write.contents l.output)
+    (joined_text (take l.piece-index l.pieces))

@@ -6,4 +6,7 @@ use Rattle.tk_scope.specs.Scope.{is_token}
 use Rattle.tk_scope.proofs.grammar.is_list_of_tokens.Goals as goal
 
 pub returns : goal.returns
-returns c = all_from_yields_List is_token _ _ _ c.all.ensures.ran (YieldsList-from_str_split 0x20 c.args.text.now (lit< tt) c.split.ensures.text c.split.ensures.has_more c.split.ensures.pattern) (λ x b q k. search (rules, tests))
+returns c = all_from_yields_List is_token _ _ _ c.all.ensures.ran
+    (YieldsList-from_str_split 0x20 c.args.text.now (lit< tt) c.split.ensures.text
+    c.split.ensures.has_more c.split.ensures.pattern) (λ x b q k.
+    search (rules, tests))

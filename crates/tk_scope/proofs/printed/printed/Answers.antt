@@ -36,7 +36,8 @@ texts_of-cond false us vs = refl
 texts_of-dedup_from : (xs : List Token) (k : Token)
     → texts_of (dedup_from same_token k xs) ≡ dedup_from bytes_eq k.now (texts_of xs)
 texts_of-dedup_from [] k = refl
-texts_of-dedup_from (x ∷ xs) k = rw (texts_of-cond, texts_of-dedup_from xs k, texts_of-dedup_from xs x)
+texts_of-dedup_from (x ∷ xs) k =
+    rw (texts_of-cond, texts_of-dedup_from xs k, texts_of-dedup_from xs x)
 
 -- removing duplicates commutes with taking the texts
 texts_of-dedup : (xs : List Token) → texts_of (dedup same_token xs) ≡ dedup bytes_eq (texts_of xs)
@@ -69,12 +70,29 @@ returns c =
     let ts = tokens_of c.args.text.now in
     let sorted = c.sort_unstable.new.self.items in
     let left = c.dedup.new.self.items in
-    let collected : texts_of c.in_ok-tokens.tokens.items ≡ ts = IfOk-at_ok _ c.in_ok-tokens.was (map_from_collect _ c.collect.ensures.ran (YieldsList-from_str_split 0x20 c.args.text.now (lit< tt) c.split.ensures.text c.split.ensures.has_more c.split.ensures.pattern)) in
-    let moved = rw collected at (IsPermutation-map (λ (t : Token). t.now) _ sorted c.sort_unstable.ensures.permutation) in
+    let collected : texts_of c.in_ok-tokens.tokens.items ≡ ts =
+    IfOk-at_ok _ c.in_ok-tokens.was
+    (map_from_collect _ c.collect.ensures.ran
+    (YieldsList-from_str_split 0x20 c.args.text.now (lit< tt) c.split.ensures.text
+    c.split.ensures.has_more c.split.ensures.pattern)) in
+    let moved = rw collected at
+    (IsPermutation-map (λ (t : Token). t.now) _ sorted c.sort_unstable.ensures.permutation) in
     let kept = dedup_is same_token sorted _ c.dedup.ensures.filtered in
-    let is : texts_of left ≡ dedup bytes_eq (texts_of sorted) = ap texts_of kept ∙ texts_of-dedup sorted in
-    let keeps = Contains-dedup nat_list_eq_equiv (λ x y e. same_text x y (sym e)) (texts_of sorted) in
-    let rises : Rises (texts_of left) = rising_texts left (rw kept (IsStrictlySortedBy-dedup (on_texts (λ (t : Token). t.now)) (λ x y. texts_ties x.now y.now) sorted c.sort_unstable.ensures.sorted)) in
-    let held : All (Contains (texts_of left)) ts = rw is (All-weaker (Contains ts) _ (λ t h. keeps t (Contains-permutation ts _ t moved h)) ts (All-contains_itself ts)) in
-    let only : All (Contains ts) (texts_of left) = rw is (All-dedup bytes_eq (Contains ts) _ (All-permutation (Contains ts) ts _ moved (All-contains_itself ts))) in
-    IfOk-weaker c.join.result _ _ (λ s e. e ∙ ap (join_by (λ (t : Token). t.now) (0x20 ∷ [])) c.deref.ensures.value ∙ join_texts left ∙ ap (join_with_byte 0x20) (set_is ts (texts_of left) rises held only)) c.join.ensures.ok
+    let is : texts_of left ≡ dedup bytes_eq (texts_of sorted) =
+    ap texts_of kept ∙ texts_of-dedup sorted in
+    let keeps =
+    Contains-dedup nat_list_eq_equiv (λ x y e. same_text x y (sym e)) (texts_of sorted) in
+    let rises : Rises (texts_of left) = rising_texts left
+    (rw kept
+    (IsStrictlySortedBy-dedup (on_texts (λ (t : Token). t.now)) (λ x y. texts_ties x.now y.now)
+    sorted c.sort_unstable.ensures.sorted)) in
+    let held : All (Contains (texts_of left)) ts =
+    rw is (All-weaker (Contains ts) _ (λ t h. keeps t (Contains-permutation ts _ t moved h)) ts
+    (All-contains_itself ts)) in
+    let only : All (Contains ts) (texts_of left) =
+    rw is (All-dedup bytes_eq (Contains ts) _
+    (All-permutation (Contains ts) ts _ moved (All-contains_itself ts))) in
+    IfOk-weaker c.join.result _ _
+    (λ s e. e ∙ ap (join_by (λ (t : Token). t.now) (0x20 ∷ [])) c.deref.ensures.value
+    ∙ join_texts left ∙ ap (join_with_byte 0x20) (set_is ts (texts_of left) rises held only))
+    c.join.ensures.ok

@@ -7,4 +7,8 @@ use Rattle.tk_scope.specs.Scope.{tokens_of}
 use Rattle.tk_scope.proofs.tokens.are_tokens_within.Goals as goal
 
 pub returns : goal.returns
-returns c = all_from_yields_List (λ t. list_any (bytes_eq t) (tokens_of c.args.other.now)) _ _ _ c.all.ensures.ran (YieldsList-from_str_split 0x20 c.args.text.now (lit< tt) c.split.ensures.text c.split.ensures.has_more c.split.ensures.pattern) (λ x b q k. search (rules, tests))
+returns c = all_from_yields_List (λ t. list_any (bytes_eq t) (tokens_of c.args.other.now)) _ _ _
+    c.all.ensures.ran
+    (YieldsList-from_str_split 0x20 c.args.text.now (lit< tt) c.split.ensures.text
+    c.split.ensures.has_more c.split.ensures.pattern) (λ x b q k.
+    search (rules, tests))

@@ -4,4 +4,6 @@ use Rattle.std.proofs.lemmas.Iterator.Splits.{YieldsList-from_str_split}
 use Rattle.tk_scope.proofs.tokens.token_count.Goals as goal
 
 pub returns : goal.returns
-returns c = count_from_yields_List _ _ c.count.ensures.ran (YieldsList-from_str_split 0x20 c.args.text.now (lit< tt) c.split.ensures.text c.split.ensures.has_more c.split.ensures.pattern)
+returns c = count_from_yields_List _ _ c.count.ensures.ran
+    (YieldsList-from_str_split 0x20 c.args.text.now (lit< tt) c.split.ensures.text
+    c.split.ensures.has_more c.split.ensures.pattern)

@@ -34,7 +34,8 @@ pub requests-preserved : goal.requests-preserved
 requests-preserved g c = record {
   within =
       let short = rw (c.rest_of.ensures) at c.decide-outcome.ensures.within in
-      rw (c.taken-at.ensures) (within_more c.args.input.now c.requests.at _ c.requests.invariant.within
+      rw (c.taken-at.ensures)
+      (within_more c.args.input.now c.requests.at _ c.requests.invariant.within
       short);
   fewer = search rules;
   deciding =

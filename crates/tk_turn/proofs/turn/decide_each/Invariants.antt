@@ -8,7 +8,8 @@ invariant-places g l = record {
   within : l.at ≤ length l.places;
   many : length l.links.items ≡ length l.fn.links.items;
   decided : (logged : List ℕ) × (l.records.items ≡ l.fn.records.items ++ logged)
-      × Turning g.S.Service.decides l.places l.fn.service l.fn.links.items l.at l.service l.links.items
+      × Turning g.S.Service.decides l.places l.fn.service l.fn.links.items l.at l.service
+      l.links.items
       logged;
 }
 

@@ -8,6 +8,8 @@ loop-entry-preserved c =
     let at = c.loop-entry.entry-index in
     let e = c.entry-item.result in
     record {
-      written = more_written es at e c.args.writer.now c.loop-entry.writer c.write_entry.new.writer c.loop-entry-test.true c.entry-item.is i.written c.in_ok-write_entry.ensures.written;
-      fits = more_fits es at e c.loop-entry-test.true c.entry-item.is i.fits c.write_entry.ensures.fits;
+      written = more_written es at e c.args.writer.now c.loop-entry.writer c.write_entry.new.writer
+          c.loop-entry-test.true c.entry-item.is i.written c.in_ok-write_entry.ensures.written;
+      fits = more_fits es at e c.loop-entry-test.true c.entry-item.is i.fits
+          c.write_entry.ensures.fits;
     }

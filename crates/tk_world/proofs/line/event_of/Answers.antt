@@ -12,31 +12,41 @@ use Rattle.tk_world.proofs.line.event_of.Goals as goal
 
 pub returns-in_default-region-clause-malformed : goal.returns-in_default-region-clause-malformed
 returns-in_default-region-clause-malformed c _ =
-    prune_bad_region c.args.fields.now (omega arith) (search (rules, tests)) (sym c.region-in-prune.ensures ∙ c.in_default-region.is)
+    prune_bad_region c.args.fields.now (omega arith) (search (rules, tests))
+    (sym c.region-in-prune.ensures ∙ c.in_default-region.is)
 
 pub returns-in-Some-moment-clause-found : goal.returns-in-Some-moment-clause-found
 returns-in-Some-moment-clause-found c =
-    prune_there c.args.fields.now _ _ (omega arith) (search (rules, tests)) (sym c.region-in-prune.ensures ∙ c.in-Some-region-2.is) (sym c.moment.ensures ∙ c.in-Some-moment.is)
+    prune_there c.args.fields.now _ _ (omega arith) (search (rules, tests))
+    (sym c.region-in-prune.ensures ∙ c.in-Some-region-2.is)
+    (sym c.moment.ensures ∙ c.in-Some-moment.is)
 
 pub returns-in-None-moment-clause-malformed : goal.returns-in-None-moment-clause-malformed
 returns-in-None-moment-clause-malformed c _ =
-    prune_bad_moment c.args.fields.now (omega arith) (search (rules, tests)) (sym c.moment.ensures ∙ c.in-None-moment.is)
+    prune_bad_moment c.args.fields.now (omega arith) (search (rules, tests))
+    (sym c.moment.ensures ∙ c.in-None-moment.is)
 
 pub returns-in-prune_some-clause-malformed : goal.returns-in-prune_some-clause-malformed
 returns-in-prune_some-clause-malformed c e =
-    subst IsNoEventForm (slice_texts c.args.fields.now (omega arith) (search (rules, tests))) (c.slice_event.ensures.malformed e)
+    subst IsNoEventForm (slice_texts c.args.fields.now (omega arith) (search (rules, tests)))
+    (c.slice_event.ensures.malformed e)
 
 pub returns-in_default-region-2-clause-malformed : goal.returns-in_default-region-2-clause-malformed
 returns-in_default-region-2-clause-malformed c _ =
-    pull_bad_region c.args.fields.now (omega arith) (search (rules, tests)) (sym c.region-in-pull.ensures ∙ c.in_default-region-2.is)
+    pull_bad_region c.args.fields.now (omega arith) (search (rules, tests))
+    (sym c.region-in-pull.ensures ∙ c.in_default-region-2.is)
 
-pub returns-in_err-vector-in-pull-clause-malformed : goal.returns-in_err-vector-in-pull-clause-malformed
+pub returns-in_err-vector-in-pull-clause-malformed
+    : goal.returns-in_err-vector-in-pull-clause-malformed
 returns-in_err-vector-in-pull-clause-malformed c e =
-    pull_bad_vector c.args.fields.now (omega arith) (search (rules, tests)) (subst IsNoVectorText c.as_bytes-in-pull.ensures.value (c.read_text.ensures.malformed (grind arith)))
+    pull_bad_vector c.args.fields.now (omega arith) (search (rules, tests))
+    (subst IsNoVectorText c.as_bytes-in-pull.ensures.value
+    (c.read_text.ensures.malformed (grind arith)))
 
 pub returns-in-Some-clause-found : goal.returns-in-Some-clause-found
 returns-in-Some-clause-found c =
-    open_there c.args.fields.now _ (omega arith) (search (rules, tests)) (sym c.region.ensures ∙ c.in-Some.is)
+    open_there c.args.fields.now _ (omega arith) (search (rules, tests))
+    (sym c.region.ensures ∙ c.in-Some.is)
 
 pub returns-in-None-clause-malformed : goal.returns-in-None-clause-malformed
 returns-in-None-clause-malformed c _ =
@@ -44,24 +54,36 @@ returns-in-None-clause-malformed c _ =
 
 pub returns-in-Some-region-clause-found : goal.returns-in-Some-region-clause-found
 returns-in-Some-region-clause-found c =
-    deliver_there c.args.fields.now _ _ (omega arith) (search (rules, tests)) (sym (ap decimal_in c.as_bytes.ensures.value) ∙ sym c.read_decimal.ensures.value ∙ c.in-Some-read_decimal.is) (sym c.region-in-deliver.ensures ∙ c.in-Some-region.is)
+    deliver_there c.args.fields.now _ _ (omega arith) (search (rules, tests))
+    (sym (ap decimal_in c.as_bytes.ensures.value) ∙ sym c.read_decimal.ensures.value
+    ∙ c.in-Some-read_decimal.is) (sym c.region-in-deliver.ensures ∙ c.in-Some-region.is)
 
 pub returns-in-None-region-clause-malformed : goal.returns-in-None-region-clause-malformed
 returns-in-None-region-clause-malformed c _ =
-    deliver_bad_region c.args.fields.now (omega arith) (search (rules, tests)) (sym c.region-in-deliver.ensures ∙ c.in-None-region.is)
+    deliver_bad_region c.args.fields.now (omega arith) (search (rules, tests))
+    (sym c.region-in-deliver.ensures ∙ c.in-None-region.is)
 
 pub returns-in_ok-vector-in-pull-clause-found : goal.returns-in_ok-vector-in-pull-clause-found
 returns-in_ok-vector-in-pull-clause-found c =
-    pull_there c.args.fields.now _ _ _ (omega arith) (search (rules, tests)) (sym c.region-in-pull.ensures ∙ c.in-Some-region-3.is) (search rules) (search rules)
+    pull_there c.args.fields.now _ _ _ (omega arith) (search (rules, tests))
+    (sym c.region-in-pull.ensures ∙ c.in-Some-region-3.is) (search rules) (search rules)
 
 pub returns-in-len3-up-clause-malformed : goal.returns-in-len3-up-clause-malformed
 returns-in-len3-up-clause-malformed c e =
-    let other : IsOther c.args.fields.now = record { long = grind arith; deliver = λ n e. grind (arith, common_steps); pull = λ n e. grind (arith, common_steps); prune = λ n e. grind (arith, common_steps); slice = λ n e. grind (arith, common_steps) } in
+    let other : IsOther c.args.fields.now = record {
+      long = grind arith;
+      deliver = λ n e. grind (arith, common_steps);
+      pull = λ n e. grind (arith, common_steps);
+      prune = λ n e. grind (arith, common_steps);
+      slice = λ n e. grind (arith, common_steps);
+    } in
     request_bad c.args.fields.now other (c.request_event.ensures.malformed e)
 
 pub returns-in-len3-up-clause-found : goal.returns-in-len3-up-clause-found
 returns-in-len3-up-clause-found c =
-    subst (λ l. IfOk c.request_event.result (IsEventForm l)) (with_rest c.args.fields.now (grind arith)) c.request_event.ensures.found
+    subst (λ l. IfOk c.request_event.result (IsEventForm l))
+    (with_rest c.args.fields.now (grind arith)) c.request_event.ensures.found
 
 pub returns-in_default-clause-malformed : goal.returns-in_default-clause-malformed
-returns-in_default-clause-malformed c _ = no_form c.args.fields.now (grind arith) (λ long is. search (rules, tests))
+returns-in_default-clause-malformed c _ =
+    no_form c.args.fields.now (grind arith) (λ long is. search (rules, tests))

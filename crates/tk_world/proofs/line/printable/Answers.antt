@@ -8,5 +8,6 @@ use Rattle.tk_world.proofs.line.printable.Goals as goal
 pub returns-clause-printable : goal.returns-clause-printable
 returns-clause-printable c =
     let plain : IsPrintable c.args.line.now = search rules in
-    let utf8 : IsUtf8 c.args.line.now = IsUtf8-from_ascii _ (IsAscii-from_all _ (λ k d lt. let p = plain k d lt in omega arith)) in
+    let utf8 : IsUtf8 c.args.line.now =
+    IsUtf8-from_ascii _ (IsAscii-from_all _ (λ k d lt. let p = plain k d lt in omega arith)) in
     (λ _. plain, λ _. search rules)

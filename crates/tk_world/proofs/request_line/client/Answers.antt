@@ -8,5 +8,8 @@ pub returns-in_ok-body-in-len4 : goal.returns-in_ok-body-in-len4
 returns-in_ok-body-in-len4 c =
     let long : length c.args.form.now ≡ 4 = omega arith in
     rw (four c.args.form.now long)
-    (subst (λ (b : List ℕ). IfOk c.request_of.result (λ request. bytes_in request ≡ request_of (codes "POST") (codes "/admin/client") none_text none_text b))
+    (subst (λ (b : List ℕ).
+    IfOk c.request_of.result
+    (λ request. bytes_in request
+    ≡ request_of (codes "POST") (codes "/admin/client") none_text none_text b))
     (c.as_str.ensures.value ∙ c.in_ok-body-in-len4.ensures) c.request_of.ensures)

@@ -12,16 +12,22 @@ either (Err e) p q = inr q
 
 pub invariant_of-self : goal.invariant_of-self
 invariant_of-self c = elim (either c.put_run.result c.put_run.ensures.ok c.put_run.ensures.err) [
-  | inl joined ↦ added_runs c.self.inside.runs c.put_run.new.runs c.self.invariant c.args.dot c.in-Some.first.serial c.end_above-end.result
-      c.in-Some.ensures.0 c.in-Some.ensures.2 c.end_above-end.ensures.end joined c.put_run.ensures.ordered c.in-Some.ensures.3 c.end_above-end.ensures.high
+  | inl joined ↦ added_runs c.self.inside.runs c.put_run.new.runs c.self.invariant c.args.dot
+      c.in-Some.first.serial c.end_above-end.result
+      c.in-Some.ensures.0 c.in-Some.ensures.2 c.end_above-end.ensures.end joined
+      c.put_run.ensures.ordered c.in-Some.ensures.3 c.end_above-end.ensures.high
   | inr same ↦ same_runs c.self.inside.runs c.put_run.new.runs c.self.invariant same
 ]
 
 pub returns-in-Some-clause-ok : goal.returns-in-Some-clause-ok
 returns-in-Some-clause-ok c = on_ok c.put_run.result c.put_run.ensures.ok (λ joined.
-    added c.self.inside.runs c.put_run.new.runs c.self.invariant c.args.dot c.in-Some.first.serial c.end_above-end.result
-    c.in-Some.ensures.0 c.in-Some.ensures.2 c.end_above-end.ensures.end joined c.put_run.ensures.ordered
+    added c.self.inside.runs c.put_run.new.runs c.self.invariant c.args.dot c.in-Some.first.serial
+    c.end_above-end.result
+    c.in-Some.ensures.0 c.in-Some.ensures.2 c.end_above-end.ensures.end joined
+    c.put_run.ensures.ordered
     ∙ ap (λ (s : DotSet). set.insert s c.args.dot) c.self.view_is)
 
 pub returns-in-None-clause-ok : goal.returns-in-None-clause-ok
-returns-in-None-clause-ok c = insert_held c.args.self.now c.args.dot (ap (λ (s : DotSet). set.contains s c.args.dot) (sym c.self.view_is) ∙ has_dot c.self.inside.runs c.args.dot c.in-None.ensures)
+returns-in-None-clause-ok c = insert_held c.args.self.now c.args.dot
+    (ap (λ (s : DotSet). set.contains s c.args.dot) (sym c.self.view_is)
+    ∙ has_dot c.self.inside.runs c.args.dot c.in-None.ensures)

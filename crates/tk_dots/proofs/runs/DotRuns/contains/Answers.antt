@@ -6,7 +6,8 @@ use Rattle.tk_dots.proofs.runs.DotRuns.contains.Goals as goal
 
 pub returns-in-Some : goal.returns-in-Some
 returns-in-Some c =
-    below_test c.self.inside.runs c.self.invariant c.args.dot (c.in-Some.field-0-0, c.in-Some.last) c.in-Some.ensures c.serial.result c.serial.ensures.value
+    below_test c.self.inside.runs c.self.invariant c.args.dot (c.in-Some.field-0-0, c.in-Some.last)
+    c.in-Some.ensures c.serial.result c.serial.ensures.value
     ∙ ap (λ (s : DotSet). set.contains s c.args.dot) c.self.view_is
 
 pub returns-in-None : goal.returns-in-None

@@ -5,4 +5,5 @@ use Rattle.tk_dots.proofs.RunLaws.{dots_high}
 use Rattle.tk_dots.proofs.runs.DotRuns.known.Goals as goal
 
 pub returns : goal.returns
-returns c = λ d h. dots_high c.self.inside.runs c.self.invariant d (ap (λ (s : DotSet). set.contains s d) c.self.view_is ∙ h)
+returns c = λ d h. dots_high c.self.inside.runs c.self.invariant d
+    (ap (λ (s : DotSet). set.contains s d) c.self.view_is ∙ h)

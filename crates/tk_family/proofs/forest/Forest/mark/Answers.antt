@@ -13,7 +13,9 @@ pub returns-clause-links : goal.returns-clause-links
 returns-clause-links c =
     let m = c.self.inside.rows in
     let n = c.mark_within.new.rows in
-    unit_both c.mark_within.result (MarksOne (table m) (table n) c.args.token) (NothingSeen (table m) (table n)) (seen_links (map.entries n) ≡ c.args.self.now.links) c.mark_within.ensures.ok c.mark_within.ensures.err
+    unit_both c.mark_within.result (MarksOne (table m) (table n) c.args.token)
+    (NothingSeen (table m) (table n)) (seen_links (map.entries n) ≡ c.args.self.now.links)
+    c.mark_within.ensures.ok c.mark_within.ensures.err
     (λ p. links_kept m n p.links ∙ ap (λ (f : ForestFacts). f.links) c.self.view_is)
     (λ s. links_kept m n s.links ∙ ap (λ (f : ForestFacts). f.links) c.self.view_is)
 
@@ -21,14 +23,21 @@ pub returns-clause-marks : goal.returns-clause-marks
 returns-clause-marks c =
     let m = c.self.inside.rows in
     let n = c.mark_within.new.rows in
-    unit_ok c.mark_within.result (MarksOne (table m) (table n) c.args.token) (seen_marks (map.entries n) ≡ set.insert c.args.self.now.marks c.args.token) c.mark_within.ensures.ok
-    (λ p. marks_one m n c.args.token p ∙ ap (λ (f : ForestFacts). set.insert f.marks c.args.token) c.self.view_is)
+    unit_ok c.mark_within.result (MarksOne (table m) (table n) c.args.token)
+    (seen_marks (map.entries n) ≡ set.insert c.args.self.now.marks c.args.token)
+    c.mark_within.ensures.ok
+    (λ p. marks_one m n c.args.token p
+    ∙ ap (λ (f : ForestFacts). set.insert f.marks c.args.token) c.self.view_is)
 
 pub returns-clause-present : goal.returns-clause-present
-returns-clause-present c = λ some. c.mark_within.ensures.present (subst IsSome (sym (ap (λ (f : ForestFacts). map.get f.links c.args.token.dot) c.self.view_is) ∙ get-links c.self.inside.rows c.args.token.dot) some)
+returns-clause-present c = λ some. c.mark_within.ensures.present
+    (subst IsSome
+    (sym (ap (λ (f : ForestFacts). map.get f.links c.args.token.dot) c.self.view_is)
+    ∙ get-links c.self.inside.rows c.args.token.dot) some)
 
 pub returns-clause-err : goal.returns-clause-err
 returns-clause-err c =
     let m = c.self.inside.rows in
     let n = c.mark_within.new.rows in
-    unit_err c.mark_within.result (NothingSeen (table m) (table n)) (seen n ≡ c.args.self.now) c.mark_within.ensures.err (λ s. seen_same m n s.links s.marks ∙ c.self.view_is)
+    unit_err c.mark_within.result (NothingSeen (table m) (table n)) (seen n ≡ c.args.self.now)
+    c.mark_within.ensures.err (λ s. seen_same m n s.links s.marks ∙ c.self.view_is)

@@ -10,8 +10,12 @@ use Rattle.tk_family.proofs.forest.Forest.new.Goals as goal
 
 pub invariant_of-result : goal.invariant_of-result
 invariant_of-result c =
-    let none = λ (q : Dot). ap (λ (m : RowMap). map.get m q) c.new.ensures ∙ map.get-empty dot_cmp q in
-    (IsForest-empty (table c.new.result) none, Hangs-empty (table c.new.result) c.new-2.result none c.new-2.ensures.empty, omega (arith, ap map.len c.new.ensures ∙ map.len-empty dot_cmp Row))
+    let none =
+    λ (q : Dot). ap (λ (m : RowMap). map.get m q) c.new.ensures ∙ map.get-empty dot_cmp q in (
+      IsForest-empty (table c.new.result) none,
+      Hangs-empty (table c.new.result) c.new-2.result none c.new-2.ensures.empty,
+      omega (arith, ap map.len c.new.ensures ∙ map.len-empty dot_cmp Row),
+    )
 
 pub returns-clause-links : goal.returns-clause-links
 returns-clause-links c = links_none c.new.result c.new.ensures

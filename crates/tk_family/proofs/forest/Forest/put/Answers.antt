@@ -14,35 +14,45 @@ use Rattle.tk_family.proofs.Modelling.{raised_seen, raised_back, raised_all, if_
 use Rattle.tk_family.proofs.forest.Forest.put.Goals as goal
 
 pub put_within-requires-clause-free : goal.put_within-requires-clause-free
-put_within-requires-clause-free c = sym (get-links c.self.inside.rows c.args.dot) ∙ (ap (λ (v : ForestFacts). map.get v.links c.args.dot) c.self.view_is ∙ c.requires)
+put_within-requires-clause-free c = sym (get-links c.self.inside.rows c.args.dot)
+    ∙ (ap (λ (v : ForestFacts). map.get v.links c.args.dot) c.self.view_is ∙ c.requires)
 
 pub returns-clause-links : goal.returns-clause-links
 returns-clause-links c =
     let m = c.self.inside.rows in
     let n = c.put_within.new.rows in
-    if_ok c.put_within.result (λ v. Puts (table m) (table n) c.args.dot c.args.link v.items) (λ v. seen_links (map.entries n) ≡ map.insert c.args.self.now.links c.args.dot c.args.link) c.put_within.ensures.ok
-    (λ v p. links_put m n c.args.dot c.args.link p.links ∙ ap (λ (f : ForestFacts). map.insert f.links c.args.dot c.args.link) c.self.view_is)
+    if_ok c.put_within.result (λ v. Puts (table m) (table n) c.args.dot c.args.link v.items)
+    (λ v. seen_links (map.entries n) ≡ map.insert c.args.self.now.links c.args.dot c.args.link)
+    c.put_within.ensures.ok
+    (λ v p. links_put m n c.args.dot c.args.link p.links
+    ∙ ap (λ (f : ForestFacts). map.insert f.links c.args.dot c.args.link) c.self.view_is)
 
 pub returns-clause-marks : goal.returns-clause-marks
 returns-clause-marks c =
     let m = c.self.inside.rows in
     let n = c.put_within.new.rows in
-    if_ok c.put_within.result (λ v. Puts (table m) (table n) c.args.dot c.args.link v.items) (λ v. seen_marks (map.entries n) ≡ c.args.self.now.marks) c.put_within.ensures.ok
+    if_ok c.put_within.result (λ v. Puts (table m) (table n) c.args.dot c.args.link v.items)
+    (λ v. seen_marks (map.entries n) ≡ c.args.self.now.marks) c.put_within.ensures.ok
     (λ v p. marks_same m n p.marks ∙ ap (λ (f : ForestFacts). f.marks) c.self.view_is)
 
 pub returns-clause-raised : goal.returns-clause-raised
 returns-clause-raised c =
     let m = c.self.inside.rows in
     let n = c.put_within.new.rows in
-    if_ok c.put_within.result (λ v. Puts (table m) (table n) c.args.dot c.args.link v.items) (λ v. (q : Dot) → has v.items q ≡ true → IsRaised (links_at c.args.self.now) (links_at (seen n)) q) c.put_within.ensures.ok
+    if_ok c.put_within.result (λ v. Puts (table m) (table n) c.args.dot c.args.link v.items)
+    (λ v. (q : Dot) → has v.items q ≡ true
+    → IsRaised (links_at c.args.self.now) (links_at (seen n)) q) c.put_within.ensures.ok
     (λ v p q h. raised_seen m n c.args.self.now c.self.view_is q (p.raised_now q h))
 
 pub returns-clause-all_raised : goal.returns-clause-all_raised
 returns-clause-all_raised c =
     let m = c.self.inside.rows in
     let n = c.put_within.new.rows in
-    if_ok c.put_within.result (λ v. Puts (table m) (table n) c.args.dot c.args.link v.items) (λ v. (q : Dot) → IsRaised (links_at c.args.self.now) (links_at (seen n)) q → has v.items q ≡ true) c.put_within.ensures.ok
-    (λ v p q r. raised_all (table m) (table n) c.args.dot c.args.link v.items p q (raised_back m n c.args.self.now c.self.view_is q r))
+    if_ok c.put_within.result (λ v. Puts (table m) (table n) c.args.dot c.args.link v.items)
+    (λ v. (q : Dot) → IsRaised (links_at c.args.self.now) (links_at (seen n)) q
+    → has v.items q ≡ true) c.put_within.ensures.ok
+    (λ v p q r. raised_all (table m) (table n) c.args.dot c.args.link v.items p q
+    (raised_back m n c.args.self.now c.self.view_is q r))
 
 on_err : (r : Result (Vec Dot Global) AllocError) (P Q : Type 0) → OnErr r P → (P → Q) → OnErr r Q
 on_err (Ok v) P Q h f = tt
@@ -52,7 +62,10 @@ pub returns-clause-err : goal.returns-clause-err
 returns-clause-err c =
     let m = c.self.inside.rows in
     let n = c.put_within.new.rows in
-    on_err c.put_within.result (NothingSeen (table m) (table n)) (seen n ≡ c.args.self.now) c.put_within.ensures.err (λ s. seen_same m n s.links s.marks ∙ c.self.view_is)
+    on_err c.put_within.result (NothingSeen (table m) (table n)) (seen n ≡ c.args.self.now)
+    c.put_within.ensures.err (λ s. seen_same m n s.links s.marks ∙ c.self.view_is)
 
 pub returns-clause-distinct : goal.returns-clause-distinct
-returns-clause-distinct c = if_ok c.put_within.result (λ v. Puts (table c.self.inside.rows) (table c.put_within.new.rows) c.args.dot c.args.link v.items) (λ v. IsDistinct dot_eq v.items) c.put_within.ensures.ok (λ v p. p.distinct)
+returns-clause-distinct c = if_ok c.put_within.result
+    (λ v. Puts (table c.self.inside.rows) (table c.put_within.new.rows) c.args.dot c.args.link
+    v.items) (λ v. IsDistinct dot_eq v.items) c.put_within.ensures.ok (λ v p. p.distinct)

@@ -15,10 +15,12 @@ returns-then-not-is_verifier-clause-method c = grind (arith, common_steps)
 pub returns-then-not-is_verifier-clause-grammar : goal.returns-then-not-is_verifier-clause-grammar
 returns-then-not-is_verifier-clause-grammar c = grind (arith, common_steps)
 
-pub returns-then-not-is_verifier-clause-method_none : goal.returns-then-not-is_verifier-clause-method_none
+pub returns-then-not-is_verifier-clause-method_none
+    : goal.returns-then-not-is_verifier-clause-method_none
 returns-then-not-is_verifier-clause-method_none c = grind (arith, common_steps)
 
-pub returns-then-not-is_verifier-clause-grammar_none : goal.returns-then-not-is_verifier-clause-grammar_none
+pub returns-then-not-is_verifier-clause-grammar_none
+    : goal.returns-then-not-is_verifier-clause-grammar_none
 returns-then-not-is_verifier-clause-grammar_none c = grind (arith, common_steps)
 
 pub returns-in_err-text-clause-ok : goal.returns-in_err-text-clause-ok

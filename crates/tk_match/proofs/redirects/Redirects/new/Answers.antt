@@ -11,16 +11,19 @@ returns-clause-registered c = search rules
 pub returns-in_err-check_absolute-clause-ok : goal.returns-in_err-check_absolute-clause-ok
 returns-in_err-check_absolute-clause-ok c = search rules
 
-pub returns-in_err-check_absolute-clause-absolute : goal.returns-in_err-check_absolute-clause-absolute
+pub returns-in_err-check_absolute-clause-absolute
+    : goal.returns-in_err-check_absolute-clause-absolute
 returns-in_err-check_absolute-clause-absolute c = search rules
 
-pub returns-in_err-check_absolute-clause-registered : goal.returns-in_err-check_absolute-clause-registered
+pub returns-in_err-check_absolute-clause-registered
+    : goal.returns-in_err-check_absolute-clause-registered
 returns-in_err-check_absolute-clause-registered c = search rules
 
 pub returns-in_err-check_absolute-clause-empty : goal.returns-in_err-check_absolute-clause-empty
 returns-in_err-check_absolute-clause-empty c = search rules
 
-pub returns-in_err-check_absolute-clause-too_many : goal.returns-in_err-check_absolute-clause-too_many
+pub returns-in_err-check_absolute-clause-too_many
+    : goal.returns-in_err-check_absolute-clause-too_many
 returns-in_err-check_absolute-clause-too_many c = search rules
 
 pub returns-in_err-check_absolute-clause-bad : goal.returns-in_err-check_absolute-clause-bad

@@ -6,5 +6,7 @@ use Rattle.tk_region.proofs.region.Region.page.Goals as goal
 
 pub returns-clause-page : goal.returns-clause-page
 returns-clause-page c =
-    subst (λ (P : StoreFields). IfOk c.make.result (λ page. pages.IsPageOf page (pages.page_of P c.args.vector.now c.args.after)))
+    subst (λ (P : StoreFields).
+    IfOk c.make.result
+    (λ page. pages.IsPageOf page (pages.page_of P c.args.vector.now c.args.after)))
     (c.store.ensures ∙ ap (λ (r : RegionFields). r.facts) c.self.view_is) c.make.ensures.page

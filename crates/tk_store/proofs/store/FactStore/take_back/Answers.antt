@@ -21,19 +21,32 @@ none_of (Some b) h = absurd (true≢false h)
 
 pub invariant_of-self : goal.invariant_of-self
 invariant_of-self c =
-    let some : IsSome (held_slot (sets.get c.self.inside.facts c.args.dot)) = sym (some_of _ c.args.dot) ∙ sym (ap is_some c.take-taken.ensures.fact) ∙ sym c.is_some.ensures ∙ c.if-is_some.true in
+    let some : IsSome (held_slot (sets.get c.self.inside.facts c.args.dot)) =
+    sym (some_of _ c.args.dot) ∙ sym (ap is_some c.take-taken.ensures.fact) ∙ sym c.is_some.ensures
+    ∙ c.if-is_some.true in
     rw (c.take-taken.ensures.rest, c.lower.ensures, c.region.ensures.value, c.serial.ensures.value)
-    (kept_without c.self.inside.facts c.self.inside.front c.args.dot (sets.get c.self.inside.facts c.args.dot) refl some c.self.invariant c.serial.ensures.range.0)
+    (kept_without c.self.inside.facts c.self.inside.front c.args.dot
+    (sets.get c.self.inside.facts c.args.dot) refl some c.self.invariant c.serial.ensures.range.0)
 
 pub invariant_of-self-else-is_some : goal.invariant_of-self-else-is_some
 invariant_of-self-else-is_some c =
-    let none : held_slot (sets.get c.self.inside.facts c.args.dot) ≡ None = none_of _ (sym (some_of _ c.args.dot) ∙ sym (ap is_some c.take-taken.ensures.fact) ∙ sym c.is_some.ensures ∙ c.if-is_some.false) in
-    subst (λ (S : Slots). IsKept S c.self.inside.front) (sym (c.take-taken.ensures.rest ∙ without_none c.self.inside.facts c.args.dot (sets.get c.self.inside.facts c.args.dot) refl none)) c.self.invariant
+    let none : held_slot (sets.get c.self.inside.facts c.args.dot) ≡ None =
+    none_of _
+    (sym (some_of _ c.args.dot) ∙ sym (ap is_some c.take-taken.ensures.fact) ∙ sym c.is_some.ensures
+    ∙ c.if-is_some.false) in
+    subst (λ (S : Slots). IsKept S c.self.inside.front)
+    (sym (c.take-taken.ensures.rest
+    ∙ without_none c.self.inside.facts c.args.dot (sets.get c.self.inside.facts c.args.dot) refl
+    none)) c.self.invariant
 
 pub returns-then-is_some-clause-fact : goal.returns-then-is_some-clause-fact
-returns-then-is_some-clause-fact c = c.take-taken.ensures.fact ∙ ap (option_map (λ (b : Body). (c.args.dot, b)))
-    (sym (get_held c.self.inside.facts c.args.dot) ∙ ap (λ (P : StoreFields). sets.get (held_facts P) c.args.dot) c.self.view_is)
+returns-then-is_some-clause-fact c =
+    c.take-taken.ensures.fact ∙ ap (option_map (λ (b : Body). (c.args.dot, b)))
+    (sym (get_held c.self.inside.facts c.args.dot)
+    ∙ ap (λ (P : StoreFields). sets.get (held_facts P) c.args.dot) c.self.view_is)
 
 pub returns-else-is_some-clause-fact : goal.returns-else-is_some-clause-fact
-returns-else-is_some-clause-fact c = c.take-taken.ensures.fact ∙ ap (option_map (λ (b : Body). (c.args.dot, b)))
-    (sym (get_held c.self.inside.facts c.args.dot) ∙ ap (λ (P : StoreFields). sets.get (held_facts P) c.args.dot) c.self.view_is)
+returns-else-is_some-clause-fact c =
+    c.take-taken.ensures.fact ∙ ap (option_map (λ (b : Body). (c.args.dot, b)))
+    (sym (get_held c.self.inside.facts c.args.dot)
+    ∙ ap (λ (P : StoreFields). sets.get (held_facts P) c.args.dot) c.self.view_is)

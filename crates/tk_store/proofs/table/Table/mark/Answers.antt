@@ -8,10 +8,13 @@ pub mark-requires : goal.mark-requires
 mark-requires c = free_there c.self.inside.kept c.args.self.now c.self.view_is c.args.dot c.requires
 
 pub invariant_of-self : goal.invariant_of-self
-invariant_of-self c = either_way {R = IsTable c.mark.new.self c.self.inside.held} c.mark.result c.mark.ensures.ok c.mark.ensures.err
-    (λ is. table_marked c.self.inside.kept c.self.inside.held c.self.invariant c.args.self.now c.self.view_is c.mark.new.self c.args.dot c.requires is)
+invariant_of-self c = either_way {R = IsTable c.mark.new.self c.self.inside.held} c.mark.result
+    c.mark.ensures.ok c.mark.ensures.err
+    (λ is. table_marked c.self.inside.kept c.self.inside.held c.self.invariant c.args.self.now
+    c.self.view_is c.mark.new.self c.args.dot c.requires is)
     (λ same. subst (λ (m : KeptMap). IsTable m c.self.inside.held) (sym same) c.self.invariant)
 
 pub returns-clause-ok : goal.returns-clause-ok
 returns-clause-ok c = on_ok c.mark.result c.mark.ensures.ok (λ is.
-    put_slots c.self.inside.kept c.args.self.now c.self.view_is c.mark.new.self c.args.dot None (inserted c.self.inside.kept c.mark.new.self c.args.dot None is))
+    put_slots c.self.inside.kept c.args.self.now c.self.view_is c.mark.new.self c.args.dot None
+    (inserted c.self.inside.kept c.mark.new.self c.args.dot None is))

@@ -11,7 +11,8 @@ returns-then-self-len c =
     let cut : c.truncate.new.self.items ≡ take s.ready xs = c.truncate.ensures.items in
     let held : drop s.ready c.truncate.new.self.items ≡ [] =
     ap (drop s.ready) cut ∙ none_left xs s.ready (search rules) in
-    let ready : drop s.sent (take s.ready c.truncate.new.self.items) ≡ drop s.sent (take s.ready xs) =
+    let ready : drop s.sent (take s.ready c.truncate.new.self.items)
+    ≡ drop s.sent (take s.ready xs) =
     ap (λ ys. drop s.sent (take s.ready ys)) cut
     ∙ ap (drop s.sent) (take-take s.ready s.ready xs (search rules)) in
     let last : true ≡ ends_without (drop s.ready xs) s.is_last =

@@ -16,8 +16,12 @@ invariant_of-result c = (
   subst (HaveSettings c.args.settings) (sym c.new.ensures.items) tt,
   subst (λ rs. IsStanding (world c.args.settings rs c.new-2.result.items)) (sym c.new.ensures.items)
       (subst (λ bs. IsStanding (fields_of c.args.settings [] bs)) (sym c.new-2.ensures.items)
-      (subst (λ m. IsStanding (record { settings = c.args.settings; regions = m; bundles = [] })) (sym (from_sorted_nil nat_cmp))
-      (map.empty, new_state c.args.settings, new_stands c.args.settings c.cap-cap.ensures.range.1))),
+      (subst (λ m. IsStanding (record { settings = c.args.settings; regions = m; bundles = [] }))
+      (sym (from_sorted_nil nat_cmp)) (
+        map.empty,
+        new_state c.args.settings,
+        new_stands c.args.settings c.cap-cap.ensures.range.1,
+      ))),
 )
 
 is_new : (settings : _) (rs : _) (bs : _) → rs ≡ [] → bs ≡ []
@@ -27,9 +31,12 @@ is_new settings rs bs none nothing =
     ∙ ap (λ m. record { settings = settings; regions = m; bundles = [] }) (from_sorted_nil nat_cmp)
 
 pub returns-clause-empty : goal.returns-clause-empty
-returns-clause-empty c = is_new c.args.settings c.new.result.items c.new-2.result.items c.new.ensures.items c.new-2.ensures.items
+returns-clause-empty c = is_new c.args.settings c.new.result.items c.new-2.result.items
+    c.new.ensures.items c.new-2.ensures.items
 
 pub returns-clause-stands : goal.returns-clause-stands
 returns-clause-stands c =
-    subst (λ w. WorldStands w map.empty (new_state c.args.settings)) (sym (is_new c.args.settings c.new.result.items c.new-2.result.items c.new.ensures.items c.new-2.ensures.items))
+    subst (λ w. WorldStands w map.empty (new_state c.args.settings))
+    (sym (is_new c.args.settings c.new.result.items c.new-2.result.items c.new.ensures.items
+    c.new-2.ensures.items))
     (new_stands c.args.settings c.cap-cap.ensures.range.1)

@@ -13,14 +13,22 @@ returns-in-Ok c =
     let p = c.index.result.now in
     let is = c.index.ensures in
     let s = world w.settings w.regions.items w.bundles.items in
-    let held = held_at w.settings w.regions.items w.bundles.items c.self.invariant.0 c.args.number c.in-Ok.at at c.self.invariant.1 p is in
-    let same = region_is w.settings w.regions.items w.bundles.items c.self.invariant.0 c.args.number c.in-Ok.at at c.self.invariant.1 p is in
-    subst (λ (x : WorldFields). Some c.region.result.now ≡ option_map (region_at x c.args.number) (map.get x.regions c.args.number)) c.self.view_is
-    (ap (λ (r : RegionFields). Some r) (c.region.ensures ∙ same) ∙ sym (ap (option_map (region_at s c.args.number)) held))
+    let held = held_at w.settings w.regions.items w.bundles.items c.self.invariant.0 c.args.number
+    c.in-Ok.at at c.self.invariant.1 p is in
+    let same = region_is w.settings w.regions.items w.bundles.items c.self.invariant.0 c.args.number
+    c.in-Ok.at at c.self.invariant.1 p is in
+    subst (λ (x : WorldFields).
+    Some c.region.result.now
+    ≡ option_map (region_at x c.args.number) (map.get x.regions c.args.number)) c.self.view_is
+    (ap (λ (r : RegionFields). Some r) (c.region.ensures ∙ same)
+    ∙ sym (ap (option_map (region_at s c.args.number)) held))
 
 pub returns-in-Err : goal.returns-in-Err
 returns-in-Err c =
     let w = c.self.inside in
-    let none = absent_at w.settings w.regions.items w.bundles.items c.self.invariant.0 c.args.number c.in-Err.field-0 (rw c.deref.ensures.value at c.in-Err.ensures) in
-    subst (λ (x : WorldFields). None ≡ option_map (region_at x c.args.number) (map.get x.regions c.args.number)) c.self.view_is
-    (sym (ap (option_map (region_at (world w.settings w.regions.items w.bundles.items) c.args.number)) none))
+    let none = absent_at w.settings w.regions.items w.bundles.items c.self.invariant.0 c.args.number
+    c.in-Err.field-0 (rw c.deref.ensures.value at c.in-Err.ensures) in
+    subst (λ (x : WorldFields).
+    None ≡ option_map (region_at x c.args.number) (map.get x.regions c.args.number)) c.self.view_is
+    (sym (ap (option_map
+    (region_at (world w.settings w.regions.items w.bundles.items) c.args.number)) none))

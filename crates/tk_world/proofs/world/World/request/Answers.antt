@@ -11,8 +11,12 @@ use Rattle.tk_world.proofs.world.World.request.Goals as goal
 
 pub returns-in-Err : goal.returns-in-Err
 returns-in-Err g c =
-    let w = c.self.inside in
-    (ap (λ s. map.get s.regions c.args.region) (sym c.self.view_is) ∙ absent_at w.settings w.regions.items w.bundles.items c.self.invariant.0 c.args.region c.in-Err.field-0 (rw c.deref.ensures.value at c.in-Err.ensures), refl)
+    let w = c.self.inside in (
+      ap (λ s. map.get s.regions c.args.region) (sym c.self.view_is)
+          ∙ absent_at w.settings w.regions.items w.bundles.items c.self.invariant.0 c.args.region
+          c.in-Err.field-0 (rw c.deref.ensures.value at c.in-Err.ensures),
+      refl,
+    )
 
 pub invariant_of-self : goal.invariant_of-self
 invariant_of-self g c =
@@ -21,16 +25,27 @@ invariant_of-self g c =
     let p = c.index_mut.result.now in
     let is = c.index_mut.ensures.value in
     let s = world w.settings w.regions.items w.bundles.items in
-    let held = held_at w.settings w.regions.items w.bundles.items c.self.invariant.0 c.args.region c.in-Ok.at at c.self.invariant.1 p is in
-    let same = region_is w.settings w.regions.items w.bundles.items c.self.invariant.0 c.args.region c.in-Ok.at at c.self.invariant.1 p is in
-    let plain = terms_at w.settings w.regions.items w.bundles.items c.self.invariant.0 c.args.region c.in-Ok.at at c.self.invariant.1 p is in
+    let held = held_at w.settings w.regions.items w.bundles.items c.self.invariant.0 c.args.region
+    c.in-Ok.at at c.self.invariant.1 p is in
+    let same = region_is w.settings w.regions.items w.bundles.items c.self.invariant.0 c.args.region
+    c.in-Ok.at at c.self.invariant.1 p is in
+    let plain = terms_at w.settings w.regions.items w.bundles.items c.self.invariant.0 c.args.region
+    c.in-Ok.at at c.self.invariant.1 p is in
     let q = c.carry.new.edge in
-    let asked : AskedFields = record { now = c.args.now; words = c.args.words.now; bytes = c.args.bytes.now } in
+    let asked : AskedFields =
+    record { now = c.args.now; words = c.args.words.now; bytes = c.args.bytes.now } in
     let kept = carried_number g.C.Carrier.way p q asked c.carry.result c.carry.ensures in (
-      sorted_after w.settings w.regions.items w.bundles.items c.self.invariant.0 c.args.region c.in-Ok.at at c.self.invariant.1 p is q kept.0 kept.1,
-      settings_after w.settings w.regions.items w.bundles.items c.self.invariant.0 c.args.region c.in-Ok.at at c.self.invariant.1 p is q kept.0 kept.1,
-      subst IsStanding (sym (world_after w.settings w.regions.items w.bundles.items c.self.invariant.0 c.args.region c.in-Ok.at at c.self.invariant.1 p is q kept.0 kept.1))
-          (request_standing g.C.Carrier.way s c.args.region asked c.carry.result _ (request_act g.C.Carrier.way s c.args.region p q asked same plain held c.carry.result c.carry.ensures) c.self.invariant.2),
+      sorted_after w.settings w.regions.items w.bundles.items c.self.invariant.0 c.args.region
+          c.in-Ok.at at c.self.invariant.1 p is q kept.0 kept.1,
+      settings_after w.settings w.regions.items w.bundles.items c.self.invariant.0 c.args.region
+          c.in-Ok.at at c.self.invariant.1 p is q kept.0 kept.1,
+      subst IsStanding
+          (sym (world_after w.settings w.regions.items w.bundles.items c.self.invariant.0
+          c.args.region
+          c.in-Ok.at at c.self.invariant.1 p is q kept.0 kept.1))
+          (request_standing g.C.Carrier.way s c.args.region asked c.carry.result _
+          (request_act g.C.Carrier.way s c.args.region p q asked same plain held c.carry.result
+          c.carry.ensures) c.self.invariant.2),
     )
 
 pub returns-in-Ok : goal.returns-in-Ok
@@ -40,12 +55,18 @@ returns-in-Ok g c =
     let p = c.index_mut.result.now in
     let is = c.index_mut.ensures.value in
     let s = world w.settings w.regions.items w.bundles.items in
-    let held = held_at w.settings w.regions.items w.bundles.items c.self.invariant.0 c.args.region c.in-Ok.at at c.self.invariant.1 p is in
-    let same = region_is w.settings w.regions.items w.bundles.items c.self.invariant.0 c.args.region c.in-Ok.at at c.self.invariant.1 p is in
-    let plain = terms_at w.settings w.regions.items w.bundles.items c.self.invariant.0 c.args.region c.in-Ok.at at c.self.invariant.1 p is in
+    let held = held_at w.settings w.regions.items w.bundles.items c.self.invariant.0 c.args.region
+    c.in-Ok.at at c.self.invariant.1 p is in
+    let same = region_is w.settings w.regions.items w.bundles.items c.self.invariant.0 c.args.region
+    c.in-Ok.at at c.self.invariant.1 p is in
+    let plain = terms_at w.settings w.regions.items w.bundles.items c.self.invariant.0 c.args.region
+    c.in-Ok.at at c.self.invariant.1 p is in
     let q = c.carry.new.edge in
-    let asked : AskedFields = record { now = c.args.now; words = c.args.words.now; bytes = c.args.bytes.now } in
+    let asked : AskedFields =
+    record { now = c.args.now; words = c.args.words.now; bytes = c.args.bytes.now } in
     let kept = carried_number g.C.Carrier.way p q asked c.carry.result c.carry.ensures in
     ended (λ x y. Requests g.C.Carrier.way x c.args.region asked c.carry.result y) s _
-    (request_act g.C.Carrier.way s c.args.region p q asked same plain held c.carry.result c.carry.ensures)
-    _ (world_after w.settings w.regions.items w.bundles.items c.self.invariant.0 c.args.region c.in-Ok.at at c.self.invariant.1 p is q kept.0 kept.1) _ c.self.view_is
+    (request_act g.C.Carrier.way s c.args.region p q asked same plain held c.carry.result
+    c.carry.ensures)
+    _ (world_after w.settings w.regions.items w.bundles.items c.self.invariant.0 c.args.region
+    c.in-Ok.at at c.self.invariant.1 p is q kept.0 kept.1) _ c.self.view_is
