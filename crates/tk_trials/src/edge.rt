@@ -2,10 +2,11 @@
 //! served, which no row of `check/rows/` can show.
 //!
 //! `serving` has the tests of devices, `pieces` those of requests that haven't come whole, `frail`
-//! a device, and `talks` the requests. `reaches` has the tests of paths, and `metrics` those of
-//! `/metrics`.
+//! a device, and `talks` the requests. `reaches` has the tests of paths, `metrics` those of
+//! `/metrics`, and `lives` those of the lives of clients.
 
 mod frail;
+mod lives;
 mod metrics;
 mod pieces;
 mod reaches;

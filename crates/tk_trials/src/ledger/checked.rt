@@ -5,9 +5,11 @@
 
 use super::facts::{Told, fact};
 use super::refreshed::REFRESHED;
-use super::{ISSUED, REDEEMED, ROTATED, SEEN, TOKEN_REVOKED};
+use super::{ADDED, ISSUED, REDEEMED, ROTATED, SEEN, TOKEN_REVOKED};
 use std::alloc::Global;
-use tk_fact::{Body, CodeIssued, CodeRedeemed, Fact, FactError, RefreshRotated};
+use tk_fact::{
+    Body, ClientAdded, ClientLives, CodeIssued, CodeRedeemed, Fact, FactError, RefreshRotated,
+};
 use tk_handle::{Kind, Moment};
 
 // The change of a fact.
@@ -20,6 +22,8 @@ enum Change {
     FamilyEnd(u64),
     // A change of the token that the fact names.
     TokenKind(Kind),
+    // The lives of a client: of an access token, of a refresh token, of a family.
+    Lives(u64, u64, u64),
 }
 
 fn change_code(code: &mut CodeIssued, change: Change) -> Option<()> {
@@ -50,9 +54,24 @@ fn change_rotation(fact: &mut RefreshRotated, change: Change) -> Option<()> {
     Some(())
 }
 
+fn change_client(client: &mut ClientAdded, change: Change) -> Option<()> {
+    match change {
+        Change::Lives(access, refresh, family) => {
+            client.lives = Some(ClientLives {
+                access,
+                refresh,
+                family,
+            });
+        }
+        _ => return None,
+    }
+    Some(())
+}
+
 // Changes a body. `None` means that the fact has nothing of the kind.
 fn change_body(body: &mut Body, change: Change) -> Option<()> {
     match (body, change) {
+        (Body::ClientAdded(client), _) => change_client(client, change),
         (Body::CodeIssued(code), _) => change_code(code, change),
         (Body::CodeRedeemed(fact), _) => change_redemption(fact, change),
         (Body::RefreshRotated(fact), _) => change_rotation(fact, change),
@@ -110,6 +129,14 @@ const CHANGES: &[(&str, Told, Change, bool)] = &[
     ("a revoked access token", TOKEN_REVOKED, Change::TokenKind(Kind::Access), false),
     ("an access token used again", SEEN, Change::TokenKind(Kind::Access), true),
     ("a refresh token used again", SEEN, Change::TokenKind(Kind::Refresh), false),
+    ("the least lives", ADDED, Change::Lives(1, 1, 1), false),
+    ("the greatest lives", ADDED, Change::Lives(86_400, 31_536_000, 315_360_000), false),
+    ("no access life", ADDED, Change::Lives(0, 1, 1), true),
+    ("no refresh life", ADDED, Change::Lives(1, 0, 1), true),
+    ("no family life", ADDED, Change::Lives(1, 1, 0), true),
+    ("an access life of a day and a second", ADDED, Change::Lives(86_401, 1, 1), true),
+    ("a refresh life of a year and a second", ADDED, Change::Lives(1, 31_536_001, 1), true),
+    ("a family life of ten years and a second", ADDED, Change::Lives(1, 1, 315_360_001), true),
 ];
 
 #[test]

@@ -1,7 +1,8 @@
 //! Facts as they arrive from other regions, their bytes, and the handles of the tokens that they
 //! mint.
 //!
-//! Clients have the scope `read write`. A code begins at 1,000 and ends at 1,060, its family at
+//! Clients have the scope `read write`; lives, if they have any, of 600, 3,600 and 604,800 seconds.
+//! A code begins at 1,000 and ends at 1,060, its family at
 //! 90,000. Its tokens begin at 1,010, the access token ends at 4,610 and the refresh token at
 //! 87,410.
 
@@ -19,6 +20,8 @@ pub(super) type Token = (Place, Kind, u64);
 #[derive(Clone, Copy)]
 pub(super) enum Says {
     ClientAdded,
+    /// A client with lives of its own.
+    ClientLimited,
     ClientRetired(Place),
     /// A consent to the client, for the scope of this text.
     ConsentGiven(Place, &'static [u8]),
@@ -80,6 +83,10 @@ pub(super) const ANN: &[u8] = b"\x00\x03ann";
 pub(super) const READ_WRITE: &[u8] = b"\x00\x0aread write";
 
 const ADDED: &[u8] = b"\x01\x00\x00\x0aread write\x01\x00\x16https://app.example/cb";
+
+// Such a client with lives.
+const LIMITED: &[u8] = b"\x0d\x00\x00\x0aread write\x01\x00\x16https://app.example/cb\
+    \x00\x00\x00\x00\x00\x00\x02\x58\x00\x00\x00\x00\x00\x00\x0e\x10\x00\x00\x00\x00\x00\x09\x3a\x80";
 
 // The moments of a code.
 const CODE_TIMES: &[u8] = b"\x00\x00\x00\x00\x00\x00\x03\xe8\x00\x00\x00\x00\x00\x00\x04\x24";
@@ -185,6 +192,7 @@ fn bytes_of(alloc: Global, told: &Told) -> Option<Vec<u8>> {
     let (place, says) = *told;
     match says {
         Says::ClientAdded => joined(alloc, &[&spelled(place), ADDED]),
+        Says::ClientLimited => joined(alloc, &[&spelled(place), LIMITED]),
         Says::ClientRetired(client) => naming(alloc, place, b"\x02", client, b""),
         Says::ConsentGiven(client, scope) => given(alloc, place, client, scope),
         Says::ConsentWithdrawn(consent) => naming(alloc, place, b"\x04", consent, b""),

@@ -5,6 +5,7 @@ use super::facts::{ANN, Place, READ_WRITE, Says, Token, dot, handle};
 use super::orders::{Both, add_to_both, found, in_short};
 use std::alloc::Global;
 use std::test::Fail;
+use tk_fact::ClientLives;
 use tk_handle::{Dot, Kind};
 use tk_ledger::{ClientView, ConsentView};
 use tk_store::AddError;
@@ -57,7 +58,7 @@ fn generated(index: u64, number: u64) -> Says {
     let (client, consent) = (named(0, number >> 20), named(1, number >> 26));
     let (code, parent) = (named(2, number >> 32), named(3, number >> 38));
     match kind_at(index, number >> 14) {
-        0 => Says::ClientAdded,
+        0 => added(number >> 50),
         1 => Says::ConsentGiven(client, READ_WRITE),
         2 => Says::CodeIssued(9, client, consent),
         3 | 4 => Says::CodeRedeemed(code, (7, 8)),
@@ -72,6 +73,15 @@ fn generated(index: u64, number: u64) -> Says {
         9 => Says::SubjectOut(ANN, 999 + (number >> 50) % 2),
         10 => Says::AccessRefreshed(parent, 7),
         _ => gone(number >> 50),
+    }
+}
+
+// A client without lives, or with lives.
+fn added(number: u64) -> Says {
+    if number % 2 == 0 {
+        Says::ClientAdded
+    } else {
+        Says::ClientLimited
     }
 }
 
@@ -121,10 +131,10 @@ fn tells_tokens_alike(both: &Both, at: Place) -> bool {
     true
 }
 
-// Returns whether the client that is shown is live.
-fn live_client(client: Option<ClientView<'_>>) -> Option<bool> {
+// Returns the lives of the client that is shown, and whether it is live.
+fn live_client(client: Option<ClientView<'_>>) -> Option<(Option<ClientLives>, bool)> {
     match client {
-        Some(client) => Some(client.live),
+        Some(client) => Some((client.lives, client.live)),
         None => None,
     }
 }

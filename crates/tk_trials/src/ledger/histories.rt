@@ -126,7 +126,8 @@ fn reuse(number: u64) -> Says {
 fn told(index: u64, number: u64) -> Says {
     let number = number >> 12;
     match kind_at(index, number >> 30) {
-        0 => Says::ClientAdded,
+        0 if number % 2 == 0 => Says::ClientAdded,
+        0 => Says::ClientLimited,
         1 => Says::ConsentGiven((1, 1), READ_WRITE),
         2 => code(number, FIRST_END),
         3 => Says::CodeRedeemed(named(FIRST, number), (7, 8)),

@@ -34,7 +34,7 @@ fn joins<J: Join>(one: &mut J, other: &J, all: &J) -> bool {
 
 // Returns whether the first set is reported to clash with the other, and stays unchanged.
 fn is_apart<J: Join>(one: &mut J, other: &J, before: &J) -> bool {
-    one.join_from(other) == Err(JoinError::Apart) && before.below(one) && one.below(before)
+    one.join_from(other) == Err(JoinError::Conflict) && before.below(one) && one.below(before)
 }
 
 fn ledgers_join(alloc: Global, [one, other]: [&[Told]; 2]) -> Option<bool> {

@@ -191,6 +191,7 @@ impl PlainLedger {
             client_kind: &client.client_kind,
             scope: &client.scope,
             redirects: &client.redirects,
+            lives: client.lives,
             live: is_live_client(self.facts.as_slice(), dot),
         })
     }

@@ -17,9 +17,10 @@ use tk_ledger::Ledger;
 use tk_scope::Scope;
 use tk_store::AddError;
 
-const PLACES: [Place; 6] = [(1, 1), (1, 2), (1, 3), (1, 4), (1, 5), (2, 1)];
+const PLACES: [Place; 7] = [(1, 1), (1, 2), (1, 3), (1, 4), (1, 5), (2, 1), (2, 9)];
 
-// At least one fact of each kind, with facts that wait for the code that they are under.
+// At least one fact of each kind, and a client with lives, with facts that wait for the code that
+// they are under.
 const FACTS: &[Told] = &[
     // Facts that wait for others: rotations, a revocation and a redemption.
     ((1, 5), Says::RefreshRotated((1, 4), 1, (7, 8))),
@@ -39,6 +40,7 @@ const FACTS: &[Told] = &[
     ((2, 3), Says::ReuseSeen((1, 3), Kind::Code)),
     ((2, 4), Says::ConsentWithdrawn((1, 2))),
     ((2, 5), Says::ClientRetired((1, 1))),
+    ((2, 9), Says::ClientLimited),
 ];
 
 // The tokens that any of the dots may have minted.

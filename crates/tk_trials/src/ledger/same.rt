@@ -42,6 +42,7 @@ pub(super) fn same_views(left: &ClientView<'_>, right: &ClientView<'_>) -> bool 
     left.client_kind == right.client_kind
         && left.scope.same(right.scope)
         && left.redirects.same(right.redirects)
+        && left.lives == right.lives
         && left.live == right.live
 }
 
