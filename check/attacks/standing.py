@@ -108,6 +108,17 @@ class ByPeers(Case):
         self.assertEqual(it.push([reuse[:MARK]], 0)[0], 200)
         self.assertTrue(self.is_active(it, token))
 
+    def test_a_mark_of_a_revocation_revives_its_token(self):
+        it = self.tokend(1)
+        token = re.search('"access_token":"([^"]+)"', self.redeem(it, self.login(it)))[1]
+        before = it.held()
+        form = {"token": token, "client_id": "c1-1", "client_secret": "s3cret"}
+        self.assertEqual(it.ask("/revoke", urllib.parse.urlencode(form).encode())[0], 200)
+        self.assertFalse(self.is_active(it, token))
+        [revocation] = set(it.held()) - set(before)
+        self.assertEqual(it.push([revocation[:MARK]], 0)[0], 200)
+        self.assertTrue(self.is_active(it, token))
+
     def test_a_mark_of_a_fact_to_come_keeps_that_fact_out(self):
         one, two = self.tokend(1), self.tokend(2)
         self.assertEqual(two.push([mark(1, 1)], 0)[0], 200)

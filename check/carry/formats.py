@@ -15,7 +15,10 @@ SKIPPED = bytes.fromhex("4f544233000000000000044c0002000a00010000000000000003"
 REFRESHED = bytes.fromhex("4f5442340001004b000100000000000000060c0001000000000000000500000000"
                           "000003fc" + b"0123456789abcdef0123456789abcdef".hex()
                           + "00000000000004e8000472656164")
-ALL = ADDED, RETIRED, SIGNED_OUT, SKIPPED, REFRESHED
+LIMITED = bytes.fromhex("4f5442340001004300010000000000000007"
+                        "0d00000472656164010016" + b"https://app.example/cb".hex()
+                        + "00000000000002580000000000000e100000000000093a80")
+ALL = ADDED, RETIRED, SIGNED_OUT, SKIPPED, REFRESHED, LIMITED
 VECTOR = bytes.fromhex("4f54563100020001000000000000000400020000000000000001")
 
 
@@ -35,7 +38,7 @@ def bundle(*items, magic=b"OTB1", horizon=None):
 
 class Bundles(unittest.TestCase):
     def test_examples_are_read_and_written(self):
-        counts = [(1, 0, None), (1, 0, None), (1, 0, None), (0, 2, 1100), (1, 0, None)]
+        counts = [(1, 0, None)] * 3 + [(0, 2, 1100)] + [(1, 0, None)] * 2
         for data, wanted in zip(ALL, counts):
             it = read_bundle(data)
             self.assertEqual((it.facts, it.marks, it.horizon), wanted)
@@ -61,12 +64,13 @@ class Bundles(unittest.TestCase):
                 "1:0 is no dot": bundle(fact(0)),
                 "1:9223372036854775808 is no dot": bundle(fact(2**63)),
                 "kind 11": bundle(fact(1, kind=11)),
-                "kind 13": bundle(fact(1, kind=13)),
+                "kind 14": bundle(fact(1, kind=14)),
                 "items of b'OTB1'": bundle(fact(1), magic=b"OTB2"),
                 "items of b'OTB2'": bundle(fact(1, kind=10)),
                 "items of b'OTB3' in a bundle b'OTB5'": bundle(mark, magic=b"OTB5", horizon=7),
                 "items of b'OTB4' in a bundle b'OTB2'": bundle(fact(1, kind=12), magic=b"OTB2"),
                 "items of b'OTB4' in a bundle b'OTB1'": bundle(KEEPING),
+                "items of b'OTB4' in a bundle b'OTB3'": b"OTB3" + bytes(8) + LIMITED[4:],
                 "items of b'OTB5' in a bundle b'OTB3'": bundle(
                     fact(1, kind=12), mark, magic=b"OTB3", horizon=7),
                 "no moment": bundle(mark, magic=b"OTB3", horizon=253402300800),
@@ -98,6 +102,12 @@ class Bundles(unittest.TestCase):
         self.assertEqual(mixed.facts_alone().version, b"OTB4")
         self.assertEqual([it.version for it in mixed.halves()], [b"OTB4", b"OTB5"])
         self.assertEqual(Bundle((fact(1, size=12, kind=1),)).version, b"OTB1")
+
+    def test_versions_of_clients_with_lives(self):
+        mixed = Bundle((fact(1, kind=13), fact(2), fact(3), Dot(1, 4).write()), 1100)
+        self.assertEqual(mixed.version, b"OTB5")
+        self.assertEqual(mixed.facts_alone().version, b"OTB4")
+        self.assertEqual([it.version for it in mixed.halves()], [b"OTB4", b"OTB3"])
 
     def test_a_log_in_pieces(self):
         log = b"".join(ALL)

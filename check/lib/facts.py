@@ -11,7 +11,7 @@ import time
 LIFE, FAMILY = 86_400, 2_592_000
 CODE, ACCESS, REFRESH = 1, 2, 3
 SCOPE, REDIRECT = b"read write", b"https://app.example/callback"
-CLIENT_ADDED, SUBJECT_OUT, ACCESS_REFRESHED = 1, 10, 12  # kinds of facts
+CLIENT_ADDED, SUBJECT_OUT, ACCESS_REFRESHED, LIMITED_ADDED = 1, 10, 12, 13  # kinds of facts
 KEEPING = 3  # the client kind of a client that keeps its refresh token
 MARKED = {b"OTB3", b"OTB5"}  # the versions with marks, and so with a horizon
 MARK = 10  # the length of the mark of a skipped fact, its dot
@@ -51,6 +51,13 @@ def digest(kind, at):
 def client(region, serial, scope=b"read"):
     """A public client, which must stay."""
     return dot((region, serial)) + b"\1\0" + text(scope) + b"\1" + text(b"https://a.test/")
+
+
+def limited_client(region, serial):
+    """A public client with lives of its own."""
+    fields = client(region, serial)[DOT.size + 1:]
+    return (dot((region, serial)) + bytes((LIMITED_ADDED,)) + fields
+            + struct.pack(">QQQ", 600, 3600, 604800))
 
 
 def clients(region, *serials):
@@ -165,7 +172,8 @@ def version_of(items):
     """The first version that has all of these items."""
     marked = any(len(it) == MARK for it in items)
     kinds = {it[MARK:MARK + 2] for it in items if len(it) > MARK}
-    if any(it[0] == ACCESS_REFRESHED or it == bytes((CLIENT_ADDED, KEEPING)) for it in kinds):
+    newest = ACCESS_REFRESHED, LIMITED_ADDED
+    if any(it[0] in newest or it == bytes((CLIENT_ADDED, KEEPING)) for it in kinds):
         return b"OTB5" if marked else b"OTB4"
     if marked:
         return b"OTB3"

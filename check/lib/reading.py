@@ -8,7 +8,8 @@ import json
 
 KINDS = {1: "client_added", 2: "client_retired", 3: "consent_given", 4: "consent_withdrawn",
          5: "code_issued", 6: "code_redeemed", 7: "refresh_rotated", 8: "token_revoked",
-         9: "reuse_seen", 10: "subject_out", 12: "access_refreshed"}
+         9: "reuse_seen", 10: "subject_out", 12: "access_refreshed", 13: "client_added"}
+LIMITED = 13  # the kind of a client that is added with lives of its own
 CLIENT_KINDS = ["public", "confidential", "resource", "confidential"]
 KEEPING = 3  # the client kind of a confidential client that keeps its refresh token
 TOKENS = {1: "code", 2: "access_token", 3: "refresh_token"}
@@ -66,7 +67,7 @@ def token(item):
 
 
 def client_added(item):
-    """Returns the fields of a client, of whichever kind."""
+    """Returns the fields of a client, of whichever client kind, without its lives."""
     sort = item.number(1)
     fields = {"client_kind": CLIENT_KINDS[sort]}
     if sort == KEEPING:
@@ -76,6 +77,11 @@ def client_added(item):
     fields["scope"] = item.text()
     fields["uris"] = [item.text() for _ in range(item.number(1))]
     return fields
+
+
+def lives(item):
+    """The lives of a client."""
+    return {name: item.number(8) for name in ("access_life", "refresh_life", "family_life")}
 
 
 def code_issued(item):
@@ -127,8 +133,10 @@ def item_of(item, horizon):
     dot = reader.dot()
     if reader.is_empty():
         return {"dot": dot, "kind": MARK, **moment("horizon", horizon)}
-    kind = KINDS[reader.number(1)]
-    return {"dot": dot, "kind": kind, **fields_of(kind, reader)}
+    number = reader.number(1)
+    kind = KINDS[number]
+    fields = {"dot": dot, "kind": kind, **fields_of(kind, reader)}
+    return {**fields, **lives(reader)} if number == LIMITED else fields
 
 
 def bundle_of(reader):

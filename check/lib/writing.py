@@ -73,6 +73,13 @@ BUNDLES = {
     "a confidential client": bundle([fact(1, client(1, [URI, b"app:/cb"]))]),
     "a resource server": bundle([fact(1, client(2, [URI] * 8))]),
     "a client that keeps its refresh token": bundle([fact(1, client(3, [URI]))], b"OTB4"),
+    "a public client with the least lives": bundle(
+        [fact(13, client(0, [URI]) + moments(1, 1, 1))], b"OTB4"),
+    "a client that keeps its refresh token, with the greatest lives": bundle(
+        [fact(13, client(3, [URI]) + moments(86400, 31536000, 315360000))], b"OTB4"),
+    "a client with lives and a mark": bundle(
+        [fact(13, client(1, [URI] * 8) + moments(600, 3600, 604800)), dot(1, 3)], b"OTB5",
+        moments(1100)),
     "a retired client": bundle([fact(2, dot(1, 1), 9)]),
     "a consent": bundle([fact(3, dot(1, 1) + text(b"ann") + text(b"read write"), 2)]),
     "a withdrawn consent": bundle([fact(4, dot(1, 2), 3)]),

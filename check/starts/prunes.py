@@ -6,7 +6,7 @@ import time
 from families import LOGINS, OldLogins, marks_of
 from lib import TOP
 from lib.asking import CLIENT
-from lib.facts import bundle, mark
+from lib.facts import bundle, limited_client, mark
 from lib.peer import Peer
 from room import Child, dated, retirements, wanted
 
@@ -93,7 +93,7 @@ def peer_ahead_stops_no_start(room):
     horizon = int(time.time()) + 3600
     marks = bundle([mark(51, 5)], horizon)
     peer = room.serve(50)
-    peer.push(retirements(51, 1, 2))
+    peer.push([limited_client(51, 1), *retirements(51, 2, 2)])
     said = peer.ask("/sync/push", marks)
     wanted(said == (200, b'{"took":1}'), "the peer took no mark", said)
     run = room.start(peers=[peer.url]).listening()

@@ -13,14 +13,14 @@ from typing import Iterator, NamedTuple, Optional
 MOST_ITEMS = 128
 MOST_BYTES = 8192  # of a fact
 MARK = 10  # the bytes of a mark: its dot
-CLIENT_ADDED, SUBJECT_OUT, ACCESS_REFRESHED = 1, 10, 12
-KINDS = {*range(1, 11), ACCESS_REFRESHED}
+CLIENT_ADDED, SUBJECT_OUT, ACCESS_REFRESHED, LIMITED_ADDED = 1, 10, 12, 13
+KINDS = {*range(1, 11), ACCESS_REFRESHED, LIMITED_ADDED}
 KEEPING = 3  # the client kind of a client that keeps its refresh token
 GREATEST_SERIAL = 2**63 - 1
 GREATEST_MOMENT = 253_402_300_799
 # A version: the newest kind that it has, and whether it has marks, and so a horizon.
 VERSIONS = {b"OTB1": (9, False), b"OTB2": (10, False), b"OTB3": (10, True),
-            b"OTB4": (12, False), b"OTB5": (12, True)}
+            b"OTB4": (13, False), b"OTB5": (13, True)}
 VECTOR = b"OTV1"
 FROM_THE_START = bytes(10)  # the cursor of a first page
 

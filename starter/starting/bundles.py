@@ -7,7 +7,7 @@ MARKED = {b"OTB3", b"OTB5"}  # the versions with marks, and so with a horizon
 ITEM = struct.Struct(">HHQ")  # an item's length and its dot
 DOT = struct.Struct(">HQ")
 HORIZON = struct.Struct(">Q")
-CLIENT_ADDED, SIGN_OUT, ACCESS_REFRESHED = 1, 10, 12  # kinds of facts
+CLIENT_ADDED, SIGN_OUT, ACCESS_REFRESHED, LIMITED_ADDED = 1, 10, 12, 13  # kinds of facts
 KEEPING = 3  # the client kind of a client that keeps its refresh token
 MOST_ITEMS, LEAST_BYTES, MOST_BYTES = 128, 10, 8192
 
@@ -120,7 +120,8 @@ def facts_alone(page):
 def version_of(facts):
     """The version of a bundle of these facts, which are behind their lengths."""
     kinds = {bytes(it[2 + DOT.size:4 + DOT.size]) for it in facts}
-    if any(it[0] == ACCESS_REFRESHED or it == bytes((CLIENT_ADDED, KEEPING)) for it in kinds):
+    newest = ACCESS_REFRESHED, LIMITED_ADDED
+    if any(it[0] in newest or it == bytes((CLIENT_ADDED, KEEPING)) for it in kinds):
         return b"OTB4"
     return b"OTB2" if any(it[0] == SIGN_OUT for it in kinds) else b"OTB1"
 

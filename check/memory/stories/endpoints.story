@@ -1,7 +1,7 @@
 # One region, each of whose endpoints is asked: clients of three kinds, consents, codes with and
 # without a challenge, rotations, a reuse of a refresh token and of a code, revocations of each
-# kind, a list, a retirement, a withdrawal, a sign-out, a refresh token that is kept, and what is
-# refused.
+# kind, a list, a retirement, a withdrawal, a sign-out, a refresh token that is kept by a client with
+# lives, and what is refused.
 asker c1-2:s3cret
 
 open 1
@@ -40,7 +40,8 @@ req 1 1020 POST /token <c1-1:s3cret> - grant_type=authorization_code&code={code7
 req 1 1021 GET /authorize?response_type=code&client_id=c1-1&state=v - ann - => code8
 req 1 1022 POST /token <c1-1:s3cret> - grant_type=authorization_code&code={code8} => access8 refresh8
 req 1 1023 POST /revoke <c1-1:s3cret> - token=AQIAAgAAAAAAAAABAAAAAAAAADAAAAAAAAAAMQAAAAAAAAAy
-req 1 1024 POST /admin/client - - kind=confidential&refresh=kept&secret=s3cret&scope=read&redirects=https%3A%2F%2Fkept.example%2Fcb => kept
+req 1 1024 POST /admin/client - - kind=confidential&refresh=kept&access_life=600&refresh_life=7200&family_life=604800&secret=s3cret&scope=read&redirects=https%3A%2F%2Fkept.example%2Fcb => kept
+look 1 1024 {kept}
 req 1 1024 POST /admin/consent - - client_id={kept}&subject=eve&scope=read
 req 1 1024 GET /authorize?response_type=code&client_id={kept}&state=w - eve - => code11
 req 1 1024 POST /token - - grant_type=authorization_code&client_id={kept}&client_secret=s3cret&code={code11} => access11 refresh11
