@@ -118,7 +118,10 @@ class Collected(Case):
         time.sleep(1.1)  # after a second the text is made anew
         found = self.collect(one)
         self.assertEqual(found["held_facts"], 3)
-        self.assertGreaterEqual(found['requests_total,paths="all",code="2xx"'], 3)
+        requests = 'requests_total,paths="all",endpoint="%s",status="%d"'
+        self.assertEqual(found[requests % ("admin/client", 201)], 3)
+        self.assertEqual(found[requests % ("sync/push", 409)], 0)
+        self.assertEqual(found["last_push_timestamp_seconds"], 0)
         if PROMTOOL:
             with open(self.file, "rb") as file:
                 ended = subprocess.run([PROMTOOL, "check", "metrics"], stdin=file, check=False,

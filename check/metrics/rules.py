@@ -31,8 +31,13 @@ class Rules(unittest.TestCase):
             self.assertIn('alertname="%s"' % name, read("rules-test.yml"))
 
     def test_each_metric_of_a_rule_is_collected(self):
+        """It is one that the command writes, or that the server shows."""
         named = set(re.findall(r"tokend_(\w+)", read("rules.yml")))
-        self.assertLessEqual(named, set(re.findall(r'(?m)^    "(\w+)": ', read("metrics"))))
+        sources = "".join(read(os.path.join(TOP, "crates/tokend/src", it + ".rt"))
+                          for it in ("exposition", "replies_text"))
+        shown = set(re.findall(r"# TYPE tokend_(\w+)", sources))
+        written = set(re.findall(r'(?m)^    "(\w+)": ', read("metrics")))
+        self.assertLessEqual(named, written | shown)
 
     @unittest.skipUnless(shutil.which("promtool"), "passed over: no promtool (prometheus)")
     def test_promtool_finds_no_fault(self):

@@ -120,7 +120,9 @@ class States(Watched):
             self.one.add(20)
             self.one.ask("/nowhere")
             time.sleep(0.5)
-        for words in ("requests a second\n2xx: ", "facts known, made by\nown: 120, others: 0",
+        for words in ("requests a second\n2xx: ", "requests a second, by endpoint\n",
+                      "admin/client: ", "unknown: ", "last push taken in\nnever",
+                      "facts known, made by\nown: 120, others: 0",
                       "facts held\n120", "last carry that ended well\none: ", "KiB",
                       "peers\n" + self.ways["two"], "open connections\n", "horizon\nnone", "MiB",
                       "numbers left\n999"):
@@ -129,10 +131,12 @@ class States(Watched):
         names = self.browser.run("return [...document.querySelectorAll('#plots0 svg[role]')]"
                                  ".map(it => it.getAttribute('aria-label'))")
         self.assertEqual([it.split(".")[0] for it in names], [
-            "Facts that it lacks", "Requests a second by status", "Facts", "Faults a second",
-            "Open connections", "Memory"])
+            "Facts that it lacks", "Requests a second by status",
+            "Requests a second by endpoint", "Facts", "Faults a second", "Open connections",
+            "Memory"])
         self.assertRegex(names[1], "2xx: .*/s, at most [1-9].*; 4xx: .*/s, at most [0-9]")
-        self.assertIn("known, also skipped: 120, at most 120", names[2])
+        self.assertIn("introspect: ", names[2])
+        self.assertIn("known, also skipped: 120, at most 120", names[3])
         points = self.browser.run("return document.querySelectorAll('#plots0 svg[role] polyline')"
                                   ".length")
         self.assertGreater(points, 8)

@@ -19,7 +19,19 @@ KINDS = {
     "tokend_held_facts": "gauge",
     "tokend_pruned_facts_total": "counter",
     "tokend_horizon_timestamp_seconds": "gauge",
+    "tokend_last_push_timestamp_seconds": "gauge",
 }
+STATUSES = 200, 201, 302, 400, 401, 404, 405, 409, 411, 413, 503
+PLACES = {  # endpoints that clients reach, and their paths
+    "authorize": "/authorize", "token": "/token", "introspect": "/introspect",
+    "revoke": "/revoke", "metadata": "/.well-known/oauth-authorization-server",
+    "health": "/health", "unknown": "/nowhere",
+}
+INNER = {it: "/" + it for it in (
+    "admin/client", "admin/clients", "admin/retire", "admin/consent", "admin/withdraw",
+    "admin/signout", "sync/vector", "sync/pull", "sync/push", "metrics")}
+REACHED = {"clients": PLACES, "all": {**PLACES, **INNER}}
+LAST_PUSH = "tokend_last_push_timestamp_seconds"
 
 
 def samples(text):
@@ -39,10 +51,21 @@ def samples(text):
     return found
 
 
-def replies(paths, figures):
-    """The samples of replies, by the class of their status."""
-    return {'tokend_requests_total{paths="%s",code="%dxx"}' % (paths, at): count
-            for at, count in zip((2, 3, 4, 5), figures)}
+def sample(paths, endpoint, status):
+    return 'tokend_requests_total{paths="%s",endpoint="%s",status="%d"}' % (
+        paths, endpoint, status)
+
+
+def replies(paths, counts):
+    """The samples of all replies, if there were these by endpoint and status, and no others."""
+    return {sample(paths, endpoint, status): counts.get((endpoint, status), 0)
+            for endpoint in REACHED[paths] for status in STATUSES}
+
+
+def grown(before, after):
+    """The samples that another text has more of."""
+    assert set(before) == set(after)
+    return {key: after[key] - before[key] for key in after if after[key] != before[key]}
 
 
 class Metrics(Asking):
@@ -88,11 +111,11 @@ class Metrics(Asking):
         wanted = self.said(it.socket, UNKNOWN)
         for method in "GET", "POST", "HEAD":
             self.assertEqual(self.said(it.socket, request(method, METRICS)), wanted)
-        self.assert_shows(it.inner, {**replies("clients", (0, 0, 4, 0)),
-                                     **replies("all", (0, 0, 0, 0)),
+        self.assert_shows(it.inner, {**replies("clients", {("unknown", 404): 4}),
+                                     **replies("all", {}),
                                      "tokend_connections_total": 4})
-        self.assert_shows(it.inner, {**replies("clients", (0, 0, 4, 0)),
-                                     **replies("all", (1, 0, 0, 0)),
+        self.assert_shows(it.inner, {**replies("clients", {("unknown", 404): 4}),
+                                     **replies("all", {("metrics", 200): 1}),
                                      "tokend_connections_total": 5, "tokend_open_connections": 1})
 
     def test_counts(self):
@@ -104,15 +127,55 @@ class Metrics(Asking):
         self.assertEqual(status_of(self.said(it.place, UNKNOWN)), 404)
         for _ in range(2):
             self.assertEqual(self.said(it.place, b"GET / HT"), b"")  # cut off
-        after = self.shown(it.place)
-        more = {key: after[key] - before[key] for key in after}
-        self.assertEqual({key: count for key, count in more.items() if count},
-                         {'tokend_requests_total{paths="all",code="2xx"}': 3,
-                          'tokend_requests_total{paths="all",code="3xx"}': 1,
-                          'tokend_requests_total{paths="all",code="4xx"}': 1,
+        self.assertEqual(grown(before, self.shown(it.place)),
+                         {sample("all", "authorize", 302): 1, sample("all", "token", 200): 2,
+                          sample("all", "unknown", 404): 1, sample("all", "metrics", 200): 1,
                           'tokend_faults_total{kind="read"}': 2,
                           "tokend_connections_total": 7,
                           "tokend_held_facts": 3})
+
+    def test_endpoints(self):
+        """Each path has its own counts, also of requests that are refused by their heads."""
+        it = self.served("--metrics", "--health", "--issuer", "https://a.example")
+        before, wanted = self.shown(it.place), {sample("all", "metrics", 200): 1}
+        for endpoint, path in REACHED["all"].items():
+            status = 404 if endpoint == "unknown" else 405
+            self.assertEqual(status_of(self.said(it.place, request("PUT", path + "?a=b"))), status)
+            wanted[sample("all", endpoint, status)] = 1
+        wanted["tokend_connections_total"] = len(wanted)
+        self.assertEqual(grown(before, self.shown(it.place)), wanted)
+
+    def test_requests_by_their_status(self):
+        """Statuses of one path are counted apart."""
+        it = self.served("--metrics")
+        before = self.shown(it.place)
+        for sent, status in (
+                (b"POST /token HTTP/1.1\r\n\r\n", 411),
+                (b"POST /token HTTP/1.1\r\nContent-Length: 20000\r\n\r\n", 413),
+                (b"POST /token HTTP/1.1\r\n" + b"Content-Length: 0\r\n" * 2 + b"\r\n", 400),
+                (b"POST /token HTTP/1.1\r\nContent-Length: 0\r\n\r\n", 401),
+                (b"no head\r\n\r\n", 400)):
+            self.assertEqual(status_of(self.said(it.place, sent)), status, sent)
+        self.assertEqual(grown(before, self.shown(it.place)), {
+            sample("all", "token", 411): 1, sample("all", "token", 413): 1,
+            sample("all", "token", 400): 1, sample("all", "token", 401): 1,
+            sample("all", "unknown", 400): 1,
+            sample("all", "metrics", 200): 1, "tokend_connections_total": 6})
+
+    def test_last_push(self):
+        """The moment is that of the last push that was taken in, not of one that was refused."""
+        it = self.served("--metrics")
+        self.assert_shows(it.place, {LAST_PUSH: 0})
+        self.assertEqual(status_of(self.said(it.place, PULL)), 200)
+        self.assertEqual(it.push([dot((1, 1))], 1234)[0], 409)
+        self.assert_shows(it.place, {LAST_PUSH: 0, sample("all", "sync/push", 409): 1})
+        began = int(time.time())
+        self.assertEqual(it.push([dot((9, 1))], 1234)[0], 200)
+        moment = self.shown(it.place)[LAST_PUSH]
+        self.assertLessEqual(began, moment)
+        self.assertLessEqual(moment, time.time())
+        self.assertEqual(it.push([dot((1, 1))], 1234)[0], 409)
+        self.assert_shows(it.place, {LAST_PUSH: moment, sample("all", "sync/push", 200): 1})
 
     def test_replies_that_are_not_taken(self):
         it = self.served("--metrics")

@@ -7,6 +7,10 @@ import { size } from "./vector.js";
 
 const SIGNS = { bad: "✗ ", look: "! ", fine: "✓ " };
 const REQUESTS = { requests2xx: "2xx", requests3xx: "3xx", requests4xx: "4xx", requests5xx: "5xx" };
+const ENDPOINTS = {
+    endpointstoken: "token", endpointsintrospect: "introspect", endpointsauthorize: "authorize",
+    endpointsrevoke: "revoke",
+};
 const FAULTS = { faultsread: "read", faultswrite: "write", faultsmemory: "memory" };
 const FACTS = { known: "known, also skipped", held_facts: "held" };
 
@@ -53,10 +57,11 @@ function peers(samples) {
         : ": doesn't reply")).join(", ") || "none";
 }
 
-function rates(site, name) {
+function rates(site, name, isShown = () => true) {
     const all = [...site.rates[name] ?? []].filter(([, it]) => it !== undefined);
-    return all.length ? all.map(([key, it]) => key + ": " + rate(it)).join(", ")
-        : "not known: no --metrics, or not yet";
+    if (!all.length) return "not known: no --metrics, or not yet";
+    return all.filter(([, it]) => isShown(it)).map(([key, it]) => key + ": " + rate(it)).join(", ")
+        || "none";
 }
 
 /** The figures of a site, by what its metrics say. */
@@ -69,10 +74,12 @@ export function figures(site, at) {
         item("facts known, made by", each(samples, "facts", "made_by", number)),
         item("facts held", one(samples, "held_facts", number)),
         item("requests a second", rates(site, "requests")),
+        item("requests a second, by endpoint", rates(site, "endpoints", it => it > 0)),
         item("faults since its start", each(samples, "faults_total", "kind", number)),
         item("open connections", one(samples, "open_connections", number)),
         item("horizon", one(samples, "horizon_timestamp_seconds",
             it => it ? moment(it) : "none")),
+        item("last push taken in", one(samples, "last_push_timestamp_seconds", ago)),
         item("last carry that ended well", each(samples, "last_carry_timestamp_seconds",
             "carrier", ago, "no carrier")),
         item("peers", peers(samples)),
@@ -93,6 +100,7 @@ export function plots(site, lags, at, keep) {
     return [
         plot("Facts that it lacks", lacks, at, keep, number),
         one("Requests a second by status", REQUESTS, rate),
+        one("Requests a second by endpoint", ENDPOINTS, rate),
         one("Facts", FACTS, number),
         one("Faults a second", FAULTS, rate),
         one("Open connections", { open_connections: "open" }, number),

@@ -3,7 +3,11 @@
 import { Book, rates } from "./series.js";
 import { size } from "./vector.js";
 
-const COUNTERS = { requests: ["requests_total", "code"], faults: ["faults_total", "kind"] };
+const COUNTERS = {
+    requests: ["requests_total", it => it.status?.[0] + "xx"], // by the class of the status
+    endpoints: ["requests_total", it => it.endpoint],
+    faults: ["faults_total", it => it.kind],
+};
 const GAUGES = ["open_connections", "held_facts", "resident_bytes"];
 
 export class Site {
@@ -50,8 +54,8 @@ export class Site {
 
     /** Adds what counters have grown by since the file before. */
     takeCounters(name, { at, samples }) {
-        const [metric, label] = COUNTERS[name];
-        const after = { at: this.collected, sums: samples.sums(metric, label) };
+        const [metric, keyOf] = COUNTERS[name];
+        const after = { at: this.collected, sums: samples.sums(metric, keyOf) };
         this.rates[name] = rates(this.counted[name] ?? after, after);
         this.counted[name] = after;
         for (const [key, rate] of this.rates[name]) this.book.add(name + key, at, rate);

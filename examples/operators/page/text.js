@@ -34,11 +34,12 @@ export class Samples {
             Object.entries(wanted).every(([key, value]) => it.labels[key] === value))?.value;
     }
 
-    /** The sums of a metric by one of its labels. */
-    sums(name, label) {
+    /** The sums of a metric by a key of the labels. */
+    sums(name, keyOf) {
         const sums = new Map();
         for (const it of this.all(name)) {
-            sums.set(it.labels[label], (sums.get(it.labels[label]) ?? 0) + it.value);
+            const key = keyOf(it.labels);
+            sums.set(key, (sums.get(key) ?? 0) + it.value);
         }
         return sums;
     }
