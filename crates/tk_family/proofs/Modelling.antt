@@ -1,7 +1,7 @@
 -- From the rows of a forest to the finite map and set that contracts see.
 use Rattle.std.proofs.Common.{◌≡◌, ◌≢◌, ◌&&◌, not, inl, inr, Bool, true, false, Option, None, Some}
 use Rattle.std.proofs.Common.{List, [], ap, sym, ◌∙◌, refl, subst, Result, Ok, Err, IfOk, OnOk}
-use Rattle.std.proofs.Common.{OnErr, ◌||◌, Vec, Global}
+use Rattle.std.proofs.Common.{OnErr, IfSome, IfNone, ◌||◌, Vec, Global}
 use Rattle.std.specs.Cmp.{IsEquivalence, eq_by_cmp_equiv, Equal-is, both_ways}
 use Rattle.std.specs.Ordering.{eq_by_cmp}
 use Rattle.std.proofs.lemmas.Bool.{true≢false, cases_Bool, or_left, or_right, or_cases}
@@ -135,6 +135,14 @@ pub used_seen : (m : RowMap) (v : ForestFacts) → seen m ≡ v → (k : TokenId
     → ((b ≡ true) → IsUsed (links_at v) k) × (IsUsed (links_at v) k → (b ≡ true))
 used_seen m v is k b h = subst (λ (f : Links).
     ((b ≡ true) → IsUsed f k) × (IsUsed f k → (b ≡ true))) (links_seen m v is) h
+
+-- a dot whose link uses a token, if there is one
+abbrev pub IsUser : Links → TokenId → Option Dot → Type 0
+IsUser f k o = IfSome o (λ d. use_of (f d) ≡ Some k) × IfNone o (¬ IsUsed f k)
+
+pub user_seen : (m : RowMap) (v : ForestFacts) → seen m ≡ v → (k : TokenId) (o : Option Dot)
+    → IsUser (links_of (table m)) k o → IsUser (links_at v) k o
+user_seen m v is k o h = subst (λ (f : Links). IsUser f k o) (links_seen m v is) h
 
 -- ---- marking a token
 

@@ -107,8 +107,8 @@ pub(crate) fn drop_child(others: &mut BTreeSet<Child>, token: &TokenId, child: D
     others.remove(&key(token, child));
 }
 
-// Returns the child with the lowest dot whose link uses the token.
-fn first_user(others: &BTreeSet<Child>, token: &TokenId) -> Option<Dot>
+/// Returns the child with the lowest dot whose link uses the token.
+pub(crate) fn first_user(others: &BTreeSet<Child>, token: &TokenId) -> Option<Dot>
     ensures { result ≡ first_user (users_in others.now token.now) }
 {
     let (first, last) = span(token);

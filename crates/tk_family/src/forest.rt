@@ -23,6 +23,7 @@ use crate::put::put_within;
 use crate::steps::Steps;
 use crate::take::{take_at, unmark_token};
 use crate::top::Top;
+use crate::user::user_of;
 use std::alloc::{AllocError, Global};
 use std::collections::BTreeSet;
 use std::marker::Model;
@@ -34,7 +35,8 @@ use tk_handle::{Dot, TokenId};
 /// Contracts see a finite map from dots to links, and a finite set of marked tokens.
 ///
 /// No look-up walks: each dot keeps the code that it is under, and each code keeps how many dots of
-/// its family are bad. With n links and marks, `mark`, `unmark`, `top` and `used` cost O(log n).
+/// its family are bad. With n links and marks, `mark`, `unmark`, `top`, `used` and `user` cost
+/// O(log n).
 /// `put` costs O(log n) for each dot that it brings under a code and for each link that names such
 /// a dot. `take` costs O(log n) for each dot that hangs below the taken one.
 #[derive(Drop)]
@@ -73,8 +75,9 @@ impl Forest {
     ghost use Rattle.std.specs.List.{IsDistinct};
     ghost use Rattle.std.specs.Prelude.{◌≡◌, ◌+◌, ◌^◌, ◌<◌, ◌≤◌, ◌↔◌, None, true, OnOk, OnErr};
     ghost use Rattle.std.specs.Prelude.{IfOk, IsOk, IsSome, IsTrue, IsSorted, if◌then◌else◌, false};
+    ghost use Rattle.std.specs.Prelude.{Some, IfNone, IfSome};
     ghost use Rattle.tk_family.specs.Dots.{dot_eq, has};
-    ghost use Rattle.tk_family.specs.Families.{IsUsed};
+    ghost use Rattle.tk_family.specs.Families.{IsUsed, use_of};
     ghost use Rattle.tk_family.specs.ForestFacts.{links_at, marks_at};
     ghost use Rattle.tk_family.specs.Tops.{IsTop, IsRaised};
     ghost use Rattle.tk_handle.specs.Dot.{dot_cmp};
@@ -176,5 +179,14 @@ impl Forest {
         ensures at_most { steps.new ≤ steps.old + 1 }
     {
         is_used(&self.rows, token, steps)
+    }
+
+    /// Returns a dot whose link uses a token, if there is one. If several do, it may be any of
+    /// them.
+    pub fn user(&self, token: TokenId) -> Option<Dot>
+        ensures some { IfSome result (λ d. use_of (links_at self.now d) ≡ Some token) }
+        ensures none { IfNone result (¬ IsUsed (links_at self.now) token) }
+    {
+        user_of(&self.rows, &self.others, &token)
     }
 }

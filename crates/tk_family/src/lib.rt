@@ -33,6 +33,7 @@ mod row;
 mod steps;
 mod take;
 mod top;
+mod user;
 mod write;
 
 pub use forest::Forest;

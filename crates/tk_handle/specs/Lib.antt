@@ -8,6 +8,7 @@
 --                   letter
 --   ClientId        client_text, the id of a client; client_in, the dot that such an id names
 --   ConsentId       consent_text, the id of a consent; consent_in, the dot that such an id names
+--   LoginId         login_text, the id of a login; login_in, the dot that such an id names
 --   Kind            kind_number, the number of a kind; kind, a kind in bytes; is_code, is_access
 --                   and is_refresh
 --   TokenId         token_cmp, the order of tokens; token, the name of a token in bytes
@@ -21,6 +22,7 @@ pub mod DotFields
 pub mod DotText
 pub mod Handle
 pub mod Kind
+pub mod LoginId
 pub mod Moment
 pub mod Ranges
 pub mod SortedEntries

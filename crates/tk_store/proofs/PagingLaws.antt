@@ -22,11 +22,11 @@ use Rattle.tk_store.proofs.FactSetLaws.{tied}
 use Rattle.tk_handle.proofs.TestLaws.{and, both}
 use Rattle.std.proofs.lemmas.Option.{none-some as none_is_not_some, same_Some as some_injective}
 
-abbrev Entries : Type 0
+abbrev pub Entries : Type 0
 Entries = List (Dot × Slot)
 
 -- a slot with its dot is an element of a list
-abbrev IsIn : Dot → Slot → Entries → Type 0
+abbrev pub IsIn : Dot → Slot → Entries → Type 0
 IsIn d b [] = ⊥
 IsIn d b (f ∷ fs) = ((f.0 ≡ d) × (f.1 ≡ b)) ⊎ IsIn d b fs
 
@@ -56,7 +56,7 @@ in_kept p (f ∷ fs) d b (inr more) passes =
       | false ↦ in_kept p fs d b more passes
     ]
 
-in_all : (R : Slots) (fs : Entries) (d : Dot) (b : Slot) → IsIn d b fs → AllBelow R fs
+pub in_all : (R : Slots) (fs : Entries) (d : Dot) (b : Slot) → IsIn d b fs → AllBelow R fs
     → SlotBelow (Some b) (sets.get R d)
 in_all R [] d b h a = absurd h
 in_all R (f ∷ fs) d b (inl here) a = moved here.0 here.1 a.0
@@ -111,8 +111,8 @@ last_after f g fs = ap (slice_get (f.0 ∷ g.0 ∷ map dot_of fs)) (step (length
     step : (n : ℕ) → suc (suc n) - 1 ≡ suc (suc n - 1)
     step n = omega arith
 
-in_page : (n : ℕ) (fs : Entries) (d : Dot) (b : Slot) → T (sets.is_sorted dot_cmp fs) → IsIn d b fs
-    → 0 < n → IsIn d b (take n fs) ⊎ (is_above (last_dot (take n fs)) (d, b) ≡ true)
+pub in_page : (n : ℕ) (fs : Entries) (d : Dot) (b : Slot) → T (sets.is_sorted dot_cmp fs)
+    → IsIn d b fs → 0 < n → IsIn d b (take n fs) ⊎ (is_above (last_dot (take n fs)) (d, b) ≡ true)
 in_page zero fs d b s h some = absurd (omega arith)
 in_page (suc n) [] d b s h some = absurd h
 in_page (suc n) (f ∷ fs) d b s (inl here) some = inl (inl here)
@@ -127,7 +127,7 @@ in_page (suc (suc n)) (f ∷ g ∷ fs) d b s (inr more) some =
 
 -- ---- all pages
 
-in_beyond : (S : Slots) (v : Vector) (after : Option Dot) (d : Dot) (b : Slot)
+pub in_beyond : (S : Slots) (v : Vector) (after : Option Dot) (d : Dot) (b : Slot)
     → sets.get S d ≡ Some b → is_beyond v (d, b) ≡ true → is_above after (d, b) ≡ true
     → IsIn d b (beyond S v after)
 in_beyond S v after d b known free past =
@@ -135,24 +135,24 @@ in_beyond S v after d b known free past =
     (in_kept (is_above after) (sets.entries S) d b
     (in_found (sets.entries S) d b (sym (sets.get-entries S d) ∙ known)) past) free
 
-rises : (S : Slots) (v : Vector) (after : Option Dot)
+pub rises : (S : Slots) (v : Vector) (after : Option Dot)
     → T (sets.is_sorted dot_cmp (beyond S v after))
 rises S v after = sorted_kept (is_beyond v) (above S after)
     (sorted_kept (is_above after) (sets.entries S) (sets.entries_sorted S))
 
-take_whole : (n : ℕ) (fs : Entries) → length fs ≤ n → take n fs ≡ fs
+pub take_whole : (n : ℕ) (fs : Entries) → length fs ≤ n → take n fs ≡ fs
 take_whole zero [] h = refl
 take_whole (suc n) [] h = refl
 take_whole zero (f ∷ fs) h = absurd (omega arith)
 take_whole (suc n) (f ∷ fs) h = ap (λ l. f ∷ l) (take_whole n fs (omega arith))
 
 -- what is above a slot is a slot
-above_known : (b : Slot) (o : Option Slot) → SlotBelow (Some b) o → (c : Slot) × (o ≡ Some c)
+pub above_known : (b : Slot) (o : Option Slot) → SlotBelow (Some b) o → (c : Slot) × (o ≡ Some c)
 above_known b None h = absurd h
 above_known b (Some c) h = (c, refl)
 
 -- whether a slot is above a cursor depends on the dot alone
-above_any : (after : Option Dot) (d : Dot) (b c : Slot) → is_above after (d, b) ≡ true
+pub above_any : (after : Option Dot) (d : Dot) (b c : Slot) → is_above after (d, b) ≡ true
     → is_above after (d, c) ≡ true
 above_any None d b c h = refl
 above_any (Some e) d b c h = h
@@ -179,7 +179,7 @@ taken limit v R some (U ∷ later) after S took d b known free past =
     grown : SlotBelow (Some b) (sets.get U d)
     grown = subst (λ o. SlotBelow o (sets.get U d)) known (took.2 d)
 
-covered : (v : Vector) (d : Dot) (b : Slot) → is_beyond v (d, b) ≡ false → Covers v d
+pub covered : (v : Vector) (d : Dot) (b : Slot) → is_beyond v (d, b) ≡ false → Covers v d
 covered v d b h = grind (arith, nat_tests)
 
 pub complete : PagingCompletes

@@ -1,4 +1,4 @@
-use Rattle.std.proofs.Common.{sym, ap, ◌∙◌, ◌≡◌, false, is_some, Result, Ok, Err, OnOk, OnErr}
+use Rattle.std.proofs.Common.{sym, ap, ◌∙◌, ◌≡◌, Result, Ok, Err, OnOk, OnErr}
 use Rattle.std.proofs.Common.{arith}
 use Rattle.std.specs.FinMap as map
 use Rattle.std.specs.Option.{option_copied}
