@@ -1,6 +1,7 @@
--- The consent that is found for a scope is the live consent with the lowest dot. Key result:
---   least_consent   the consent that is found is the lowest, or there is no consent
-use Rattle.std.proofs.Common.{◌≡◌, ◌≢◌, Bool, true, false, T, not, ℕ, List, [], ◌∷◌, Option, Some}
+-- The consent that is found for a scope is the live consent with the lowest dot. Key results:
+--   found_in, none_passes   a fact that is found among those of a set, or none
+--   least_consent           the consent that is found is the lowest, or there is no consent
+use Rattle.std.proofs.Common.{◌≡◌, ◌≢◌, Bool, true, T, not, ℕ, List, [], ◌∷◌, Option, Some}
 use Rattle.std.proofs.Common.{None, refl, sym, ap, subst, ◌∙◌, inl, inr}
 use Rattle.std.proofs.lemmas.Bool.{true≢false, cases_Bool, cond-true, cond-false, and_parts}
 use Rattle.std.proofs.lemmas.Bool.{and_from}
@@ -67,7 +68,7 @@ equal_not_less : ¬ (Equal ≡ Less)
 equal_not_less h = cc
 
 -- a fact that is found in a list of held facts is held, and passes
-found_in : (p : Dot × Body → Bool) (F : FactSet) (es : Facts) (f : Dot × Body) → AllIn F es
+pub found_in : (p : Dot × Body → Bool) (F : FactSet) (es : Facts) (f : Dot × Body) → AllIn F es
     → list.find p es ≡ Some f → (map.get F f.0 ≡ Some f.1) × (p f ≡ true)
 found_in p F [] f all h = absurd (none_is_not_some f h)
 found_in p F (e ∷ es) f all h = elim (cases_Bool (p e)) [
@@ -129,7 +130,8 @@ first_least p (e ∷ es) f sorted h q b at passes = elim (cases_Bool (p e)) [
 ]
 
 -- if no fact is found, no fact passes
-none_passes : (p : Dot × Body → Bool) (es : Facts) → list.find p es ≡ None → (q : Dot) (b : Body)
+pub none_passes : (p : Dot × Body → Bool) (es : Facts) → list.find p es ≡ None → (q : Dot)
+    (b : Body)
     → map.find dot_cmp q es ≡ Some b → p (q, b) ≡ true → ⊥
 none_passes p [] h q b at passes = none_is_not_some b at
 none_passes p (e ∷ es) h q b at passes = elim (cases_Bool (p e)) [

@@ -3,7 +3,7 @@
 --   give_row       the table after a consent was given
 --   withdraw_row   the table after a consent was withdrawn
 use Rattle.std.proofs.Common.{◌≡◌, ℕ, Bool, true, false, ◌&&◌, ◌||◌, not, cond, List, Option, Some}
-use Rattle.std.proofs.Common.{None, refl, sym, ap, ◌∙◌}
+use Rattle.std.proofs.Common.{None, refl, sym, ap, subst, ◌∙◌}
 use Rattle.std.proofs.lemmas.Bool.{and_parts}
 use Rattle.std.specs.BTreeSet.{BTreeSet, contains}
 use Rattle.std.specs.FinMap as map
@@ -65,17 +65,21 @@ unlisted F d key k before after h r = r ∙ removed (eq_by_cmp consent_cmp key k
 pub give_row : (G : FactSet) (d client : Dot) (subject : List ℕ) (ws : BTreeSet Dot)
     (t u : BTreeSet ConsentKey)
     → option_map change_in (map.get G d) ≡ Some (change.Give client subject)
-    → IsWithdrawals (map.remove G d) ws → IsConsents (map.remove G d) t → IsDot d
+    → IsWithdrawals (map.remove G d) ws → IsConsents (map.remove G d) t → IsDot d → IsDot client
     → ((k : ConsentKey)
     → contains consent_cmp u k
     ≡ ((eq_by_cmp consent_cmp (consent_key client subject d) k && not (contains dot_cmp ws d))
     || contains consent_cmp t k))
     → IsConsents G u
-give_row G d client subject ws t u h w i here r =
+give_row G d client subject ws t u h w i here there r =
     consents_by G d (change.Give client subject) t u h i
     (ranged_on t u d
-    (λ e s. gives_to e s (change.Give client subject) && not (contains dot_cmp ws d)) here i.ranged
-    own)
+    (λ e s. gives_to e s (change.Give client subject) && not (contains dot_cmp ws d)) here
+    (λ e s new. subst (λ (x : Dot). IsDot x)
+    (same_dot-true client e (and_parts (is_same_dot client e) (bytes_eq subject s)
+    (and_parts (gives_to e s (change.Give client subject)) (not (contains dot_cmp ws d)) new).0).0)
+    there)
+    i.ranged own)
     (λ e s q. own e s q
     ∙ ap (λ x. x || is_listed t e s q)
     (moved (gives_to e s (change.Give client subject)) (is_same_dot d q) (contains dot_cmp ws d)

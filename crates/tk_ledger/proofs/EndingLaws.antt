@@ -1,7 +1,7 @@
 -- One more fact stops the token that it revokes, the codes of the subject that it signs out, and
 -- tokens at dots that it brings under a code, but no other. Key result:
 --   marks_by_one   the marks after one more fact
-use Rattle.std.proofs.Common.{◌≡◌, ◌≢◌, ◌≤◌, ◌⊎◌, inl, inr, true, Option, Some, None, List, [], ◌∷◌}
+use Rattle.std.proofs.Common.{◌≡◌, ◌≢◌, ◌≤◌, ◌⊎◌, inl, inr, true, Option, Some, None, []}
 use Rattle.std.proofs.Common.{refl, sym, ap, subst, ◌∙◌}
 use Rattle.std.proofs.lemmas.Bool.{or_cases, or_left, or_right}
 use Rattle.std.specs.Option.{option_and_then}
@@ -11,7 +11,7 @@ use Rattle.tk_handle.specs.declared.kind.Kind.TheVariants as kind
 use Rattle.tk_handle.specs.declared.token_id.TokenId.{TokenId}
 use Rattle.tk_family.specs.declared.link.Link.{Link}
 use Rattle.tk_family.specs.declared.link.Link.TheVariants.{Code}
-use Rattle.tk_family.specs.Families.{Links, IsUnder, IsPath}
+use Rattle.tk_family.specs.Families.{IsUnder}
 use Rattle.tk_family.specs.Tops.{IsRaised}
 use Rattle.tk_family.specs.Walks.{code_of}
 use Rattle.tk_family.proofs.FamilyLaws.{IsUnder-within, IsUnder-one}

@@ -93,7 +93,7 @@ pub index_give : (G : FactSet) (d client : Dot) (subject : List ℕ) (x : Index)
     (u : BTreeSet ConsentKey)
     → option_map change_in (map.get G d) ≡ Some (change.Give client subject)
     → IsIndexed (map.remove G d) x
-    → IsDot d
+    → IsDot d → IsDot client
     → ((k : ConsentKey)
     → contains consent_cmp u k
     ≡ ((eq_by_cmp consent_cmp (consent_key client subject d) k
@@ -110,12 +110,12 @@ pub index_give : (G : FactSet) (d client : Dot) (subject : List ℕ) (x : Index)
       reuses = x.reuses;
       forest = x.forest;
     })
-index_give G d client subject x u h i here r =
+index_give G d client subject x u h i here there r =
     let y = change.Give client subject in
     record {
       clients_are = clients_by G d y x.clients x.clients h i.clients_are (λ q. refl) (λ q. refl);
       consents_are = give_row G d client subject x.withdrawn x.consents u h i.withdrawn_are
-          i.consents_are here r;
+          i.consents_are here there r;
       withdrawn_are = withdrawals_by G d y x.withdrawn x.withdrawn h i.withdrawn_are (λ q. refl);
       revocations_are = same_revocations G d y x.revocations h (λ _ _ _. refl) i.revocations_are;
       codes_are = same_codes G d y x.codes h refl i.codes_are;

@@ -78,8 +78,17 @@ pub consent_tied : (c e : Dot) (g h : List ℕ) (d q : Dot)
     → eq_by_cmp consent_cmp (consent_key c g d) (consent_key e h q)
     ≡ (is_same_dot c e && (bytes_eq g h && is_same_dot d q))
 consent_tied c e g h d q =
-    both_tied (dot_cmp c e) _
-    ∙ ap (λ x. is_eq (dot_cmp c e) && x) (both_tied (slice_cmp nat_cmp g h) (dot_cmp d q))
-    ∙ ap (λ x. x && (is_eq (slice_cmp nat_cmp g h) && is_eq (dot_cmp d q))) (at_is_same c e)
-    ∙ ap (λ x. is_same_dot c e && (x && is_eq (dot_cmp d q))) (bytes_tied g h)
-    ∙ ap (λ x. is_same_dot c e && (bytes_eq g h && x)) (at_is_same d q)
+    both_tied (slice_cmp nat_cmp g h) _
+    ∙ ap (λ x. is_eq (slice_cmp nat_cmp g h) && x) (both_tied (dot_cmp d q) (dot_cmp c e))
+    ∙ ap (λ x. x && (is_eq (dot_cmp d q) && is_eq (dot_cmp c e))) (bytes_tied g h)
+    ∙ ap (λ x. bytes_eq g h && (x && is_eq (dot_cmp c e))) (at_is_same d q)
+    ∙ ap (λ x. bytes_eq g h && (is_same_dot d q && x)) (at_is_same c e)
+    ∙ last_first (bytes_eq g h) (is_same_dot d q) (is_same_dot c e)
+  where
+    last_first : (a b c : Bool) → (a && (b && c)) ≡ (c && (a && b))
+    last_first true true true = refl
+    last_first true true false = refl
+    last_first true false true = refl
+    last_first true false false = refl
+    last_first false b true = refl
+    last_first false b false = refl

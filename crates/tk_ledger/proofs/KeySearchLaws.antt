@@ -2,13 +2,14 @@
 -- results:
 --   among                       a list has the key
 --   some_key, any_key           a list with a key has a first one, and the other way round
+--   in_filter, of_filter        the keys that a test keeps
 --   found_passes, none_passes   a key that is found is in the list and passes both tests; if no key
 --                               is found, no key of the list passes both
 --   first_least                 no key that passes is below the first that does
 use Rattle.std.proofs.Common.{◌≡◌, ◌≢◌, ◌⊎◌, inl, inr, Bool, true, false, ◌&&◌, ◌||◌, List, [], ◌∷◌}
 use Rattle.std.proofs.Common.{filter, Some, None, refl, sym, ap, subst, ◌∙◌}
 use Rattle.std.proofs.lemmas.Bool.{true≢false, cases_Bool, cond-true, cond-false, or_cases, or_left}
-use Rattle.std.proofs.lemmas.Bool.{and_parts, and_from}
+use Rattle.std.proofs.lemmas.Bool.{or_right, and_parts, and_from}
 use Rattle.std.proofs.lemmas.Cmp.{tied_itself}
 use Rattle.std.specs.BTreeMap.{is_at}
 use Rattle.std.specs.Cmp.{IsTotalOrder}
@@ -45,6 +46,43 @@ module _ {K : Type 0} (cmp : K → K → Ordering) where
   -- the list has the key
   abbrev pub among : K → List K → Bool
   among k ks = list_any (is_at (cmp k)) ks
+
+module _ {K : Type 0} (cmp : K → K → Ordering)
+    (tied_same : (a b : K) → eq_by_cmp cmp a b ≡ true → a ≡ b) (c : K → Bool) where
+  -- a key that is kept is among the keys that are kept, and the other way round
+  pub in_filter : (k : K) (ks : List K) → among cmp k ks ≡ true → c k ≡ true
+      → among cmp k (filter c ks) ≡ true
+  in_filter k [] at kept = absurd (true≢false (sym at))
+  in_filter k (x ∷ xs) at kept = elim (or_cases (is_at (cmp k) x) (among cmp k xs) at) [
+    | inl tie ↦
+        let here : c x ≡ true = ap c (sym (tied_same k x tie)) ∙ kept in
+        ap (among cmp k) (cond-true (c x) (x ∷ filter c xs) (filter c xs) here)
+        ∙ or_left (is_at (cmp k) x) (among cmp k (filter c xs)) tie
+    | inr more ↦ elim (cases_Bool (c x)) [
+      | inl here ↦ ap (among cmp k) (cond-true (c x) (x ∷ filter c xs) (filter c xs) here)
+          ∙ or_right (is_at (cmp k) x) (among cmp k (filter c xs)) (in_filter k xs more kept)
+      | inr left ↦ ap (among cmp k) (cond-false (c x) (x ∷ filter c xs) (filter c xs) left)
+          ∙ in_filter k xs more kept
+    ]
+  ]
+
+  pub of_filter : (k : K) (ks : List K) → among cmp k (filter c ks) ≡ true
+      → (among cmp k ks ≡ true) × (c k ≡ true)
+  of_filter k [] h = absurd (true≢false (sym h))
+  of_filter k (x ∷ xs) h = elim (cases_Bool (c x)) [
+    | inl here ↦ elim (or_cases (is_at (cmp k) x) (among cmp k (filter c xs))
+        (sym (ap (among cmp k) (cond-true (c x) (x ∷ filter c xs) (filter c xs) here)) ∙ h)) [
+          | inl tie ↦ (
+            or_left (is_at (cmp k) x) (among cmp k xs) tie,
+            ap c (tied_same k x tie) ∙ here,
+          )
+          | inr more ↦ let r : (among cmp k xs ≡ true) × (c k ≡ true) = of_filter k xs more in
+              (or_right (is_at (cmp k) x) (among cmp k xs) r.0, r.1)
+        ]
+    | inr left ↦ let r : (among cmp k xs ≡ true) × (c k ≡ true) = of_filter k xs
+        (sym (ap (among cmp k) (cond-false (c x) (x ∷ filter c xs) (filter c xs) left)) ∙ h) in
+        (or_right (is_at (cmp k) x) (among cmp k xs) r.0, r.1)
+  ]
 
 module _ {K : Type 0} (cmp : K → K → Ordering) (total : IsTotalOrder cmp)
     (tied_same : (a b : K) → eq_by_cmp cmp a b ≡ true → a ≡ b) (p c : K → Bool) where

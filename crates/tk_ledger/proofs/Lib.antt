@@ -4,6 +4,7 @@ pub mod ClientLaws
 pub mod ClientWalkLaws
 pub mod ConsentLaws
 pub mod ConsentTableLaws
+pub mod DotWalkLaws
 pub mod EndingLaws
 pub mod FamilyEnds
 pub mod ForestLaws
@@ -11,6 +12,8 @@ pub mod HereLaws
 pub mod IndexLaws
 pub mod KeyLaws
 pub mod KeySearchLaws
+pub mod KeyWalkLaws
+pub mod LoginLaws
 pub mod LossLaws
 pub mod OutLaws
 pub mod QuietLoss
@@ -30,6 +33,7 @@ pub mod StatusLaws
 pub mod StoringLaws
 pub mod SubjectKeyLaws
 pub mod SubjectTableLaws
+pub mod SubjectWalkLaws
 pub mod TableChangeLaws
 pub mod TableLaws
 pub mod TableLossLaws

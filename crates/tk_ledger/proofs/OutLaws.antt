@@ -104,6 +104,5 @@ tied_out F G d b subject moment first codes x z m held is t listed left woke =
         inl (and_from (nat_le first moment)
         (has (dots_of (codes_started codes subject first moment)) k.dot)
         (le-leb first moment (omega (arith, above, below)))
-        (in_codes codes subject first moment r.issued.start k.dot above below
-        (sym (ap (λ s. contains code_cmp codes (code_key s r.issued.start k.dot)) same) ∙ key.0)
-        key.1))
+        (in_codes G codes listed subject first moment r.issued.start k.dot above below
+        (sym (ap (λ s. contains code_cmp codes (code_key s r.issued.start k.dot)) same) ∙ key)))

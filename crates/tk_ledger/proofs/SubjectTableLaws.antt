@@ -12,7 +12,7 @@ use Rattle.std.specs.BTreeSet.{BTreeSet, contains}
 use Rattle.std.specs.FinMap as map
 use Rattle.tk_handle.specs.declared.dot.Dot.{Dot}
 use Rattle.tk_handle.specs.Dot.{IsDot}
-use Rattle.tk_handle.specs.Ranges.{greatest_moment}
+use Rattle.tk_handle.specs.Ranges.{IsMoment, greatest_moment}
 use Rattle.tk_fact.specs.declared.body.Body.{Body}
 use Rattle.tk_fact.specs.declared.body.Body.TheVariants.{CodeIssued, SubjectOut}
 use Rattle.tk_fact.specs.declared.subject_out.SubjectOut as out
@@ -87,7 +87,8 @@ moment-change body f h = absurd (none_is_not_some f h)
 -- each code that is listed is at a dot in range
 abbrev pub RangedCodes : BTreeSet CodeKey → Type 0
 RangedCodes t =
-    (subject : List ℕ) (start : ℕ) (d : Dot) → is_listed_code t subject start d ≡ true → IsDot d
+    (subject : List ℕ) (start : ℕ) (d : Dot) → is_listed_code t subject start d ≡ true
+    → IsDot d × IsMoment start
 
 pub issued_on : (F G : FactSet) (d : Dot) (b : Body) (subject : List ℕ) (start : ℕ) (q : Dot)
     (x : Bool)
@@ -121,16 +122,16 @@ codes_on F G d b t u m i ranged l = record {
 
 -- codes that are newly listed are in range if their dot is
 pub codes_ranged : (t u : BTreeSet CodeKey) (d : Dot) (n : List ℕ → ℕ → Bool) → IsDot d
-    → RangedCodes t
+    → ((subject : List ℕ) (start : ℕ) → n subject start ≡ true → IsMoment start) → RangedCodes t
     → ((subject : List ℕ) (start : ℕ) (q : Dot)
     → is_listed_code u subject start q
     ≡ ((n subject start && is_same_dot d q) || is_listed_code t subject start q))
     → RangedCodes u
-codes_ranged t u d n here before l subject start q h = elim (or_cases
+codes_ranged t u d n here early before l subject start q h = elim (or_cases
     (n subject start && is_same_dot d q) (is_listed_code t subject start q)
     (sym (l subject start q) ∙ h)) [
-      | inl new ↦ subst (λ (x : Dot). IsDot x)
-          (same_dot-true d q (and_parts (n subject start) (is_same_dot d q) new).1) here
+      | inl new ↦ let p = and_parts (n subject start) (is_same_dot d q) new in
+          (subst (λ (x : Dot). IsDot x) (same_dot-true d q p.1) here, early subject start p.0)
       | inr old ↦ before subject start q old
     ]
 

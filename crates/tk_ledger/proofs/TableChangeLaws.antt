@@ -4,6 +4,8 @@
 --   revoke_row, code_row, code_dropped, out_row, reuse_row   a table after one more key
 use Rattle.std.proofs.Common.{◌≡◌, ℕ, ◌≤◌, Bool, true, false, ◌&&◌, ◌||◌, not, ◌==◌, cond, List}
 use Rattle.std.proofs.Common.{Some, None, refl, sym, ap, subst, ◌∙◌}
+use Rattle.std.proofs.lemmas.Bool.{and_parts, eqb-true}
+use Rattle.tk_handle.specs.Ranges.{IsMoment}
 use Rattle.std.specs.Option.{option_map}
 use Rattle.std.specs.Ordering.{eq_by_cmp}
 use Rattle.std.specs.Str.{bytes_eq}
@@ -256,14 +258,16 @@ reuse_row G d j t u h i here r = reuses_by G d (change.Mark j) t u h i
 -- the table with the key of a code
 pub code_row : (G : FactSet) (d : Dot) (subject : List ℕ) (start : ℕ) (t u : BTreeSet CodeKey)
     → option_map change_in (map.get G d) ≡ Some (change.Issue subject start)
-    → IsCodes (map.remove G d) t → IsDot d
+    → IsCodes (map.remove G d) t → IsDot d → IsMoment start
     → ((k : CodeKey)
     → contains code_cmp u k
     ≡ cond (eq_by_cmp code_cmp (code_key subject start d) k) true (contains code_cmp t k))
     → IsCodes G u
-code_row G d subject start t u h i here r =
+code_row G d subject start t u h i here early r =
     codes_by G d (change.Issue subject start) t u h i
-    (codes_ranged t u d (λ g n. bytes_eq subject g && (start == n)) here i.ranged own)
+    (codes_ranged t u d (λ g n. bytes_eq subject g && (start == n)) here
+    (λ g n new. subst (λ (m : ℕ). IsMoment m)
+    (eqb-true start n (and_parts (bytes_eq subject g) (start == n) new).1) early) i.ranged own)
     (λ g n q. own g n q
     ∙ ap (λ x. ((bytes_eq subject g && (start == n)) && x) || is_listed_code t g n q)
     (sym (at_is_same d q)))

@@ -151,7 +151,8 @@ withdrawn_on F G d b q m = ap (λ x. x || is_withdrawn F q) (sym (withdraws-chan
 -- each dot that is listed is in range
 abbrev pub Ranged : BTreeSet ConsentKey → Type 0
 Ranged t =
-    (client : Dot) (subject : List ℕ) (d : Dot) → is_listed t client subject d ≡ true → IsDot d
+    (client : Dot) (subject : List ℕ) (d : Dot) → is_listed t client subject d ≡ true
+    → IsDot d × IsDot client
 
 -- a consent is live if it was given, now or before, and is not withdrawn, now or before
 live_on : (a f w v x given gone : Bool) → x ≡ (f && not w) → (a || f) ≡ given → (v || w) ≡ gone
@@ -185,16 +186,17 @@ consents_on F G d b t u m i ranged l = record {
 }
 
 -- dots that are newly listed are in range if their dot is
-pub ranged_on : (t u : BTreeSet ConsentKey) (d : Dot) (n : Dot → List ℕ → Bool) → IsDot d → Ranged t
+pub ranged_on : (t u : BTreeSet ConsentKey) (d : Dot) (n : Dot → List ℕ → Bool) → IsDot d
+    → ((client : Dot) (subject : List ℕ) → n client subject ≡ true → IsDot client) → Ranged t
     → ((client : Dot) (subject : List ℕ) (q : Dot)
     → is_listed u client subject q
     ≡ ((n client subject && is_same_dot d q) || is_listed t client subject q))
     → Ranged u
-ranged_on t u d n here before l client subject q h = elim (or_cases
+ranged_on t u d n here to before l client subject q h = elim (or_cases
     (n client subject && is_same_dot d q) (is_listed t client subject q)
     (sym (l client subject q) ∙ h)) [
-      | inl new ↦ subst (λ (x : Dot). IsDot x)
-          (same_dot-true d q (and_parts (n client subject) (is_same_dot d q) new).1) here
+      | inl new ↦ let p = and_parts (n client subject) (is_same_dot d q) new in
+          (subst (λ (x : Dot). IsDot x) (same_dot-true d q p.1) here, to client subject p.0)
       | inr old ↦ before client subject q old
     ]
 

@@ -8,7 +8,6 @@ use Rattle.tk_family.specs.Families.{IsBad, IsDead, MarksWithin}
 use Rattle.tk_family.proofs.FamilyLaws.{IsBad-within, IsDead-within}
 use Rattle.tk_fact.specs.declared.body.Body.TheVariants as bodies
 use Rattle.tk_fact.specs.declared.body.Body.TheVariants.{TokenRevoked, ReuseSeen}
-use Rattle.tk_fact.specs.declared.code_issued.CodeIssued as issued
 use Rattle.tk_store.specs.FactSet.{FactSet, IsSubset}
 use Rattle.tk_ledger.specs.Tokens.{links_in, issued_in, IsEnded, IsOut, IsStopped, IsMarked}
 use Rattle.tk_ledger.specs.SignOuts.{IsSignedOut}

@@ -1,5 +1,6 @@
 -- The tests of a fact set decide the relations over the body at each dot. Key results:
 --   uses_agree                                 a fact uses what its link uses
+--   use_at, use_from                           the token that the fact at a dot uses
 --   is_used-sound .. is_dead-complete          the tests decide the relations
 use Rattle.std.proofs.Common.{◌≡◌, inl, inr, ℕ, ◌≤◌, true, ◌&&◌, List, Option, Some, None, refl}
 use Rattle.std.proofs.Common.{sym, ap, ◌∙◌}
@@ -61,11 +62,11 @@ pub links_at : (F : FactSet) (d : Dot) (b : Body) → map.get F d ≡ Some b
     → links_in (map.get F) d ≡ link_of b
 links_at F d b h = ap (option_and_then link_of) h
 
-use_at : (F : FactSet) (d : Dot) (b : Body) (k : TokenId) → map.get F d ≡ Some b
+pub use_at : (F : FactSet) (d : Dot) (b : Body) (k : TokenId) → map.get F d ≡ Some b
     → use_of (link_of b) ≡ Some k → use_of (links_in (map.get F) d) ≡ Some k
 use_at F d b k held h = ap use_of (links_at F d b held) ∙ h
 
-use_from : (o : Option Body) (k : TokenId) → use_of (option_and_then link_of o) ≡ Some k
+pub use_from : (o : Option Body) (k : TokenId) → use_of (option_and_then link_of o) ≡ Some k
     → (b : Body) × (o ≡ Some b) × (use_of (link_of b) ≡ Some k)
 use_from None k h = absurd (nothing h)
   where

@@ -3,12 +3,14 @@
 --   consent_cmp, consent_key, key_of   the keys of consents, and their order
 --   is_live_from                       a live consent to a client, by the digest of its subject
 --   is_key_at                          a key is that of the consent at a dot
+--   consents_above                     the keys of the consents of one subject above a dot
 --   revocation_cmp, revocation_key     the keys of revocations, and their order
 --   revocation_keys, has_revocation    the keys of one token and client, and whether there is one
 --   IsClients, IsConsents, IsWithdrawals, IsRevocations
 --                                      each table has what the set has
 --   code_cmp, code_key                 the keys of codes, and their order
 --   out_cmp, out_key                   the keys of sign-outs, and their order
+--   codes_above                        the keys of the codes of one subject above a dot
 --   codes_started, outs_of             the keys of one subject
 --   dots_of                            the dots of codes
 --   IsCodes, IsOuts                    the tables of codes and of sign-outs have what the set has
@@ -32,7 +34,9 @@ use Rattle.std.specs.Prelude.{
   ◌&&◌,
   not,
   ◌==◌,
+  nat_le,
   List,
+  filter,
   Option,
   Some,
   None,
@@ -41,7 +45,8 @@ use Rattle.std.specs.Prelude.{
 use Rattle.std.specs.List.{list_any}
 use Rattle.std.specs.Ordering.{nat_cmp, ordering_then, eq_by_cmp}
 use Rattle.std.specs.declared.cmp.Ordering.{Ordering}
-use Rattle.std.specs.declared.ops.Bound.TheVariants.{Included}
+use Rattle.std.specs.declared.ops.Bound.{Bound}
+use Rattle.std.specs.declared.ops.Bound.TheVariants.{Included, Excluded}
 use Rattle.std.specs.Cmp.Lexicographic.{slice_cmp}
 use Rattle.std.specs.Str.{bytes_eq}
 use Rattle.std.specs.BTreeMap as rows
@@ -55,7 +60,7 @@ use Rattle.tk_handle.specs.declared.dot.Dot.{Dot}
 use Rattle.tk_handle.specs.declared.token_id.TokenId.{TokenId}
 use Rattle.tk_handle.specs.Dot.{IsDot, dot_cmp, least_dot, greatest_dot}
 use Rattle.tk_handle.specs.Kind.{kind_number}
-use Rattle.tk_handle.specs.Ranges.{greatest_moment}
+use Rattle.tk_handle.specs.Ranges.{IsMoment, greatest_moment}
 use Rattle.tk_family.specs.declared.link.Link.{Link}
 use Rattle.tk_family.specs.Families.{IsUnder, grant_at}
 use Rattle.tk_family.specs.ForestFacts.{ForestFacts}
@@ -103,15 +108,15 @@ pub record IsClients (F : FactSet) (t : BTreeMap Dot ClientRow) : Type 0 where
 
 -- ---- consents
 
--- the order of consents: by client, then by the digest of the subject, then by dot
+-- the order of consents: by the digest of the subject, then by dot, then by client
 abbrev pub consent_cmp : ConsentKey → ConsentKey → Ordering
 consent_cmp a b =
-    ordering_then (dot_cmp a.client b.client) (ordering_then (slice_cmp nat_cmp a.subject b.subject)
-    (dot_cmp a.consent b.consent))
+    ordering_then (slice_cmp nat_cmp a.subject b.subject)
+    (ordering_then (dot_cmp a.consent b.consent) (dot_cmp a.client b.client))
 
 -- the key of a consent
 abbrev pub consent_key : Dot → List ℕ → Dot → ConsentKey
-consent_key client subject d = record { client = client; subject = subject; consent = d }
+consent_key client subject d = record { subject = subject; consent = d; client = client }
 
 -- the key of the consent that was given at the dot
 abbrev pub key_of : Dot → given.ConsentGiven → ConsentKey
@@ -137,18 +142,25 @@ is_key_at F d k = is_at d k.consent && is_from k.client k.subject (consent_at F 
 abbrev pub is_listed : BTreeSet ConsentKey → Dot → List ℕ → Dot → Bool
 is_listed t client subject d = keys.contains consent_cmp t (consent_key client subject d)
 
--- the keys that the table has of the consents that a subject with the digest gave the client
-abbrev pub span_of : BTreeSet ConsentKey → Dot → List ℕ → List ConsentKey
-span_of t client subject =
-    keys.keys_between consent_cmp (Included (consent_key client subject least_dot))
-    (Included (consent_key client subject greatest_dot)) t
+-- where the keys of the consents begin that a subject with the digest gave above a dot, or above
+-- none
+abbrev pub consent_start : List ℕ → Option Dot → Bound ConsentKey
+consent_start subject None = Included (consent_key least_dot subject least_dot)
+consent_start subject (Some d) = Excluded (consent_key greatest_dot subject d)
+
+-- the keys that the table has of the consents that a subject with the digest gave above a dot, or
+-- above none
+abbrev pub consents_above : BTreeSet ConsentKey → List ℕ → Option Dot → List ConsentKey
+consents_above t subject after =
+    keys.keys_between consent_cmp (consent_start subject after)
+    (Included (consent_key greatest_dot subject greatest_dot)) t
 
 -- the table has each consent that was given and not withdrawn, and no other
 pub record IsConsents (F : FactSet) (t : BTreeSet ConsentKey) : Type 0 where
   pub listed : (client : Dot) (subject : List ℕ) (d : Dot)
       → is_listed t client subject d ≡ is_live_from F client subject d
   pub ranged : (client : Dot) (subject : List ℕ) (d : Dot) → is_listed t client subject d ≡ true
-      → IsDot d
+      → IsDot d × IsDot client
 
 -- the table has each consent that was withdrawn, and no other
 abbrev pub IsWithdrawals : FactSet → BTreeSet Dot → Type 0
@@ -199,21 +211,35 @@ pub record IsRevocations (F : FactSet) (t : BTreeSet Revocation) : Type 0 where
 
 -- ---- codes and sign-outs
 
--- the order of codes: by the digest of the subject, then by start, then by dot
+-- the order of codes: by the digest of the subject, then by dot, then by start
 abbrev pub code_cmp : CodeKey → CodeKey → Ordering
 code_cmp a b =
     ordering_then (slice_cmp nat_cmp a.subject b.subject)
-    (ordering_then (nat_cmp a.start b.start) (dot_cmp a.code b.code))
+    (ordering_then (dot_cmp a.code b.code) (nat_cmp a.start b.start))
 
 -- the key of a code
 abbrev pub code_key : List ℕ → ℕ → Dot → CodeKey
-code_key subject start d = record { subject = subject; start = start; code = d }
+code_key subject start d = record { subject = subject; code = d; start = start }
+
+-- where the keys of the codes of a subject with the digest begin that are above a dot, or above
+-- none
+abbrev pub code_start : List ℕ → Option Dot → Bound CodeKey
+code_start subject None = Included (code_key subject 0 least_dot)
+code_start subject (Some d) = Excluded (code_key subject greatest_moment d)
+
+-- the keys of the codes of a subject with the digest that are above a dot, or above none
+abbrev pub codes_above : BTreeSet CodeKey → List ℕ → Option Dot → List CodeKey
+codes_above t subject after =
+    keys.keys_between code_cmp (code_start subject after)
+    (Included (code_key subject greatest_moment greatest_dot)) t
+
+-- the code starts in the seconds from `first` to `last`
+abbrev pub starts_in : ℕ → ℕ → CodeKey → Bool
+starts_in first last k = nat_le first k.start && nat_le k.start last
 
 -- the keys of the codes of a subject with the digest that start from `first` to `last`
 abbrev pub codes_started : BTreeSet CodeKey → List ℕ → ℕ → ℕ → List CodeKey
-codes_started t subject first last =
-    keys.keys_between code_cmp (Included (code_key subject first least_dot))
-    (Included (code_key subject last greatest_dot)) t
+codes_started t subject first last = filter (starts_in first last) (codes_above t subject None)
 
 -- the order of sign-outs: by the digest of the subject, then by the seconds left after the moment,
 -- then by dot. The last sign-out of a subject is first
@@ -255,7 +281,7 @@ pub record IsCodes (F : FactSet) (t : BTreeSet CodeKey) : Type 0 where
   pub listed : (subject : List ℕ) (start : ℕ) (d : Dot)
       → is_listed_code t subject start d ≡ is_to subject start (issued_at (map.get F) d)
   pub ranged : (subject : List ℕ) (start : ℕ) (d : Dot)
-      → is_listed_code t subject start d ≡ true → IsDot d
+      → is_listed_code t subject start d ≡ true → IsDot d × IsMoment start
 
 -- a subject with the digest signed out, with `left` seconds left after the moment
 abbrev pub is_left_by : List ℕ → ℕ → Option out.SubjectOut → Bool

@@ -3,7 +3,9 @@
 --   Clients          clients and consents of a fact set; consent_for
 --   ClientWalk       clients_in, the clients by their dots, and a walk over them
 --   Views            client_view, consent_view, the views of clients and consents
---   ViewFields       ClientFields, ConsentFields, what contracts see of the views
+--   Logins           login_view, the login that a code began; ending_of, what ends it
+--   SubjectWalk      consents_of, logins_of, what a subject has, and a walk over each
+--   ViewFields       ClientFields, ConsentFields, LoginFields, what contracts see of the views
 --   SignOuts         is_signed_out, who signed out everywhere, and when
 --   Tokens           what is minted, used, revoked and stopped; is_dead, the dead families
 --   Status           status_in, the status of a handle at a moment; IsActive
@@ -27,6 +29,7 @@ pub mod Clients
 pub mod Ends
 pub mod Index
 pub mod Laws
+pub mod Logins
 pub mod Losses
 pub mod Retention
 pub mod SignOuts
@@ -34,6 +37,7 @@ pub mod Slices
 pub mod StandingFields
 pub mod Standings
 pub mod Status
+pub mod SubjectWalk
 pub mod Tokens
 pub mod ViewFields
 pub mod Views

@@ -1,20 +1,20 @@
 //! Consents: the consent that was given at a dot, whether it was withdrawn, and the first for a
 //! scope.
 
-ghost use Rattle.std.specs.Prelude.{◌≡◌};
+ghost use Rattle.std.specs.Prelude.{◌≡◌, ◌&&◌, None};
 ghost use Rattle.std.specs.BTreeSet.{IsOrdered};
 ghost use Rattle.std.specs.FinMap as map;
 ghost use Rattle.std.specs.List.{find};
 ghost use Rattle.std.specs.Option.{option_copied};
 ghost use Rattle.sha2.specs.Sha256.{sha256};
-ghost use Rattle.tk_handle.specs.Dot.{least_dot, greatest_dot};
 ghost use Rattle.tk_store.specs.StoreFields.{held_facts};
+ghost use Rattle.tk_ledger.specs.Bodies.{is_same_dot};
 ghost use Rattle.tk_ledger.specs.Clients as spec;
-ghost use Rattle.tk_ledger.specs.Index.{consent_cmp, consent_key, span_of};
+ghost use Rattle.tk_ledger.specs.Index.{consent_cmp, consents_above};
 
 use crate::change::subject_digest;
 use crate::compare::{same_bytes, same_dots};
-use crate::consent_keys::{self, ConsentKey};
+use crate::consent_keys::{self, ConsentKey, consents_from, last_consent};
 use crate::ledger::Ledger;
 use std::collections::BTreeSet;
 use std::ops::Bound;
@@ -55,19 +55,6 @@ fn grants(consent: Option<&ConsentGiven>, client: Dot, subject: &Subject, scope:
     }
 }
 
-// Returns the least and the greatest key that a consent of the subject to the client can have.
-fn span(client: Dot, subject: &[u8; 32]) -> (ConsentKey, ConsentKey)
-    ensures first { result.0 ≡ consent_key client subject.now least_dot }
-    ensures last { result.1 ≡ consent_key client subject.now greatest_dot }
-{
-    let key = |consent: Dot| ConsentKey {
-        client,
-        subject: *subject,
-        consent,
-    };
-    (key(Dot::least()), key(Dot::greatest()))
-}
-
 impl Ledger {
     // Returns the consent that was given at the dot.
     pub(crate) fn given_at(&self, at: Dot) -> Option<&ConsentGiven>
@@ -94,8 +81,18 @@ impl Ledger {
         grants(self.given_at(consent), client, subject, scope)
     }
 
+    // Returns whether the key is that of a consent to the client, and the consent at its dot is by
+    // the subject to the client and covers the scope.
+    fn covers_by(&self, client: Dot, subject: &Subject, scope: &Scope, key: &ConsentKey) -> bool
+        ensures { result ≡ (is_same_dot key.now.client client
+            && spec.covers (held_facts self.now) client subject.now scope.now key.now.consent) }
+    {
+        same_dots(key.client, client) && self.covers(client, subject, scope, key.consent)
+    }
+
     // Returns the first key of the subject's consents to the client whose consent covers the scope.
-    // With the table of live consents, this is the key of the lowest live consent that does.
+    // With the table of live consents, this is the key of the lowest live consent that does. Keys
+    // of other clients are passed over without a look-up.
     fn first_key<'a>(
         &self,
         consents: &'a BTreeSet<ConsentKey>,
@@ -103,15 +100,16 @@ impl Ledger {
         subject: &Subject,
         scope: &Scope,
     ) -> Option<&'a ConsentKey>
-        ensures first { option_copied result ≡ find (λ k.
-            spec.covers (held_facts self.now) client subject.now scope.now k.consent)
-            (span_of consents.now client (sha256 subject.now)) }
+        ensures first { option_copied result ≡ find (λ k. is_same_dot k.client client
+            && spec.covers (held_facts self.now) client subject.now scope.now k.consent)
+            (consents_above consents.now (sha256 subject.now) None) }
         ensures sorted { IsOrdered consent_cmp consents.now }
     {
-        let (first, last) = span(client, &subject_digest(subject));
+        let digest = subject_digest(subject);
+        let (first, last) = (consents_from(&digest, None), last_consent(&digest));
         consents
-            .range((Bound::Included(first), Bound::Included(last)))
-            .find(|key| self.covers(client, subject, scope, key.consent))
+            .range((first, Bound::Included(last)))
+            .find(|key| self.covers_by(client, subject, scope, key))
     }
 
     // Returns the lowest dot of a live consent of this subject to this client that covers the

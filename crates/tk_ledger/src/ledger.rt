@@ -9,12 +9,17 @@ use tk_store::FactStore;
 /// what is known of each dot, and the horizon.
 ///
 /// With n known dots, a look-up costs O(log n). `client`, `consent`, `revoked`, `signed_out` and
-/// `status` make a fixed number of look-ups. `consent_for` makes one for each live consent of the
-/// subject to the client, up to the consent that it returns. None of these allocates memory. `add`
-/// costs O(log n) for each of these:
+/// `status` make a fixed number of look-ups, as `login` and `ending` do. `consent_for` passes over
+/// the keys of the subject's live consents up to the consent that it returns, and makes one look-up
+/// for each of them that is to the client. None of these allocates memory. `add` costs O(log n) for
+/// each of these:
 ///
 /// - each dot that the fact brings under a code, and each link that names such a dot
-/// - each code of the subject, if the fact is a sign-out
+/// - each code of the subject that the fact stops and that no sign-out before it stopped, if the
+///   fact is a sign-out
+///
+/// A sign-out that is later than those before it also passes over one key for each code of the
+/// subject that is held, without a look-up.
 #[derive(Drop)]
 pub struct Ledger {
     pub(crate) store: FactStore,
@@ -36,7 +41,8 @@ impl Model for Ledger {
     ghost invariant = { λ l. IsIndexed (held_facts l.store) l.index };
 }
 
-ghost use Rattle.std.specs.Prelude.{◌≡◌, ◌≢◌, ◌↔◌, ◌+◌, ◌^◌, ◌<◌, ◌≤◌, ℕ, None, IsTrue};
+ghost use Rattle.std.specs.Prelude.{◌≡◌, ◌≢◌, ◌↔◌, ◌+◌, ◌^◌, ◌<◌, ◌≤◌, ℕ, None, IfSome};
+ghost use Rattle.std.specs.Prelude.{IsTrue, false};
 ghost use Rattle.std.specs.FinMap as map;
 ghost use Rattle.tk_handle.specs.declared.kind.Kind.TheVariants as kind;
 ghost use Rattle.tk_fact.specs.Check.{refusal_of};
@@ -46,6 +52,7 @@ ghost use Rattle.tk_ledger.specs.ClientWalk.{WalksClients};
 ghost use Rattle.tk_ledger.specs.Clients as clients_of;
 ghost use Rattle.tk_ledger.specs.Ends.{FamilyEnds};
 ghost use Rattle.tk_ledger.specs.Index.{IsIndexed};
+ghost use Rattle.tk_ledger.specs.Logins.{ending_of, login_view};
 ghost use Rattle.tk_ledger.specs.SignOuts.{is_signed_out, reaches, IsLastSignOut};
 ghost use Rattle.tk_ledger.specs.Standings.{IsSound};
 ghost use Rattle.tk_ledger.specs.Status.{
@@ -56,17 +63,19 @@ ghost use Rattle.tk_ledger.specs.Status.{
   IsLive,
   SaysHere,
 };
-ghost use Rattle.tk_ledger.specs.Tokens.{is_revoked, IsEnded, IsRevoked};
+ghost use Rattle.tk_ledger.specs.SubjectWalk.{consents_of, logins_of, Walks};
+ghost use Rattle.tk_ledger.specs.Tokens.{is_dead, is_revoked, IsEnded, IsRevoked};
 ghost use Rattle.tk_ledger.specs.Views.{client_view, consent_view};
 
 use crate::change::change_of;
 use crate::client_view::ClientView;
 use crate::consent_view::ConsentView;
 use crate::index::follow;
+use crate::login_view::LoginView;
 use crate::revocations;
 use crate::sign_outs::last_sign_out;
 use crate::status::Status;
-use tk_fact::{Fact, Subject};
+use tk_fact::{Fact, Subject, TokenRevoked};
 use tk_family::Steps;
 use tk_handle::{Dot, Handle, Moment, TokenId};
 use tk_scope::Scope;
@@ -156,6 +165,58 @@ impl Ledger {
             scope.now result }
     {
         self.first_consent(client, subject, scope)
+    }
+
+    /// Returns the live consent of the subject with the lowest dot above `after`, or the lowest of
+    /// all if `after` is `None`, with that dot (own). `None` if no such consent is above.
+    ///
+    /// A walk that goes on from each dot that it got sees each live consent of the subject once. A
+    /// step costs one look-up more than `consent`.
+    pub fn next_consent(
+        &self,
+        subject: &Subject,
+        after: Option<Dot>,
+    ) -> Option<(Dot, ConsentView<'_>)>
+        ensures { Walks (consents_of (held_facts self.now) subject.now) after result }
+    {
+        self.consent_after(subject, after)
+    }
+
+    /// Returns the login that the code of the dot began (own), unless its family is over at the
+    /// moment. `None` if no code was issued there. Makes a fixed number of look-ups.
+    pub fn login(&self, now: Moment, code: Dot) -> Option<LoginView<'_>>
+        ensures { result ≡ login_view (held_facts self.now) now code }
+    {
+        self.login_at(now, code)
+    }
+
+    /// Returns the login of the subject whose code has the lowest dot above `after`, or the lowest
+    /// of all if `after` is `None`, with that dot (own). `None` if no login is above. Logins whose
+    /// family is over at the moment are passed over.
+    ///
+    /// A walk that goes on from each dot that it got sees each login of the subject once. A step
+    /// costs two look-ups more than `login`, beside two for each code that is passed over.
+    pub fn next_login(
+        &self,
+        subject: &Subject,
+        now: Moment,
+        after: Option<Dot>,
+    ) -> Option<(Dot, LoginView<'_>)>
+        ensures { Walks (logins_of (held_facts self.now) now subject.now) after result }
+    {
+        self.login_after(subject, now, after)
+    }
+
+    /// Returns the revocation that ends the login of the code at the dot: that of the refresh token
+    /// which the code was redeemed for, by the code's client (RFC 7009, 2.1). `None` if no code was
+    /// issued there, or the code was not redeemed. Of a dead family it may be another revocation,
+    /// or `None`: nothing is left to end.
+    pub fn ending(&self, code: Dot) -> Option<TokenRevoked>
+        ensures value { is_dead (held_facts self.now) code ≡ false
+            → result ≡ ending_of (held_facts self.now) code }
+        ensures refresh { IfSome result (λ r. r.token.kind ≡ kind.Refresh) }
+    {
+        self.ending_at(code)
     }
 
     /// Returns whether a fact is that the client revoked the token with the digest (RFC 7009, 2.1).

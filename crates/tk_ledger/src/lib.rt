@@ -12,9 +12,12 @@
 //!   time.
 //! - `client`, `consent` and `consent_for` look up clients and consents, `revoked` and `signed_out`
 //!   revocations and sign-outs. `status` returns the status of a handle, by one to eight look-ups.
+//! - `login` looks up a login, and `ending` what ends it. `next_consent` and `next_login` walk over
+//!   what a subject has.
 //!
-//! In reading order: `Ledger`, `ClientView`, `ConsentView`, `Status`, `Standing`, `State`; `index`
-//! for the tables and the change that a fact makes in them, `wake` for the marks of a dot.
+//! In reading order: `Ledger`, `ClientView`, `ConsentView`, `Status`, `Standing`, `State`,
+//! `LoginView`; `index` for the tables and the change that a fact makes in them, `wake` for the
+//! marks of a dot.
 //! `specs/Lib.antt` lists the definitions. The functions of `laws` have empty bodies: they state
 //! the laws in `specs/Laws.antt`.
 #![tactic(auto)]
@@ -31,6 +34,8 @@ mod index;
 mod join;
 mod laws;
 mod ledger;
+mod login_view;
+mod logins;
 mod looks;
 mod prune;
 mod retention;
@@ -42,6 +47,7 @@ mod slices;
 mod standing;
 mod status;
 mod subject_keys;
+mod subject_walk;
 mod unfollow;
 mod wake;
 
@@ -52,5 +58,6 @@ pub use laws::{
     revoked_inactive, signed_out_inactive, status_says, tests_decide, uses_agree, withdrawn_stays,
 };
 pub use ledger::Ledger;
+pub use login_view::LoginView;
 pub use slices::Slice;
 pub use status::{Standing, State, Status};

@@ -85,7 +85,7 @@ impl Ledger {
     }
 
     // Looks up the top of a dot in the forest, and counts one look-up.
-    fn top(&self, dot: Dot, steps: &mut Steps) -> Top
+    pub(crate) fn top(&self, dot: Dot, steps: &mut Steps) -> Top
         ensures value { by.TopSays (held_facts self.now) dot result }
         ensures more { steps.old ≤ steps.new }
         ensures at_most { steps.new ≤ steps.old + 2 }
@@ -199,7 +199,7 @@ impl Ledger {
     }
 
     // Returns the first state that holds of a token, by at most four look-ups.
-    fn state(
+    pub(crate) fn state(
         &self,
         now: Moment,
         token: &TokenId,

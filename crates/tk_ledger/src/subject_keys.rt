@@ -2,13 +2,13 @@
 
 use tk_handle::Dot;
 
-// The key of a code: the SHA-256 digest of its subject, the second of its start, and its dot. The
-// codes of a subject are in the order of their starts.
+// The key of a code: the SHA-256 digest of its subject, its dot, and the second of its start. The
+// codes of a subject are neighbours, in the order of their dots.
 #[derive(Clone, Copy, PartialEq, Eq, PartialOrd, Ord)]
 pub(crate) struct CodeKey {
     pub(crate) subject: [u8; 32],
-    pub(crate) start: u64,
     pub(crate) code: Dot,
+    pub(crate) start: u64,
 }
 
 // The key of a sign-out: the SHA-256 digest of its subject, the seconds left after its moment, and
@@ -21,9 +21,10 @@ pub(crate) struct OutKey {
     pub(crate) place: Dot,
 }
 
-ghost use Rattle.std.specs.Prelude.{◌≡◌, OnOk, OnErr, cond, true, false};
+ghost use Rattle.std.specs.Prelude.{◌≡◌, OnOk, OnErr, cond, true, false, Some};
 ghost use Rattle.std.specs.Ordering.{eq_by_cmp};
 ghost use Rattle.std.specs.BTreeSet.{contains};
+ghost use Rattle.tk_handle.specs.declared.dot.Dot.{Dot as the_dot};
 ghost use Rattle.tk_handle.specs.Dot.{IsDot, least_dot, greatest_dot};
 ghost use Rattle.tk_handle.specs.Ranges.{IsMoment, greatest_moment};
 ghost use Rattle.tk_ledger.specs.declared.subject_keys.CodeKey.{CodeKey as the_code};
@@ -31,6 +32,7 @@ ghost use Rattle.tk_ledger.specs.declared.subject_keys.OutKey.{OutKey as the_out
 ghost use Rattle.tk_ledger.specs.Index.{
   code_cmp,
   code_key,
+  code_start,
   out_cmp,
   out_key,
   left_after,
@@ -38,6 +40,7 @@ ghost use Rattle.tk_ledger.specs.Index.{
 
 use std::alloc::AllocError;
 use std::collections::BTreeSet;
+use std::ops::Bound;
 use tk_handle::Moment;
 
 // ---- codes
@@ -55,12 +58,13 @@ pub(crate) fn list_code(
     ensures err { OnErr result ((k : the_code)
         → contains code_cmp codes.new k ≡ contains code_cmp codes.old k) }
     ensures ranged { IsDot code }
+    ensures early { IsMoment start }
 {
     let _ranges = (code.region(), code.serial());
     codes.insert(CodeKey {
         subject: *subject,
-        start: start.seconds(),
         code,
+        start: start.seconds(),
     })?;
     Ok(())
 }
@@ -73,23 +77,39 @@ pub(crate) fn drop_code(codes: &mut BTreeSet<CodeKey>, subject: &[u8; 32], start
 {
     codes.remove(&CodeKey {
         subject: *subject,
-        start: start.seconds(),
         code,
+        start: start.seconds(),
     });
 }
 
-// Returns the least and the greatest key that a code of the subject can have which starts in the
-// seconds from `first` to `last`.
-pub(crate) fn code_span(subject: &[u8; 32], first: u64, last: u64) -> (CodeKey, CodeKey)
-    ensures first { result.0 ≡ code_key subject.now first least_dot }
-    ensures last { result.1 ≡ code_key subject.now last greatest_dot }
+// Returns where the keys of the subject's codes begin that are above the dot, or above none.
+pub(crate) fn codes_from(subject: &[u8; 32], after: Option<Dot>) -> Bound<CodeKey>
+    ensures value { result ≡ code_start subject.now after }
+    ensures ranged { (d : the_dot) → after ≡ Some d → IsDot d }
 {
-    let key = |start: u64, code: Dot| CodeKey {
+    let key = |code: Dot, start: u64| CodeKey {
         subject: *subject,
-        start,
         code,
+        start,
     };
-    (key(first, Dot::least()), key(last, Dot::greatest()))
+    match after {
+        Some(dot) => {
+            let _ranges = (dot.region(), dot.serial());
+            Bound::Excluded(key(dot, Moment::GREATEST))
+        }
+        None => Bound::Included(key(Dot::least(), 0)),
+    }
+}
+
+// Returns the greatest key that a code of the subject can have.
+pub(crate) fn last_code(subject: &[u8; 32]) -> CodeKey
+    ensures { result ≡ code_key subject.now greatest_moment greatest_dot }
+{
+    CodeKey {
+        subject: *subject,
+        code: Dot::greatest(),
+        start: Moment::GREATEST,
+    }
 }
 
 // ---- sign-outs

@@ -1,7 +1,7 @@
 //! The marks of codes and refresh tokens in a family: tokens whose reuse was seen, refresh tokens
 //! that their client revoked, and codes whose subject signed out, whichever fact arrives first.
 
-ghost use Rattle.std.specs.Prelude.{◌≡◌, ◌≤◌, ◌&&◌, nat_le, IsSome, cond};
+ghost use Rattle.std.specs.Prelude.{◌≡◌, ◌&&◌, nat_le, IsSome, cond};
 ghost use Rattle.std.specs.Option.{option_map};
 ghost use Rattle.std.specs.FinMap as map;
 ghost use Rattle.std.specs.FinSet as set;
@@ -17,6 +17,7 @@ ghost use Rattle.tk_ledger.specs.Index.{
   IsOuts,
   IsReuses,
   Wakes,
+  starts_in,
   codes_started,
   dots_of,
 };
@@ -27,7 +28,7 @@ use crate::reuses::{ReuseKey, is_reused};
 use crate::revocations::{Revocation, is_revoked};
 use crate::root::Root;
 use crate::sign_outs::is_out;
-use crate::subject_keys::{CodeKey, OutKey, code_span};
+use crate::subject_keys::{CodeKey, OutKey, codes_from, last_code};
 use std::alloc::AllocError;
 use std::collections::BTreeSet;
 use std::ops::Bound;
@@ -206,8 +207,15 @@ pub(crate) fn wake_all(
     }
 }
 
+// Returns whether the code of the key starts in the seconds from `first` to `last`.
+fn starts_in(key: &CodeKey, first: u64, last: u64) -> bool
+    ensures { result ≡ starts_in first last key.now }
+{
+    first <= key.start && key.start <= last
+}
+
 // Writes the marks at the codes of a subject that start in the seconds from `first` to `last`, by
-// the digest of the subject.
+// the digest of the subject. Keys of other codes are passed over without a look-up.
 fn wake_codes(
     facts: &FactStore,
     revocations: &BTreeSet<Revocation>,
@@ -219,7 +227,6 @@ fn wake_codes(
     first: u64,
     last: u64,
 )
-    requires forward { first ≤ last }
     requires revocations { IsRevocations (held_facts facts.now) revocations.now }
     requires outs { IsOuts (held_facts facts.now) outs.now }
     requires reuses { IsReuses (held_facts facts.now) reuses.now }
@@ -228,9 +235,11 @@ fn wake_codes(
     ensures { Wakes (held_facts facts.now) forest.old
         (has (dots_of (codes_started codes.now subject.now first last))) forest.new }
 {
-    let (first, last) = code_span(subject, first, last);
-    for key in codes.range((Bound::Included(first), Bound::Included(last))) {
-        wake(facts, revocations, outs, reuses, forest, key.code);
+    let (least, greatest) = (codes_from(subject, None), last_code(subject));
+    for key in codes.range((least, Bound::Included(greatest))) {
+        if starts_in(key, first, last) {
+            wake(facts, revocations, outs, reuses, forest, key.code);
+        }
     }
 }
 

@@ -25,7 +25,7 @@ returns-in-Give-clause-ok c = on_ok c.give.result _ _ c.give.ensures.ok
     (λ g. index_give (held_facts c.args.facts.now) c.args.dot c.in-Give.client c.in-Give.subject
     c.args.index.now c.give.new.consents
     (c.requires.change ∙ ap (λ (x : Change). Some x) c.in-Give.is) c.requires.indexed
-    c.give.ensures.ranged g)
+    c.give.ensures.ranged c.give.ensures.client_ranged g)
 
 pub returns-in-Withdraw-clause-ok : goal.returns-in-Withdraw-clause-ok
 returns-in-Withdraw-clause-ok c =

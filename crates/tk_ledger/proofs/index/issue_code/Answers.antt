@@ -40,7 +40,7 @@ returns-in-Ok-clause-ok c = index_issue (held_facts c.args.facts.now) c.args.dot
     c.requires.indexed
     (code_row (held_facts c.args.facts.now) c.args.dot c.args.subject.now c.args.start
     c.args.index.now.codes c.list_code.new.codes c.requires.change c.requires.indexed.codes_are
-    c.list_code.ensures.ranged c.in_default.ensures.ok)
+    c.list_code.ensures.ranged c.list_code.ensures.early c.in_default.ensures.ok)
     c.in-Ok.ensures.ok
 
 pub returns-in-Err-put_link-clause-err : goal.returns-in-Err-put_link-clause-err

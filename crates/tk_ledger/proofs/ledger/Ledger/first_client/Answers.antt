@@ -9,7 +9,11 @@ use Rattle.tk_store.specs.FactSet.{FactSet}
 use Rattle.tk_store.specs.StoreFields.{held_facts}
 use Rattle.tk_ledger.specs.Index.{IsClients}
 use Rattle.tk_ledger.specs.declared.client_rows.ClientRow.{ClientRow}
-use Rattle.tk_ledger.proofs.ClientWalkLaws.{seen, start_above, walk_rows, walk_first}
+use Rattle.tk_ledger.specs.ClientWalk.{clients_in}
+use Rattle.tk_ledger.specs.SubjectWalk.{seen}
+use Rattle.tk_ledger.specs.Views.{client_view}
+use Rattle.tk_ledger.proofs.ClientWalkLaws.{start_above, walk_rows}
+use Rattle.tk_ledger.proofs.DotWalkLaws.{walk_first}
 use Rattle.tk_ledger.proofs.ledger.Ledger.first_client.Goals as goal
 use Rattle.tk_ledger.proofs.ledger.Ledger.first_client.Goals.{in-Some, in-None}
 
@@ -19,7 +23,8 @@ loop-client-init c =
       | in-Some w ↦ w.start-is ∙ ap start_above (sym w.in-Some.is)
       | in-None w ↦ w.start-is ∙ ap start_above (sym w.in-None.is)
     ] in
-    ap (λ (l : List (Dot × ClientRow)). filter_map (seen (held_facts c.args.self.now)) l)
+    ap (λ (l : List (Dot × ClientRow)).
+    filter_map (seen (client_view (held_facts c.args.self.now))) l)
     (c.into_iter-client-iterator.ensures.into_iter_gives ∙ c.range-client-items.ensures.between tt
     ∙ ap (λ (b : Bound Dot).
     entries_between dot_cmp b Unbounded c.self.inside.index.clients.entries) start)
@@ -30,9 +35,11 @@ loop-client-init c =
 
 pub returns-in-Some-client : goal.returns-in-Some-client
 returns-in-Some-client c =
-    walk_first (held_facts c.args.self.now) c.args.after
+    walk_first (clients_in (held_facts c.args.self.now)) (client_view (held_facts c.args.self.now))
+    c.args.after
     (c.in-Some-2.client.now, c.in-Some-2.field-0-1.now) c.next.new.self c.in-Some-client.view
     (sym c.client.ensures ∙ c.in-Some-client.is)
-    (ap (λ (l : List (Dot × ClientRow)). filter_map (seen (held_facts c.args.self.now)) l)
+    (ap (λ (l : List (Dot × ClientRow)).
+    filter_map (seen (client_view (held_facts c.args.self.now))) l)
     (sym c.in-Some-2.ensures.steps)
     ∙ c.loop-client.invariant)

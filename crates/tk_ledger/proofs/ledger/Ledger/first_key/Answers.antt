@@ -1,6 +1,8 @@
+use Rattle.std.proofs.Common.{None}
 use Rattle.tk_ledger.proofs.SpanLaws.{span_forward}
 use Rattle.tk_ledger.proofs.ledger.Ledger.first_key.Goals as goal
 
 pub range-requires : goal.range-requires
-range-requires c = span_forward c.args.client c.subject_digest.result c.span-first.result.0
-    c.span-first.result.1 c.span-first.ensures.first c.span-first.ensures.last
+range-requires c = span_forward c.subject_digest-digest.result None
+    c.consents_from-first.result c.last_consent-last.result c.consents_from-first.ensures.value
+    c.last_consent-last.ensures c.consents_from-first.ensures.ranged

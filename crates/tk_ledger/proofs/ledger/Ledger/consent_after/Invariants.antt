@@ -1,0 +1,14 @@
+use Rattle.std.proofs.Common.{◌≡◌}
+use Rattle.std.specs.List.{filter_map}
+use Rattle.tk_store.specs.StoreFields.{held_facts}
+use Rattle.tk_store.specs.Walk.{above}
+use Rattle.tk_ledger.specs.SubjectWalk.{seen, consent_of, consents_of}
+use Rattle.tk_ledger.proofs.DotWalkLaws.{placed}
+use Rattle.tk_ledger.proofs.ledger.Ledger.consent_after.Given as goal
+
+-- what is shown at the keys that are left is what is above the dot
+abbrev pub invariant-loop-key : goal.invariant-loop-key
+invariant-loop-key l =
+    filter_map (seen (consent_of (held_facts l.self) l.subject))
+    (placed (λ k. k.consent) l.key-iterator)
+    ≡ above (consents_of (held_facts l.self) l.subject) l.fn.after
