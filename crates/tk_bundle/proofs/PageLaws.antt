@@ -3,8 +3,8 @@
 --   dots_are        the first dots that a vector does not cover are those of the page's items
 --   page_is         a page made at these dots is the page of the store
 --   page_fits       a page has a spelling
-use Rattle.std.proofs.Common.{◌≡◌, ℕ, ◌+◌, ◌<◌, ◌≤◌, ◌^◌, ◌-◌, Bool, true, false, ◌&&◌, cond, T}
-use Rattle.std.proofs.Common.{nat_lt, nat_le, List, [], ◌∷◌, ◌++◌, get_or, length, map, max, min}
+use Rattle.std.proofs.Common.{◌≡◌, ℕ, ◌+◌, ◌<◌, ◌≤◌, ◌-◌, Bool, true, false, ◌&&◌, ◌||◌, cond, T}
+use Rattle.std.proofs.Common.{nat_lt, List, [], ◌∷◌, ◌++◌, get_or, length, map, max, min}
 use Rattle.std.proofs.Common.{filter, take, zero, suc, Option, Some, None, slice_get, refl, sym, ap}
 use Rattle.std.proofs.Common.{subst, ◌∙◌, append_assoc, arith}
 use Rattle.std.specs.List.{AllByRecursion, cons_option, flat_map, list_any}
@@ -41,6 +41,7 @@ use Rattle.tk_bundle.specs.ItemLaws.{dot_length}
 use Rattle.tk_bundle.specs.Versions.{kind_in, newest_kind, version_of, has_horizon}
 use Rattle.tk_bundle.specs.VersionLaws.{horizon_told, facts_told}
 use Rattle.tk_bundle.specs.Bundle.{ascends, max_items, bundle, HorizonFits}
+use Rattle.tk_bundle.proofs.FitLaws.{plain_bytes, fits_with, plain_fits}
 use Rattle.tk_bundle.specs.Page.{item_at, items_at, last_of, horizon_if, horizon_with, page_within}
 use Rattle.tk_bundle.specs.Page.{IsPageAt, IsPageOf}
 use Rattle.tk_handle.proofs.TestLaws.{and as pair, both, is_true}
@@ -48,7 +49,7 @@ use Rattle.tk_handle.proofs.TestLaws.{and as pair, both, is_true}
 -- ---- what slots have at given dots
 
 -- items among the slots are those that they have at their dots
-items_at-dots : (S : Slots) (fs : Items) → AllIn S fs → items_at S (map dot_of fs) ≡ fs
+pub items_at-dots : (S : Slots) (fs : Items) → AllIn S fs → items_at S (map dot_of fs) ≡ fs
 items_at-dots S [] all = refl
 items_at-dots S (f ∷ fs) all =
     ap (λ o. cons_option (option_map (λ slot. (f.0, slot)) o) (items_at S (map dot_of fs))) all.0
@@ -129,7 +130,7 @@ pub dots_are : (S : Slots) (v : Vector) (after : Option Dot) (limit : ℕ)
 dots_are S v after limit = take-take limit (limit + 1) (map dot_of (beyond S v after)) (omega arith)
     ∙ take-map dot_of limit (beyond S v after)
 
-all_take : (S : Slots) (n : ℕ) (items : Items) → AllIn S items → AllIn S (take n items)
+pub all_take : (S : Slots) (n : ℕ) (items : Items) → AllIn S items → AllIn S (take n items)
 all_take S zero items all = tt
 all_take S (suc n) [] all = tt
 all_take S (suc n) (i ∷ more) all = (all.0, all_take S n more all.1)
@@ -212,7 +213,8 @@ page_is made P v after limit dots more same follows at =
     let items : items_at P.slots dots ≡ found =
     ap (items_at P.slots) same ∙ page_items P.slots v after limit in
     record {
-      bytes = at.bytes ∙ rw (count, items) refl;
+      bytes = at.bytes ∙ rw (count, items) (sym
+          (plain_bytes (horizon_with P.horizon found) found));
       count = at.count ∙ count;
       last = at.last ∙ ap last_of same
           ∙ ap (λ n. slice_get (map dot_of found) (n - 1)) (length-map found dot_of);
@@ -220,14 +222,24 @@ page_is made P v after limit dots more same follows at =
     }
 
 -- a page has a horizon exactly if its version has one
-horizon_fits : (horizon : ℕ) (items : Items) → moment.Fits horizon
-    → HorizonFits (version_of items) (horizon_with horizon items)
-horizon_fits horizon items fits = by_mark (list_any is_mark items) (horizon_told items)
+pub horizon_fits : (horizon : ℕ) (runs : Bool) (items : Items) → moment.Fits horizon
+    → (runs || list_any is_mark items) ≡ list_any is_mark items
+    → HorizonFits (version_of runs items) (horizon_with horizon items)
+horizon_fits horizon runs items fits told =
+    by_mark (list_any is_mark items) (horizon_told runs items ∙ told)
   where
-    by_mark : (t : Bool) → has_horizon (version_of items) ≡ t
-        → HorizonFits (version_of items) (horizon_if t horizon)
+    by_mark : (t : Bool) → has_horizon (version_of runs items) ≡ t
+        → HorizonFits (version_of runs items) (horizon_if t horizon)
     by_mark true is = (fits, is)
     by_mark false is = is
+
+-- the first slots that a vector does not cover rise
+pub page_rises : (P : StoreFields) (v : Vector) (after : Option Dot) (limit : ℕ)
+    → ascends None (take limit (beyond P.slots v after)) ≡ true
+page_rises P v after limit = ascends_sorted (take limit (beyond P.slots v after))
+    (sorted-take limit (beyond P.slots v after)
+    (sorted-filter (is_beyond v) (above P.slots after)
+    (sorted-filter (is_above after) (sets.entries P.slots) (sets.entries_sorted P.slots))))
 
 -- a page has a spelling
 pub page_fits : (P : StoreFields) (v : Vector) (after : Option Dot) (limit : ℕ) (dots : List Dot)
@@ -239,25 +251,11 @@ page_fits P v after limit dots low same horizon fits =
     let items : items_at P.slots dots ≡ found =
     ap (items_at P.slots) same ∙ page_items P.slots v after limit in
     let short : length found ≤ max_items =
-    omega (arith, length-take limit (beyond P.slots v after)) in (
-      (
-        horizon_fits P.horizon found horizon,
-        (
-          (small (length found) short, few (length found) short),
-          subst (AllByRecursion item.Fits) items fits,
-        ),
-      ),
-      ascends_sorted found
-          (sorted-take limit (beyond P.slots v after)
-          (sorted-filter (is_beyond v) (above P.slots after)
-          (sorted-filter (is_above after) (sets.entries P.slots) (sets.entries_sorted P.slots)))),
-    )
-  where
-    small : (n : ℕ) → n ≤ max_items → n < 2 ^ 16
-    small n h = omega arith
-
-    few : (n : ℕ) → n ≤ max_items → nat_le n max_items ≡ true
-    few n h = grind (arith, nat_tests)
+    omega (arith, length-take limit (beyond P.slots v after)) in
+    fits_with (horizon_with P.horizon found) false found
+    (horizon_fits P.horizon false found horizon refl)
+    (plain_fits found short (subst (AllByRecursion item.Fits) items fits))
+    (page_rises P v after limit)
 
 -- ---- single items
 
@@ -273,9 +271,9 @@ mark_written d old mid new size dot =
 -- the bundle of one fact has a spelling
 pub single_fits : (f : Dot × Body) → framed.Fits f → bundle.Fits (of_facts (f ∷ []))
 single_fits f fits =
-    let none : has_horizon (version_of (map as_slot (f ∷ []))) ≡ false =
-    horizon_told (map as_slot (f ∷ [])) ∙ facts_told (f ∷ []) in
-    ((none, ((omega arith, refl), (fits, tt))), refl)
+    let one = map as_slot (f ∷ []) in
+    fits_with None false one (horizon_told false one ∙ facts_told (f ∷ []))
+    (plain_fits one (omega arith) (fits, tt)) refl
 
 -- a fact that a store holds at a dot passes its check
 pub held_passes : (P : StoreFields) (d : Dot) (b : Body) → IsFactSet (held_facts P)

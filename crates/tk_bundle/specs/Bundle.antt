@@ -1,14 +1,16 @@
 -- A bundle's bytes (own): the magic, a digit for the version, the horizon if the version has one, a
--- count, and the items behind their lengths, strictly ascending by dot.
+-- count, and the items behind their lengths, strictly ascending by dot. In a version with runs,
+-- marks that follow one another are one piece.
 --   magic           the bytes with which a bundle begins
 --   max_items      the greatest number of items in a bundle
 --   ascends         the dots of a list rise
 --   marked          a value behind a byte that the value determines
+--   items_by        the items of a bundle, without runs or with them
 --   bundle          the spelling of a bundle
 --   bundle_bytes    the bytes of a bundle
---   digit_told      the digit that shows which of three sorts of items are inside
---   VersionsTold    a bundle's first four bytes show whether marks, sign-outs, and facts of clients
---                   that keep their refresh tokens or have lives are inside
+--   digit_told      the digit that shows which of three sorts of items are inside, and runs
+--   VersionsTold    a bundle's first four bytes show whether runs, marks, sign-outs, and facts of
+--                   clients that keep their refresh tokens or have lives are inside
 use Rattle.std.specs.Prelude.{◌≡◌, ℕ, Bool, true, false, ◌&&◌, nat_le, ◌==◌, List, [], ◌∷◌, ◌++◌}
 use Rattle.std.specs.Prelude.{take}
 use Rattle.std.specs.Prelude.{Option, Some, None, if◌then◌else◌}
@@ -22,7 +24,8 @@ use Rattle.tk_handle.specs.Dot.{dot_cmp}
 use Rattle.tk_handle.specs.Moment.{moment}
 use Rattle.tk_bundle.specs.BundleFields.{BundleFields, Items, is_mark}
 use Rattle.tk_bundle.specs.Items.{item}
-use Rattle.tk_bundle.specs.Versions.{version_of, has_horizon, is_newer, is_sign_out}
+use Rattle.tk_bundle.specs.PieceBytes.{pieced_items}
+use Rattle.tk_bundle.specs.Versions.{version_of, has_horizon, has_runs, is_newer, is_sign_out}
 
 -- the dots of the list rise, and are above the given dot, if one is given
 abbrev pub ascends : Option Dot → Items → Bool
@@ -34,7 +37,7 @@ ascends (Some d) (i ∷ more) = is_lt (dot_cmp d i.0) && ascends (Some i.0) more
 abbrev pub magic : List ℕ
 magic = 79 ∷ 84 ∷ 66 ∷ []
 
--- the greatest number of items in a bundle
+-- the greatest number of items in a bundle without runs
 abbrev pub max_items : ℕ
 max_items = 128
 
@@ -50,6 +53,19 @@ marked mark f = record {
 -- a count of at most 128, and that many items, each behind its length
 abbrev pub counted_items : Format Items
 counted_items = counted (only (λ n. nat_le n max_items) (number w16)) item
+
+-- the items, without runs or with them
+abbrev pub items_by : Bool → Format Items
+items_by false = counted_items
+items_by true = pieced_items
+
+-- whether a bundle has runs: no byte of its own shows that, but the version
+abbrev pub runs_field : ℕ → Format Bool
+runs_field digit = record {
+  spell = λ runs. [];
+  Fits = λ runs. runs ≡ has_runs digit;
+  read = λ bytes. Some (has_runs digit, bytes);
+}
 
 -- the bytes of a horizon, if there is one
 abbrev pub horizon_bytes : Option ℕ → List ℕ
@@ -71,12 +87,13 @@ horizon_field digit = record {
 
 -- the horizon and the items of a bundle of this version
 abbrev pub contents : ℕ → Format BundleFields
-contents digit = shaped (λ p. record { horizon = p.0; items = p.1 }) (λ b. (b.horizon, b.items))
-    (horizon_field digit ⊗ counted_items)
+contents digit = shaped (λ p. record { horizon = p.1.0; runs = p.0; items = p.1.1 })
+    (λ b. (b.runs, (b.horizon, b.items)))
+    (runs_field digit ⊗ horizon_field digit ⊗ items_by (has_runs digit))
 
 -- the digit of the version of the items, and what follows it
 abbrev pub versioned : Format BundleFields
-versioned = marked (λ b. version_of b.items) contents
+versioned = marked (λ b. version_of b.runs b.items) contents
 
 -- the magic, and what is behind it
 abbrev pub listed : Format BundleFields
@@ -90,21 +107,22 @@ bundle = only (λ b. ascends None b.items) listed
 abbrev pub bundle_bytes : BundleFields → List ℕ
 bundle_bytes b = bundle.spell b
 
--- the digit by whether facts of clients that keep their refresh tokens or have lives, marks, and
--- sign-outs are inside
-abbrev pub digit_told : Bool → Bool → Bool → ℕ
-digit_told newer marked out =
-    if newer then (if marked then 53 else 52)
+-- the digit by whether runs, facts of clients that keep their refresh tokens or have lives, marks,
+-- and sign-outs are inside
+abbrev pub digit_told : Bool → Bool → Bool → Bool → ℕ
+digit_told runs newer marked out =
+    if runs then 54
+    else if newer then (if marked then 53 else 52)
     else if marked then 51
     else if out then 50
     else 49
 
--- A bundle with the registration of a client that keeps its refresh token or has lives, or with an
--- access token that was refreshed for one that keeps it, begins with OTB5 if one of its items is a
--- mark, otherwise with OTB4. Another bundle begins with OTB3 if one of its items is a mark,
--- otherwise with OTB2 if one is a sign-out, otherwise with OTB1
+-- A bundle with runs begins with OTB6. Another bundle with the registration of a client that keeps
+-- its refresh token or has lives, or with an access token that was refreshed for one that keeps it,
+-- begins with OTB5 if one of its items is a mark, otherwise with OTB4. Any other begins with OTB3
+-- if one of its items is a mark, otherwise with OTB2 if one is a sign-out, otherwise with OTB1
 abbrev pub VersionsTold : Type 0
 VersionsTold =
     (b : BundleFields) → take 4 (bundle_bytes b) ≡ magic
-    ++ digit_told (list_any is_newer b.items) (list_any is_mark b.items)
+    ++ digit_told b.runs (list_any is_newer b.items) (list_any is_mark b.items)
     (list_any is_sign_out b.items) ∷ []

@@ -1,11 +1,11 @@
 -- What contracts see of a bundle (own).
 --   Items          what a bundle has: dots with facts, or with the marks of skipped facts
---   BundleFields   a bundle's horizon, if it has one, and its items
+--   BundleFields   a bundle's horizon, if it has one, whether it has runs, and its items
 --   of_facts       the bundle of facts alone
 --   is_mark        an item is the mark of a skipped fact
 --   fact_of        the fact of an item, if it has one
 --   entry_of       an item of the code as contracts see it
-use Rattle.std.specs.Prelude.{ℕ, Bool, List, map, Option, Some, None}
+use Rattle.std.specs.Prelude.{ℕ, Bool, false, List, map, Option, Some, None}
 use Rattle.std.specs.Option.{option_map}
 use Rattle.tk_handle.specs.declared.dot.Dot.{Dot}
 use Rattle.tk_fact.specs.declared.body.Body.{Body}
@@ -19,14 +19,16 @@ use Rattle.tk_bundle.specs.declared.item.Entry.TheVariants as entry
 abbrev pub Items : Type 0
 Items = List (Dot × Slot)
 
--- the horizon of a bundle with a mark, and the items
+-- the horizon of a bundle with a mark, whether marks that follow one another are spelled as runs,
+-- and the items
 pub record BundleFields : Type 0 where
   pub horizon : Option ℕ
+  pub runs : Bool
   pub items : Items
 
 -- the bundle of facts alone
 abbrev pub of_facts : Facts → BundleFields
-of_facts fs = record { horizon = None; items = map as_slot fs }
+of_facts fs = record { horizon = None; runs = false; items = map as_slot fs }
 
 -- the item is the mark of a skipped fact
 abbrev pub is_mark : Dot × Slot → Bool

@@ -1,8 +1,8 @@
 -- A bundle's bytes are read as that bundle alone (own). Key results:
 --   bundle_exact     a bundle has one spelling
 --   one_front        no bundle's bytes begin those of another bundle
---   versions_tell    a bundle's first four bytes show whether marks, sign-outs and facts of clients
---                    that keep their refresh tokens are inside
+--   versions_tell    a bundle's first four bytes show whether runs, marks, sign-outs and facts of
+--                    clients that keep their refresh tokens are inside
 use Rattle.std.proofs.Common.{◌≡◌, ℕ, Bool, true, false, cond, eqb, nat_le, List, [], ◌∷◌, ◌++◌}
 use Rattle.std.proofs.Common.{Option, Some, None}
 use Rattle.std.proofs.Common.{refl, sym, ap, subst, ◌∙◌}
@@ -19,11 +19,12 @@ use Rattle.tk_handle.proofs.FormatLaws.{moment_exact}
 use Rattle.tk_bundle.specs.BundleFields.{BundleFields}
 use Rattle.tk_bundle.specs.Items.{item}
 use Rattle.tk_bundle.specs.ItemLaws.{item_exact}
-use Rattle.tk_bundle.specs.Versions.{version_of, has_horizon}
+use Rattle.tk_bundle.specs.PiecedLaws.{pieced_exact}
+use Rattle.tk_bundle.specs.Versions.{version_of, has_horizon, has_runs}
 use Rattle.tk_bundle.specs.VersionLaws.{version_tells}
 use Rattle.tk_bundle.specs.Bundle.{ascends, magic, max_items, marked, counted_items, versioned}
 use Rattle.tk_bundle.specs.Bundle.{listed, bundle, VersionsTold, HorizonFits, horizon_bytes}
-use Rattle.tk_bundle.specs.Bundle.{horizon_field, contents}
+use Rattle.tk_bundle.specs.Bundle.{horizon_field, items_by, runs_field, contents}
 
 -- a value that is read behind its mark is spelled with that mark
 marked_takes : {A : Type 0} (mark : A → ℕ) (f : ℕ → Format A) → ((m : ℕ) → IsExact (f m))
@@ -55,6 +56,20 @@ marked_exact mark f p = record {
 counted_items_exact : IsExact counted_items
 counted_items_exact =
     counted_exact _ item (only_exact (λ n. nat_le n max_items) _ u16_exact) item_exact
+
+-- items have one spelling without runs, and one with them
+items_exact : (runs : Bool) → IsExact (items_by runs)
+items_exact false = counted_items_exact
+items_exact true = pieced_exact
+
+-- whether there are runs has one spelling, without a byte
+runs_exact : (digit : ℕ) → IsExact (runs_field digit)
+runs_exact digit = record {
+  takes = λ bytes x fits e.
+      subst (λ (y : Bool × List ℕ). Takes bytes [] y.1 × (y.0 ≡ has_runs digit))
+      (some_is (has_runs digit, bytes) x e) (record { parts = refl; rest_fits = fits }, refl);
+  again = λ runs rest fits. ap (λ (t : Bool). Some (t, rest)) (sym fits);
+}
 
 -- the horizon that is read, if the version has one
 abbrev Read : Bool → List ℕ → Option (Option ℕ × List ℕ)
@@ -89,14 +104,16 @@ horizon_exact digit = record {
 -- what follows the digit of a version has one spelling
 contents_exact : (digit : ℕ) → IsExact (contents digit)
 contents_exact digit =
-    shaped_exact _ _ _ (both_exact _ _ (horizon_exact digit) counted_items_exact) (λ _. refl)
-    (λ _. refl)
+    shaped_exact _ _ _
+    (both_exact _ _ (runs_exact digit)
+    (both_exact _ _ (horizon_exact digit) (items_exact (has_runs digit)))) (λ _. refl) (λ _. refl)
 
 -- a bundle has one spelling
 pub bundle_exact : IsExact bundle
 bundle_exact =
     only_exact (λ b. ascends None b.items) listed
-    (after_exact magic versioned (marked_exact (λ b. version_of b.items) contents contents_exact))
+    (after_exact magic versioned
+    (marked_exact (λ b. version_of b.runs b.items) contents contents_exact))
 
 -- no bundle's bytes begin those of another bundle
 pub one_front : (a b : BundleFields) (rest : List ℕ) → bundle.Fits a → bundle.Fits b
@@ -104,7 +121,7 @@ pub one_front : (a b : BundleFields) (rest : List ℕ) → bundle.Fits a → bun
 one_front a b rest fa fb e =
     prefix_free bundle bundle_exact a b rest [] fa fb (e ∙ sym (append-nil (bundle.spell b)))
 
--- a bundle's first four bytes show whether marks, sign-outs and facts of clients that keep their
--- refresh tokens are among its items
+-- a bundle's first four bytes show whether runs, marks, sign-outs and facts of clients that keep
+-- their refresh tokens are inside
 pub versions_tell : VersionsTold
-versions_tell b = ap (λ digit. magic ++ digit ∷ []) (version_tells b.items)
+versions_tell b = ap (λ digit. magic ++ digit ∷ []) (version_tells b.runs b.items)

@@ -4,7 +4,8 @@
 --   walk_bundle    a bundle at the front is walked over
 --   front_split    the bytes before the end that the walk leaves are the bundle's
 --   front_is       the bundle that is read there is the one at the front
-use Rattle.std.proofs.Common.{◌≡◌, ℕ, zero, suc, ◌+◌, ◌-◌, ◌<◌, ◌≤◌, Bool, true, false, cond}
+use Rattle.std.proofs.Common.{◌≡◌, ℕ, zero, suc, ◌+◌, ◌-◌, ◌<◌, ◌≤◌, ◌^◌, Bool, true, false, cond}
+use Rattle.std.proofs.Common.{nat_le}
 use Rattle.std.proofs.Common.{not, ltb, List, [], ◌∷◌, ◌++◌, length, take, Option, Some, None}
 use Rattle.std.proofs.Common.{Result, Ok, Err, refl, sym, ap, subst, ◌∙◌, append_assoc, arith}
 use Rattle.std.specs.Str.{bytes_eq}
@@ -12,8 +13,8 @@ use Rattle.std.specs.Int.{w16, w64}
 use Rattle.std.specs.List.{flat_map, AllByRecursion}
 use Rattle.std.proofs.lemmas.List.{take_at, length-append}
 use Rattle.std.proofs.lemmas.Bool.{le-ltb}
-use Rattle.tk_format.specs.Format.{number, number_spelling}
-use Rattle.tk_format.specs.Format.{bytes_of, text_spelling}
+use Rattle.tk_format.specs.Format.{Format, number, number_spelling}
+use Rattle.tk_format.specs.Format.{bytes_of, text, text_spelling}
 use Rattle.tk_format.specs.NumberLaws.{byte_exact, u16_exact, bytes_exact}
 use Rattle.tk_format.specs.Laws.{both_exact}
 use Rattle.tk_format.specs.Exact.{IsBytes, IsExact, Takes, Takes-then}
@@ -24,14 +25,14 @@ use Rattle.tk_bundle.specs.declared.error.FrontError.{FrontError}
 use Rattle.tk_bundle.specs.declared.error.FrontError.TheVariants.{Malformed, Cut}
 use Rattle.std.proofs.lemmas.List.Concat.{flat_map-cons}
 use borrow.Author.Tests.{leb-true}
-use Rattle.tk_handle.specs.declared.dot.Dot.{Dot}
 use Rattle.tk_fact.specs.FactBytes.{max_bytes}
-use Rattle.tk_store.specs.Slots.{Slot}
 use Rattle.tk_bundle.specs.BundleFields.{BundleFields, Items}
-use Rattle.tk_bundle.specs.Items.{item_bytes, item}
-use Rattle.tk_bundle.specs.Versions.{version_of, is_version}
+use Rattle.tk_bundle.specs.Items.{item_bytes, HasBytes, item_in, behind_length, item}
+use Rattle.tk_bundle.specs.Pieces.{grouped}
+use Rattle.tk_bundle.specs.PieceBytes.{piece_bytes, PieceFits, piece_in, piece}
+use Rattle.tk_bundle.specs.Versions.{version_of, is_version, has_runs}
 use Rattle.tk_bundle.specs.VersionLaws.{version_known}
-use Rattle.tk_bundle.specs.Bundle.{magic, max_items, bundle, horizon_bytes, HorizonFits}
+use Rattle.tk_bundle.specs.Bundle.{magic, max_items, items_by, bundle, horizon_bytes, HorizonFits}
 use Rattle.tk_bundle.specs.Front.{◌>>=◌, or_cut, malformed_if, opening, least_header}
 use Rattle.tk_bundle.specs.Front.{horizon_size, header, skipped, skipped_many, walk}
 
@@ -159,32 +160,67 @@ walk_ends bytes rest fits e =
 
 -- ---- a bundle at the front is walked over
 
-skipped_item : (i : Dot × Slot) (rest : List ℕ) → item.Fits i
-    → skipped (item.spell i ++ rest) ≡ Ok rest
+-- the walk over a text of at most 8,192 bytes ends behind it
+skipped_text : (s rest : List ℕ) → length s < 2 ^ 16 → nat_le (length s) max_bytes ≡ true
+    → skipped (text.spell s ++ rest) ≡ Ok rest
 unfolding text_spelling
-skipped_item i rest fits =
-    let s = item_bytes i in
+skipped_text s rest fits few =
     let small : ltb max_bytes (length s) ≡ false =
-    le-ltb max_bytes (length s) (leb-true (length s) max_bytes fits.1.1) in
+    le-ltb max_bytes (length s) (leb-true (length s) max_bytes few) in
     ap skipped (append_assoc (number_spelling w16 (length s)) s rest)
     ∙ rw (
-      u16_exact.again (length s) (s ++ rest) fits.1.0,
+      u16_exact.again (length s) (s ++ rest) fits,
       small,
       (bytes_exact (length s)).again s rest refl,
     ) refl
 
-many_items : (items : Items) (rest : List ℕ) → AllByRecursion item.Fits items
-    → skipped_many (length items) (flat_map item.spell items ++ rest) ≡ Ok rest
-unfolding skipped_many
-many_items [] rest fits = refl
-many_items (i ∷ more) rest fits =
-    let regrouped : flat_map item.spell (i ∷ more) ++ rest ≡ item.spell i
-    ++ (flat_map item.spell more ++ rest) =
-    ap (λ (t : List ℕ). t ++ rest) (flat_map-cons item.spell i more)
-    ∙ append_assoc (item.spell i) (flat_map item.spell more) rest in
-    ap (skipped_many (suc (length more))) regrouped
-    ∙ rw (skipped_item i (flat_map item.spell more ++ rest) fits.0)
-    (many_items more rest fits.1)
+module _ {A : Type 0} (bytes_of : A → List ℕ) (HasAll : A → Type 0)
+    (value_in : List ℕ → Option A) where
+  abbrev framed : Format A
+  framed = behind_length bytes_of HasAll value_in
+
+  -- the walk over values behind their lengths ends behind them
+  many_framed : (xs : List A) (rest : List ℕ) → AllByRecursion framed.Fits xs
+      → skipped_many (length xs) (flat_map framed.spell xs ++ rest) ≡ Ok rest
+  unfolding skipped_many
+  many_framed [] rest fits = refl
+  many_framed (x ∷ more) rest fits =
+      let regrouped : flat_map framed.spell (x ∷ more) ++ rest ≡ framed.spell x
+      ++ (flat_map framed.spell more ++ rest) =
+      ap (λ (t : List ℕ). t ++ rest) (flat_map-cons framed.spell x more)
+      ∙ append_assoc (framed.spell x) (flat_map framed.spell more) rest in
+      ap (skipped_many (suc (length more))) regrouped
+      ∙ rw (skipped_text (bytes_of x) (flat_map framed.spell more ++ rest) fits.0.1.0 fits.0.1.1)
+      (many_framed more rest fits.1)
+
+-- the bytes are a count of at most 128, and what the walk over that number of items passes
+record IsWalked (bytes rest : List ℕ) : Type 0 where
+  count : ℕ
+  body : List ℕ
+  parts : bytes ≡ number_spelling w16 count ++ body
+  small : count < 256 ^ 2
+  few : nat_le count max_items ≡ true
+  walked : skipped_many count (body ++ rest) ≡ Ok rest
+
+-- the items of a bundle, without runs or with them, are walked over
+items_walked : (runs : Bool) (items : Items) (rest : List ℕ) → (items_by runs).Fits items
+    → IsWalked ((items_by runs).spell items) rest
+items_walked false items rest fits = record {
+  count = length items;
+  body = flat_map item.spell items;
+  parts = refl;
+  small = fits.0.0;
+  few = fits.0.1;
+  walked = many_framed item_bytes HasBytes item_in items rest fits.1;
+}
+items_walked true items rest fits = record {
+  count = length (grouped items);
+  body = flat_map piece.spell (grouped items);
+  parts = refl;
+  small = fits.0.0.0;
+  few = fits.0.0.1;
+  walked = many_framed piece_bytes PieceFits piece_in (grouped items) rest fits.0.1;
+}
 
 horizon_length : (digit : ℕ) (o : Option ℕ) → HorizonFits digit o
     → length (horizon_bytes o) ≡ horizon_size digit
@@ -195,33 +231,35 @@ horizon_length digit (Some h) fits = rw fits.1 (number_length w64 h)
 pub walk_bundle : (b : BundleFields) (rest : List ℕ) → bundle.Fits b
     → walk (bundle.spell b ++ rest) ≡ Ok rest
 walk_bundle b rest fits =
-    let digit = version_of b.items in
+    let digit = version_of b.runs b.items in
     let horizon = horizon_bytes b.horizon in
-    let count = number_spelling w16 (length b.items) in
-    let items = flat_map item.spell b.items in
-    let regrouped : (horizon ++ (count ++ items)) ++ rest ≡ horizon ++ (count ++ (items ++ rest)) =
-    append_assoc horizon (count ++ items) rest
-    ∙ ap (λ (t : List ℕ). horizon ++ t) (append_assoc count items rest) in
-    let few : ltb max_items (length b.items) ≡ false =
-    le-ltb max_items (length b.items) (leb-true (length b.items) max_items fits.0.1.0.1) in
-    let behind = digit ∷ horizon ++ (count ++ (items ++ rest)) in
+    let w = items_walked (has_runs digit) b.items rest fits.0.1.1 in
+    let count = number_spelling w16 w.count in
+    let regrouped : (horizon ++ (items_by (has_runs digit)).spell b.items) ++ rest
+    ≡ horizon ++ (count ++ (w.body ++ rest)) =
+    append_assoc horizon ((items_by (has_runs digit)).spell b.items) rest
+    ∙ ap (λ (t : List ℕ). horizon ++ (t ++ rest)) w.parts
+    ∙ ap (λ (t : List ℕ). horizon ++ t) (append_assoc count w.body rest) in
+    let few : ltb max_items w.count ≡ false =
+    le-ltb max_items w.count (leb-true w.count max_items w.few) in
+    let behind = digit ∷ horizon ++ (count ++ (w.body ++ rest)) in
     let long : ltb (length (magic ++ behind)) least_header ≡ false =
     le-ltb (length (magic ++ behind)) least_header (omega (
       arith,
-      length-append horizon (count ++ (items ++ rest)),
-      length-append count (items ++ rest),
-      number_length w16 (length b.items),
+      length-append horizon (count ++ (w.body ++ rest)),
+      length-append count (w.body ++ rest),
+      number_length w16 w.count,
     )) in
     ap walk (ap (λ (t : List ℕ). magic ++ (digit ∷ t)) regrouped)
     ∙ rw (
       long,
       (bytes_exact 3).again magic behind refl,
-      version_known b.items,
-      (bytes_exact (horizon_size digit)).again horizon (count ++ (items ++ rest))
-          (horizon_length digit b.horizon fits.0.0),
-      u16_exact.again (length b.items) (items ++ rest) fits.0.1.0.0,
+      version_known b.runs b.items,
+      (bytes_exact (horizon_size digit)).again horizon (count ++ (w.body ++ rest))
+          (horizon_length digit b.horizon fits.0.1.0),
+      u16_exact.again w.count (w.body ++ rest) w.small,
       few,
-    ) (many_items b.items rest fits.0.1.1)
+    ) w.walked
 
 -- ---- the bytes before the rest
 

@@ -1,4 +1,5 @@
 -- An item's bytes are read as that item alone. Key results:
+--   framed_exact   a value behind its length has one spelling
 --   item_exact     an item has one spelling
 --   dot_length     a dot has ten bytes
 --   mark_fits      the mark of a dot has a spelling
@@ -26,7 +27,8 @@ use Rattle.tk_fact.specs.FactBytes.{kinds, body, fact, max_bytes}
 use Rattle.tk_fact.specs.FactLaws.{fact_exact}
 use Rattle.tk_store.specs.Slots.{Slot, Held, Skipped}
 use Rattle.tk_store.specs.WholeStores.{as_slot}
-use Rattle.tk_bundle.specs.Items.{dot_size, item_bytes, HasBytes, mark_at, item_in, item}
+use Rattle.tk_bundle.specs.Items.{dot_size, item_bytes, HasBytes, mark_at, item_in, behind_length}
+use Rattle.tk_bundle.specs.Items.{item}
 
 -- ---- a fact is longer than a dot
 
@@ -59,7 +61,7 @@ dot_length d =
     ∙ ap (λ n. n + length (number_spelling w64 d.serial)) (number_length w16 d.region)
     ∙ ap (λ n. 2 + n) (number_length w64 d.serial)
 
-fact_no_dot : (d : Dot) (b : Body) → eqb (length (fact.spell (d, b))) dot_size ≡ false
+pub fact_no_dot : (d : Dot) (b : Body) → eqb (length (fact.spell (d, b))) dot_size ≡ false
 fact_no_dot d b =
     ap (λ n. eqb n dot_size) (length-append (dot_field.spell d) (body.spell b)
     ∙ ap (λ n. n + length (body.spell b)) (dot_length d))
@@ -117,27 +119,37 @@ IsBytes-text bytes s rest fits t =
     (IsBytes-drop (length size) (size ++ (s ++ rest)) all) in
     subst IsBytes (take_at s rest (length s) refl) (IsBytes-take (length s) (s ++ rest) behind)
 
-item_takes : (bytes : List ℕ) (x : (Dot × Slot) × List ℕ) → IsBytes bytes → item.read bytes ≡ Some x
-    → Takes bytes (item.spell x.0) x.1 × item.Fits x.0
-item_takes bytes x fits e =
-    let t = bind_some ((only (λ t. nat_le (length t) max_bytes) text).read bytes)
-    (λ t. item_in t.0 >>= λ i. Some (i, t.1)) x e in
-    let w = bind_some (item_in t.0.0) (λ i. Some (i, t.0.1)) x t.2 in
-    let first = short_exact.takes bytes t.0 fits t.1 in
-    let inside = in_takes t.0.0 w.0 (IsBytes-text bytes t.0.0 t.0.1 fits first.0) w.1 in
-    subst (λ (y : (Dot × Slot) × List ℕ). Takes bytes (item.spell y.0) y.1 × item.Fits y.0)
-    (some_is (w.0, t.0.1) x w.2)
-    (subst (λ (s : List ℕ). Takes bytes (text.spell s) t.0.1
-    × (HasBytes w.0 × (text.Fits s × (nat_le (length s) max_bytes ≡ true)))) inside.1
-    (first.0, (inside.0, first.1)))
+module _ {A : Type 0} (bytes_of : A → List ℕ) (HasAll : A → Type 0) (value_in : List ℕ → Option A)
+    (taken : (bytes : List ℕ) (a : A) → IsBytes bytes → value_in bytes ≡ Some a
+    → HasAll a × (bytes ≡ bytes_of a)) where
+  abbrev framed : Format A
+  framed = behind_length bytes_of HasAll value_in
+
+  framed_takes : (bytes : List ℕ) (x : A × List ℕ) → IsBytes bytes → framed.read bytes ≡ Some x
+      → Takes bytes (framed.spell x.0) x.1 × framed.Fits x.0
+  framed_takes bytes x fits e =
+      let t = bind_some ((only (λ t. nat_le (length t) max_bytes) text).read bytes)
+      (λ t. value_in t.0 >>= λ a. Some (a, t.1)) x e in
+      let w = bind_some (value_in t.0.0) (λ a. Some (a, t.0.1)) x t.2 in
+      let first = short_exact.takes bytes t.0 fits t.1 in
+      let inside = taken t.0.0 w.0 (IsBytes-text bytes t.0.0 t.0.1 fits first.0) w.1 in
+      subst (λ (y : A × List ℕ). Takes bytes (framed.spell y.0) y.1 × framed.Fits y.0)
+      (some_is (w.0, t.0.1) x w.2)
+      (subst (λ (s : List ℕ). Takes bytes (text.spell s) t.0.1
+      × (HasAll w.0 × (text.Fits s × (nat_le (length s) max_bytes ≡ true)))) inside.1
+      (first.0, (inside.0, first.1)))
+
+  -- a value behind its length has one spelling, if all of its bytes are read as it
+  pub framed_exact : ((a : A) → HasAll a → value_in (bytes_of a) ≡ Some a) → IsExact framed
+  framed_exact again = record {
+    takes = framed_takes;
+    again = λ a rest fits.
+        rw (short_exact.again (bytes_of a) rest fits.1, again a fits.0) refl;
+  }
 
 -- an item has one spelling
 pub item_exact : IsExact item
-item_exact = record {
-  takes = item_takes;
-  again = λ i rest fits.
-      rw (short_exact.again (item_bytes i) rest fits.1, in_again i fits.0) refl;
-}
+item_exact = framed_exact item_bytes HasBytes item_in in_takes in_again
 
 -- the mark of a dot has a spelling
 pub mark_fits : (d : Dot) → dot_field.Fits d → item.Fits (d, Skipped)

@@ -1,9 +1,10 @@
 -- The bytes of a bundle's items (own): each is behind its length.
---   dot_size     the number of bytes of a dot, the length of a mark
---   item_bytes   the bytes of an item
---   item_in      the item that all of some bytes spell
---   item         the format of an item behind its length
---   GetsItem     what a reader of an item may return
+--   dot_size        the number of bytes of a dot, the length of a mark
+--   item_bytes      the bytes of an item
+--   item_in         the item that all of some bytes spell
+--   behind_length   the format of a value behind the length of its bytes
+--   item            the format of an item behind its length
+--   GetsItem        what a reader of an item may return
 use Rattle.std.specs.Prelude.{◌≡◌, ℕ, true, ◌==◌, nat_le, List, length, Option, Some, None}
 use Rattle.std.specs.Prelude.{Result, Ok, Err, if◌then◌else◌}
 use Rattle.std.specs.Option.{option_map}
@@ -42,15 +43,19 @@ item_in bytes =
     if length bytes == dot_size then option_map mark_at (whole dot_field bytes)
     else option_map as_slot (whole fact bytes)
 
+-- a value behind the length of its bytes, which is at most that of a fact
+abbrev pub behind_length : {A : Type 0} → (A → List ℕ) → (A → Type 0) → (List ℕ → Option A)
+    → Format A
+behind_length bytes_of HasAll value_in = record {
+  spell = λ a. text.spell (bytes_of a);
+  Fits = λ a. HasAll a × (text.Fits (bytes_of a) × (nat_le (length (bytes_of a)) max_bytes ≡ true));
+  read = λ bytes. (only (λ t. nat_le (length t) max_bytes) text).read bytes >>= λ t.
+      value_in t.0 >>= λ a. Some (a, t.1);
+}
+
 -- an item behind its length, which is at most that of a fact
 abbrev pub item : Format (Dot × Slot)
-item = record {
-  spell = λ i. text.spell (item_bytes i);
-  Fits = λ i. HasBytes i
-      × (text.Fits (item_bytes i) × (nat_le (length (item_bytes i)) max_bytes ≡ true));
-  read = λ bytes. (only (λ t. nat_le (length t) max_bytes) text).read bytes >>= λ t.
-      item_in t.0 >>= λ i. Some (i, t.1);
-}
+item = behind_length item_bytes HasBytes item_in
 
 -- a reader of all of the bytes: unless memory runs out, it returns the item that they spell
 abbrev pub GetsItem : Result Entry ReadError → List ℕ → Type 0

@@ -42,7 +42,8 @@ counts S i = is_mark i || not (is_skipped S i.0)
 
 -- the bundle without the facts at skipped dots
 abbrev pub news_of : Slots → BundleFields → BundleFields
-news_of S b = record { horizon = b.horizon; items = filter (counts S) b.items }
+news_of S b =
+    record { horizon = b.horizon; runs = b.runs; items = filter (counts S) b.items }
 
 -- the record of a bundle in a log: the bytes of what isn't dropped, if the bundle changes the store
 abbrev pub record_of : StoreFields → BundleFields → Option (List ℕ)

@@ -5,7 +5,7 @@
 --   IsPageOf     a page in bytes has these parts
 --   items_at     what a store knows of given dots
 --   IsPageAt     a page in bytes has what a store knows of given dots
-use Rattle.std.specs.Prelude.{◌≡◌, ℕ, ◌-◌, Bool, nat_lt, List, ◌∷◌, ◌++◌, length, slice_get}
+use Rattle.std.specs.Prelude.{◌≡◌, ℕ, ◌-◌, Bool, false, nat_lt, List, ◌∷◌, ◌++◌, length, slice_get}
 use Rattle.std.specs.Prelude.{Option}
 use Rattle.std.specs.Prelude.{Some, None, if◌then◌else◌}
 use Rattle.std.specs.Int.{w16}
@@ -45,7 +45,8 @@ horizon_with horizon items = horizon_if (list_any is_mark items) horizon
 
 -- the bundle of items of a store with this horizon
 abbrev pub bundle_of : ℕ → Items → BundleFields
-bundle_of horizon items = record { horizon = horizon_with horizon items; items = items }
+bundle_of horizon items =
+    record { horizon = horizon_with horizon items; runs = false; items = items }
 
 -- the first slots above the cursor `after` that the vector does not cover, at most `limit`
 abbrev pub page_within : ℕ → StoreFields → Vector → Option Dot → PageFields
@@ -80,7 +81,7 @@ items_at S dots = filter_map (item_at S) dots
 pub record IsPageAt (page : Page) (P : StoreFields) (dots : List Dot) (follows : Bool)
     : Type 0 where
   pub bytes : page.bytes.items ≡ magic
-      ++ (version_of (items_at P.slots dots) ∷ horizon_bytes
+      ++ (version_of false (items_at P.slots dots) ∷ horizon_bytes
       (horizon_with P.horizon (items_at P.slots dots))
       ++ ((number w16).spell (length dots) ++ flat_map item.spell (items_at P.slots dots)))
   pub count : page.count ≡ length dots

@@ -1,7 +1,7 @@
 -- The walk over the beginning of a bundle at the front of bytes (own). Key results:
 --   walk_torn      the beginning of a bundle, unless it is the whole bundle, is cut
 --   torn_walked    bytes over which the walk goes are the beginning of no bundle
-use Rattle.std.proofs.Common.{◌≡◌, ◌≢◌, ℕ, zero, suc, ◌+◌, ◌-◌, ◌≤◌, Bool, true, false, cond}
+use Rattle.std.proofs.Common.{◌≡◌, ◌≢◌, ℕ, zero, suc, ◌≤◌, Bool, true, false, cond}
 use Rattle.std.proofs.Common.{not, ltb, List, [], ◌∷◌, ◌++◌, length, take, drop, Option, Some, None}
 use Rattle.std.proofs.Common.{Result, Ok, Err, refl, sym, ap, ◌∙◌, arith}
 use Rattle.std.specs.Str.{bytes_eq}

@@ -1,9 +1,10 @@
 -- The version of items is in the table, and shows which sorts of items are among them (own). Key
 -- results:
 --   version_known   the version of items is in the table: every kind has a version
---   version_tells   the digit of items, by whether marks, sign-outs, and facts of clients that keep
---                   their refresh tokens or have lives are among them
---   horizon_told    the version of items has a horizon exactly if one of them is a mark
+--   version_tells   the digit of items, by whether runs, marks, sign-outs, and facts of clients
+--                   that keep their refresh tokens or have lives are among them
+--   horizon_told    the version of items has a horizon exactly if it has runs, or one is a mark
+--   runs_told       the version of items has runs exactly if marks are spelled as runs
 --   facts_told      no mark is among facts
 use Rattle.std.proofs.Common.{◌≡◌, ℕ, ◌≤◌, Bool, true, false, ◌&&◌, ◌||◌, not, max}
 use Rattle.std.proofs.Common.{nat_le}
@@ -29,7 +30,8 @@ use Rattle.tk_bundle.specs.BundleFields.{Items, is_mark}
 use Rattle.tk_bundle.specs.Bundle.{digit_told}
 use Rattle.tk_bundle.specs.Versions.{kind_of_client, is_newer_client, kind_of, kind_in, newest_kind}
 use Rattle.tk_bundle.specs.Versions.{version_with}
-use Rattle.tk_bundle.specs.Versions.{version_of, is_version, has_horizon, is_newer, is_sign_out}
+use Rattle.tk_bundle.specs.Versions.{version_of, is_version, has_horizon, has_runs, is_newer}
+use Rattle.tk_bundle.specs.Versions.{is_sign_out}
 
 -- All kinds are in the table; the kinds up to 10 are those of facts without a client that keeps its
 -- refresh token or has lives; the kinds up to 9, those of these without sign-outs
@@ -121,52 +123,74 @@ newest_told last (i ∷ more) =
     sorted true false false b p = refl
     sorted false a o b p = refl
 
--- the digit by the newest kind, and by whether there are marks
-by_kind : (kind : ℕ) (newer marked out : Bool) → kind ≤ 13 → nat_le kind 10 ≡ not newer
+-- the digit by the newest kind, and by whether there are marks and runs
+by_kind : (kind : ℕ) (runs newer marked out : Bool) → kind ≤ 13 → nat_le kind 10 ≡ not newer
     → nat_le kind 9 ≡ (not newer && not out)
-    → version_with kind marked ≡ digit_told newer marked out
-by_kind kind true true out low k o = grind (arith, nat_tests)
-by_kind kind true false out low k o = grind (arith, nat_tests)
-by_kind kind false true true low k o = grind (arith, nat_tests)
-by_kind kind false true false low k o = grind (arith, nat_tests)
-by_kind kind false false true low k o = grind (arith, nat_tests)
-by_kind kind false false false low k o = grind (arith, nat_tests)
+    → version_with kind marked runs ≡ digit_told runs newer marked out
+by_kind kind true newer true out low k o = grind (arith, nat_tests)
+by_kind kind true newer false out low k o = grind (arith, nat_tests)
+by_kind kind false true true out low k o = grind (arith, nat_tests)
+by_kind kind false true false out low k o = grind (arith, nat_tests)
+by_kind kind false false true true low k o = grind (arith, nat_tests)
+by_kind kind false false true false low k o = grind (arith, nat_tests)
+by_kind kind false false false true low k o = grind (arith, nat_tests)
+by_kind kind false false false false low k o = grind (arith, nat_tests)
 
--- the digit of items, by which sorts of items are among them
-pub version_tells : (items : Items) → version_of items
-    ≡ digit_told (list_any is_newer items) (list_any is_mark items) (list_any is_sign_out items)
-version_tells items =
-    by_kind (newest_kind 0 items) (list_any is_newer items) (list_any is_mark items)
+-- the digit of items, by which sorts of items are among them, and whether there are runs
+pub version_tells : (runs : Bool) (items : Items) → version_of runs items
+    ≡ digit_told runs (list_any is_newer items) (list_any is_mark items)
+    (list_any is_sign_out items)
+version_tells runs items =
+    by_kind (newest_kind 0 items) runs (list_any is_newer items) (list_any is_mark items)
     (list_any is_sign_out items) (newest_known 0 items (omega arith)) (newest_newer 0 items)
     (newest_told 0 items)
 
 -- the version of items is in the table
-pub version_known : (items : Items) → is_version (version_of items) ≡ true
+pub version_known : (runs : Bool) (items : Items) → is_version (version_of runs items) ≡ true
 unfolding is_version
-version_known items =
-    ap is_version (version_tells items)
-    ∙ known (list_any is_newer items) (list_any is_mark items) (list_any is_sign_out items)
+version_known runs items =
+    ap is_version (version_tells runs items)
+    ∙ known runs (list_any is_newer items) (list_any is_mark items) (list_any is_sign_out items)
   where
-    known : (newer marked out : Bool) → is_version (digit_told newer marked out) ≡ true
-    known true true out = refl
-    known true false out = refl
-    known false true out = refl
-    known false false true = refl
-    known false false false = refl
+    known : (runs newer marked out : Bool) → is_version (digit_told runs newer marked out) ≡ true
+    known true newer marked out = refl
+    known false true true out = refl
+    known false true false out = refl
+    known false false true out = refl
+    known false false false true = refl
+    known false false false false = refl
 
--- the version of items has a horizon exactly if one of them is a mark
-pub horizon_told : (items : Items) → has_horizon (version_of items) ≡ list_any is_mark items
+-- the version of items has a horizon exactly if it has runs, or one of the items is a mark
+pub horizon_told : (runs : Bool) (items : Items)
+    → has_horizon (version_of runs items) ≡ (runs || list_any is_mark items)
 unfolding has_horizon
-horizon_told items =
-    ap has_horizon (version_tells items)
-    ∙ told (list_any is_newer items) (list_any is_mark items) (list_any is_sign_out items)
+horizon_told runs items =
+    ap has_horizon (version_tells runs items)
+    ∙ told runs (list_any is_newer items) (list_any is_mark items) (list_any is_sign_out items)
   where
-    told : (newer marked out : Bool) → has_horizon (digit_told newer marked out) ≡ marked
-    told true true out = refl
-    told true false out = refl
-    told false true out = refl
-    told false false true = refl
-    told false false false = refl
+    told : (runs newer marked out : Bool)
+        → has_horizon (digit_told runs newer marked out) ≡ (runs || marked)
+    told true newer marked out = refl
+    told false true true out = refl
+    told false true false out = refl
+    told false false true out = refl
+    told false false false true = refl
+    told false false false false = refl
+
+-- the version of items has runs exactly if marks are spelled as runs
+pub runs_told : (runs : Bool) (items : Items) → has_runs (version_of runs items) ≡ runs
+unfolding has_runs
+runs_told runs items =
+    ap has_runs (version_tells runs items)
+    ∙ told runs (list_any is_newer items) (list_any is_mark items) (list_any is_sign_out items)
+  where
+    told : (runs newer marked out : Bool) → has_runs (digit_told runs newer marked out) ≡ runs
+    told true newer marked out = refl
+    told false true true out = refl
+    told false true false out = refl
+    told false false true out = refl
+    told false false false true = refl
+    told false false false false = refl
 
 -- no mark is among facts
 pub facts_told : (fs : Facts) → list_any is_mark (map as_slot fs) ≡ false

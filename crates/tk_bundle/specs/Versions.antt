@@ -1,11 +1,13 @@
--- The versions of a bundle's bytes (own): which kinds of facts each has, and whether it has marks.
+-- The versions of a bundle's bytes (own): which kinds of facts each has, and whether it has marks,
+-- and runs of marks.
 --   versions       the table, one row a version
 --   kind_of        the number of the kind that a version must have for a body
 --   newest_kind    the greatest number of a kind that the facts among items need
---   version_with   the digit of the first version that has the kinds up to a number, and marks
---   version_of     the digit of the first version that has all of the items
+--   version_with   the digit of the first version that has kinds up to a number, marks, and runs
+--   version_of     the digit of the first version that has all of the items, and runs
 --   is_version     a digit is that of a version
 --   has_horizon    a version has marks, and so a horizon
+--   has_runs       a version has runs of marks
 --   is_sign_out    an item is a sign-out
 --   is_newer       an item is of a client that keeps its refresh token, or has lives
 use Rattle.std.specs.Prelude.{ℕ, max, Bool, true, false, ◌&&◌, ◌||◌, not, nat_le, ◌==◌}
@@ -21,17 +23,18 @@ use Rattle.tk_store.specs.Slots.{Slot, Held, Skipped}
 use Rattle.tk_bundle.specs.BundleFields.{Items, is_mark}
 use Rattle.tk_bundle.specs.declared.version.Version.{Version}
 
--- The digit of each version, the number of its newest kind of facts, and whether it has marks. A
--- bundle keeps the version that it was written in: a row never changes, and a later version is one
--- row more. OTB1 has the kinds 1 to 9, OTB2 the kinds 1 to 10, OTB3 these and marks. OTB4 has all
--- kinds, OTB5 all kinds and marks
+-- The digit of each version, the number of its newest kind of facts, whether it has marks, and
+-- whether it has runs of marks. A bundle keeps the version that it was written in: a row never
+-- changes, and a later version is one row more. OTB1 has the kinds 1 to 9, OTB2 the kinds 1 to 10,
+-- OTB3 these and marks. OTB4 has all kinds, OTB5 all kinds and marks, OTB6 these and runs
 abbrev pub versions : List Version
 versions =
-    record { digit = 49; kinds = 9; marks = false }
-    ∷ record { digit = 50; kinds = 10; marks = false }
-    ∷ record { digit = 51; kinds = 10; marks = true }
-    ∷ record { digit = 52; kinds = 13; marks = false }
-    ∷ record { digit = 53; kinds = 13; marks = true }
+    record { digit = 49; kinds = 9; marks = false; runs = false }
+    ∷ record { digit = 50; kinds = 10; marks = false; runs = false }
+    ∷ record { digit = 51; kinds = 10; marks = true; runs = false }
+    ∷ record { digit = 52; kinds = 13; marks = false; runs = false }
+    ∷ record { digit = 53; kinds = 13; marks = true; runs = false }
+    ∷ record { digit = 54; kinds = 13; marks = true; runs = true }
     ∷ []
 
 -- The number of the kind that a version must have for a client: that of clients with lives; that of
@@ -66,24 +69,27 @@ abbrev pub newest_kind : ℕ → Items → ℕ
 newest_kind last [] = last
 newest_kind last (i ∷ more) = newest_kind (max last (kind_in i.1)) more
 
--- the version has the kinds up to a number, and marks if they are needed
-abbrev pub has_all : Version → ℕ → Bool → Bool
-has_all v kind marked = nat_le kind v.kinds && (not marked || v.marks)
+-- the version has the kinds up to a number, and marks and runs if they are needed
+abbrev pub has_all : Version → ℕ → Bool → Bool → Bool
+has_all v kind marked runs =
+    nat_le kind v.kinds && (not marked || v.marks) && (not runs || v.runs)
 
--- the digit of the first version in the list that has the kinds up to a number, and marks if they
--- are needed; 0, the digit of no version, if no version has
-abbrev pub digit_in : List Version → ℕ → Bool → ℕ
-digit_in [] kind marked = 0
-digit_in (v ∷ vs) kind marked = if has_all v kind marked then v.digit else digit_in vs kind marked
+-- the digit of the first version in the list that has the kinds up to a number, and marks and runs
+-- if they are needed; 0, the digit of no version, if no version has
+abbrev pub digit_in : List Version → ℕ → Bool → Bool → ℕ
+digit_in [] kind marked runs = 0
+digit_in (v ∷ vs) kind marked runs =
+    if has_all v kind marked runs then v.digit else digit_in vs kind marked runs
 
--- the digit of the first version that has the kinds up to a number, and marks if they are needed
-abbrev pub version_with : ℕ → Bool → ℕ
-version_with kind marked = digit_in versions kind marked
+-- the digit of the first version that has the kinds up to a number, and marks and runs if they are
+-- needed
+abbrev pub version_with : ℕ → Bool → Bool → ℕ
+version_with kind marked runs = digit_in versions kind marked runs
 
--- the digit of the first version that has all of the items: the kinds of facts, and marks if one of
--- the items is a mark
-abbrev pub version_of : Items → ℕ
-version_of items = version_with (newest_kind 0 items) (list_any is_mark items)
+-- the digit of the first version that has all of the items: the kinds of facts, marks if one of the
+-- items is a mark, and runs if marks are spelled as runs
+abbrev pub version_of : Bool → Items → ℕ
+version_of runs items = version_with (newest_kind 0 items) (list_any is_mark items) runs
 
 -- the digit is that of a version
 unfoldable pub is_version : ℕ → Bool
@@ -92,6 +98,10 @@ is_version digit = list_any (λ v. v.digit == digit) versions
 -- a bundle of this version has a horizon: the version has marks
 unfoldable pub has_horizon : ℕ → Bool
 has_horizon digit = list_any (λ v. (v.digit == digit) && v.marks) versions
+
+-- a bundle of this version has runs
+unfoldable pub has_runs : ℕ → Bool
+has_runs digit = list_any (λ v. (v.digit == digit) && v.runs) versions
 
 -- the item is a sign-out
 abbrev pub is_sign_out : Dot × Slot → Bool

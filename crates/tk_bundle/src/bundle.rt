@@ -7,14 +7,18 @@ use tk_handle::Moment;
 /// The bytes with which a bundle begins, before the digit of its version (own).
 pub(crate) const MAGIC: &[u8] = b"OTB";
 
-/// The greatest number of items in a bundle (own).
+/// The greatest number of items in a bundle without runs, and of pieces in one with runs (own).
 pub(crate) const MAX_ITEMS: u16 = 128;
 
-/// Items, strictly ascending by dot, at most 128 of them; if a mark is among them, the horizon up
-/// to which the sender skipped facts.
+/// Items, strictly ascending by dot; if a mark is among them, the horizon up to which the sender
+/// skipped facts.
+///
+/// A bundle without runs has at most 128 items. In a bundle with runs, marks that follow one
+/// another are one piece: it has at most 128 pieces, and at most 1,024 items.
 #[derive(Drop)]
 pub struct Bundle {
     horizon: Option<Moment>,
+    runs: bool,
     items: Vec<Item>,
 }
 
@@ -23,17 +27,18 @@ impl Model for Bundle {
 
     ghost Value = { BundleFields };
 
-    ghost view = { λ b. record { horizon = b.horizon; items = b.items.items } };
+    ghost view = { λ b. record { horizon = b.horizon; runs = b.runs; items = b.items.items } };
 }
 
 ghost use Rattle.std.specs.Prelude.{◌≡◌, ◌≢◌, ◌++◌, [], List, ℕ, IfOk, IsErrOf};
 ghost use Rattle.tk_format.specs.Reading.{Gets, GetsAll};
 ghost use Rattle.tk_bundle.specs.BundleFields.{BundleFields};
 ghost use Rattle.tk_bundle.specs.Bundle.{counted_items, versioned, listed, bundle, bundle_bytes};
-ghost use Rattle.tk_bundle.specs.Bundle.{contents, horizon_field, VersionsTold};
+ghost use Rattle.tk_bundle.specs.Bundle.{contents, horizon_field, items_by, VersionsTold};
 
 use crate::order::is_ascending;
-use crate::version::{has_horizon, version_of};
+use crate::pieces::read_pieced;
+use crate::version::{has_horizon, has_runs, version_of};
 use std::alloc::Global;
 use tk_format::{ReadError, Reader, Spelled, read_all, read_many};
 
@@ -61,6 +66,13 @@ impl Bundle {
         self.horizon
     }
 
+    // Returns whether marks that follow one another are spelled as runs.
+    pub(crate) fn has_runs(&self) -> bool
+        ensures { result ≡ self.now.runs }
+    {
+        self.runs
+    }
+
     /// Returns the items, ascending by dot.
     pub fn items(&self) -> &[Item]
         ensures { result.now ≡ self.now.items }
@@ -72,7 +84,11 @@ impl Bundle {
     pub fn into_items(self) -> Vec<Item>
         ensures { result.items ≡ self.items }
     {
-        let Bundle { horizon: _, items } = self;
+        let Bundle {
+            horizon: _,
+            runs: _,
+            items,
+        } = self;
         items
     }
 }
@@ -91,7 +107,7 @@ fn read_versioned(alloc: Global, reader: &mut Reader<'_>) -> Result<Bundle, Read
 {
     let version = reader.take_u8().ok_or(ReadError::Malformed)?;
     let bundle = read_contents(alloc, version, reader)?;
-    if version == version_of(&bundle.items) {
+    if version == version_of(bundle.runs, &bundle.items) {
         Ok(bundle)
     } else {
         Err(ReadError::Malformed)
@@ -102,9 +118,14 @@ fn read_versioned(alloc: Global, reader: &mut Reader<'_>) -> Result<Bundle, Read
 fn read_contents(alloc: Global, version: u8, reader: &mut Reader<'_>) -> Result<Bundle, ReadError>
     ensures { Gets (λ b. b) (contents version) result reader.old reader.new }
 {
+    let runs = has_runs(version);
     let horizon = read_horizon(version, reader)?;
-    let items = read_counted(alloc, reader)?;
-    Ok(Bundle { horizon, items })
+    let items = read_items(alloc, runs, reader)?;
+    Ok(Bundle {
+        horizon,
+        runs,
+        items,
+    })
 }
 
 // Reads the horizon of a bundle, if the version has one.
@@ -116,6 +137,17 @@ fn read_horizon(version: u8, reader: &mut Reader<'_>) -> Result<Option<Moment>, 
         Ok(Some(horizon))
     } else {
         Ok(None)
+    }
+}
+
+// Reads the items, without runs or with them.
+fn read_items(alloc: Global, runs: bool, reader: &mut Reader<'_>) -> Result<Vec<Item>, ReadError>
+    ensures { Gets (λ v. v.items) (items_by runs) result reader.old reader.new }
+{
+    if runs {
+        read_pieced(alloc, reader)
+    } else {
+        read_counted(alloc, reader)
     }
 }
 
@@ -156,10 +188,11 @@ pub fn none_begins_another()
 
 /// States a law: the first four bytes of a bundle show which sorts of items are inside.
 ///
-/// A bundle with the registration of a client that keeps its refresh token or has lives, or with an
-/// access token that was refreshed for one that keeps it, begins with `OTB5` if one of its items is
-/// a mark, otherwise with `OTB4`. Another bundle begins with `OTB3` if one of its items is a mark,
-/// otherwise with `OTB2` if one is a sign-out, otherwise with `OTB1`.
+/// A bundle with runs begins with `OTB6`. Another bundle with the registration of a client that
+/// keeps its refresh token or has lives, or with an access token that was refreshed for one that
+/// keeps it, begins with `OTB5` if one of its items is a mark, otherwise with `OTB4`. Any other
+/// begins with `OTB3` if one of its items is a mark, otherwise with `OTB2` if one is a sign-out,
+/// otherwise with `OTB1`.
 pub fn versions_told()
     ensures { VersionsTold }
 {}

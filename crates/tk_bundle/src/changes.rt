@@ -1,16 +1,22 @@
 //! What a bundle changes of a store, and the record of that in a log: `news`.
 
-ghost use Rattle.std.specs.Prelude.{◌≡◌, ◌≤◌, ◌++◌, filter, length, IfOk, OnOk};
+ghost use Rattle.std.specs.Prelude.{◌≡◌, ◌≤◌, ◌++◌, ◌∷◌, filter, length, IfOk, OnOk};
 ghost use Rattle.std.specs.FinMap as map;
 ghost use Rattle.std.specs.List.{AllByRecursion, flat_map};
 ghost use Rattle.std.specs.Option.{option_map};
-ghost use Rattle.tk_bundle.specs.Bundle.{bundle, max_items};
+ghost use Rattle.std.specs.Int.{w16};
+ghost use Rattle.tk_format.specs.Format.{number};
+ghost use Rattle.tk_bundle.specs.Bundle.{bundle, bundle_bytes, horizon_bytes, magic, max_items};
 ghost use Rattle.tk_bundle.specs.Items.{item};
 ghost use Rattle.tk_bundle.specs.News as spec;
+ghost use Rattle.tk_bundle.specs.PieceBytes.{max_run_items};
+ghost use Rattle.tk_bundle.specs.Pieces.{grouped};
+ghost use Rattle.tk_bundle.specs.RunPage.{pieces_bytes};
 ghost use Rattle.tk_bundle.specs.Versions.{newest_kind, version_of};
 
 use crate::bundle::Bundle;
 use crate::item::{Item, is_mark};
+use crate::kept_pieces::{count_pieces, write_pieces};
 use crate::page::{begin_bundle, write_mark};
 use crate::version::{kind_in, version_with};
 use std::alloc::{AllocError, Global};
@@ -33,11 +39,60 @@ pub fn news(alloc: Global, store: &FactStore, sent: &Bundle) -> Result<Option<Ve
     if !changes(store, sent) {
         return Ok(None);
     }
-    let items = sent.items();
+    let bytes = record_of(alloc, store, sent)?;
+    Ok(Some(bytes))
+}
+
+// Writes the bundle without the facts at skipped dots.
+fn record_of(alloc: Global, store: &FactStore, sent: &Bundle) -> Result<Vec<u8>, AllocError>
+    requires { bundle.Fits sent.now }
+    ensures { IfOk result (λ bytes. bytes.items
+        ≡ bundle_bytes (spec.news_of store.now.slots sent.now)) }
+{
     let version = version_kept(store, sent);
+    if sent.has_runs() {
+        return runs_record(alloc, store, version, sent);
+    }
+    record(alloc, store, version, sent)
+}
+
+// Writes the record of a bundle without runs.
+fn record(
+    alloc: Global,
+    store: &FactStore,
+    version: u8,
+    sent: &Bundle,
+) -> Result<Vec<u8>, AllocError>
+    requires few { length sent.now.items ≤ max_items }
+    requires fits { AllByRecursion item.Fits sent.now.items }
+    ensures { let kept = filter (spec.counts store.now.slots) sent.now.items in
+        IfOk result (λ bytes. bytes.items ≡ magic ++ (version ∷ horizon_bytes sent.now.horizon
+        ++ ((number w16).spell (length kept) ++ flat_map item.spell kept))) }
+{
+    let items = sent.items();
     let mut writer = begin_bundle(alloc, version, sent.horizon(), count_kept(store, items))?;
     write_kept(alloc, store, items, &mut writer)?;
-    Ok(Some(writer.into_bytes()))
+    Ok(writer.into_bytes())
+}
+
+// Writes the record of a bundle with runs.
+fn runs_record(
+    alloc: Global,
+    store: &FactStore,
+    version: u8,
+    sent: &Bundle,
+) -> Result<Vec<u8>, AllocError>
+    requires few { length sent.now.items ≤ max_run_items }
+    requires fits { AllByRecursion item.Fits sent.now.items }
+    ensures { let kept = grouped (filter (spec.counts store.now.slots) sent.now.items) in
+        IfOk result (λ bytes. bytes.items ≡ magic ++ (version ∷ horizon_bytes sent.now.horizon
+        ++ ((number w16).spell (length kept) ++ pieces_bytes kept))) }
+{
+    let items = sent.items();
+    let count = count_pieces(store, None, items);
+    let mut writer = begin_bundle(alloc, version, sent.horizon(), count)?;
+    write_pieces(alloc, store, None, items, &mut writer)?;
+    Ok(writer.into_bytes())
 }
 
 // Returns whether taking in the bundle changes the store.
@@ -77,7 +132,7 @@ fn changes_slot(store: &FactStore, item: &Item) -> bool
 }
 
 // Returns whether the item isn't dropped when it is taken in.
-fn counts(store: &FactStore, item: &Item) -> bool
+pub(crate) fn counts(store: &FactStore, item: &Item) -> bool
     ensures { result ≡ spec.counts store.now.slots item.now }
 {
     is_mark(item) || !store.skipped(item.dot())
@@ -87,16 +142,18 @@ fn counts(store: &FactStore, item: &Item) -> bool
 // mark is dropped.
 fn version_kept(store: &FactStore, sent: &Bundle) -> u8
     requires { bundle.Fits sent.now }
-    ensures { result ≡ version_of (filter (spec.counts store.now.slots) sent.now.items) }
+    ensures { result
+        ≡ version_of sent.now.runs (filter (spec.counts store.now.slots) sent.now.items) }
 {
     version_with(
         newest_kept(0, store, sent.items()),
         sent.horizon().is_some(),
+        sent.has_runs(),
     )
 }
 
 // Returns the newest kind of the items that aren't dropped, or `last` if that is newer. Recurses
-// over at most 128 items, as the next two functions do.
+// over at most 1,024 items, as the next two functions do.
 fn newest_kept(last: u8, store: &FactStore, items: &[Item]) -> u8
     ensures { result ≡ newest_kind last (filter (spec.counts store.now.slots) items.now) }
 {

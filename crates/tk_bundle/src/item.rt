@@ -29,8 +29,9 @@ impl Model for Item {
 
 ghost use Rattle.std.specs.Prelude.{◌≡◌};
 ghost use Rattle.tk_store.specs.SlotShown.{HasDot, shown_slot};
+ghost use Rattle.tk_store.specs.WholeStores.{as_slot};
 ghost use Rattle.tk_bundle.specs.BundleFields.{fact_of, is_mark};
-ghost use Rattle.tk_bundle.specs.Items.{GetsItem};
+ghost use Rattle.tk_bundle.specs.Items.{GetsItem, mark_at};
 ghost use Rattle.tk_format.specs.Format.{whole};
 ghost use Rattle.tk_handle.specs.DotBytes.{dot_field};
 
@@ -42,6 +43,24 @@ use tk_store::SlotRef;
 pub(crate) const DOT_BYTES: u16 = 10;
 
 impl Item {
+    // Wraps a fact.
+    pub(crate) fn of_fact(fact: Fact) -> Item
+        ensures { result ≡ as_slot fact }
+    {
+        Item {
+            entry: Entry::Fact(fact),
+        }
+    }
+
+    // Returns the mark of a dot.
+    pub(crate) fn mark(dot: Dot) -> Item
+        ensures { result ≡ mark_at dot }
+    {
+        Item {
+            entry: Entry::Skipped(dot),
+        }
+    }
+
     /// Returns the item's dot.
     pub fn dot(&self) -> Dot
         ensures { result ≡ self.now.0 }
@@ -116,7 +135,7 @@ fn read_entry(alloc: Global, bytes: &[u8]) -> Result<Entry, ReadError>
 }
 
 // Reads a dot from all of the bytes.
-fn read_dot(bytes: &[u8]) -> Option<Dot>
+pub(crate) fn read_dot(bytes: &[u8]) -> Option<Dot>
     ensures { result ≡ whole dot_field bytes.now }
 {
     let mut reader = Reader::new(bytes);

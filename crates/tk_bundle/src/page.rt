@@ -7,7 +7,7 @@ use tk_handle::Dot;
 pub struct Page {
     /// The bundle's bytes.
     pub bytes: Vec<u8>,
-    /// The number of items in the bundle, 0 to 128.
+    /// The number of items in the bundle: 0 to 128, or with runs 0 to 1,024.
     pub count: u16,
     /// The dot of the bundle's last item, which is the cursor of the next page.
     pub last: Option<Dot>,
@@ -81,7 +81,12 @@ fn page_within(
 }
 
 // Makes the page of what the store knows of the dots.
-fn page_at(alloc: Global, store: &FactStore, dots: &[Dot], more: bool) -> Result<Page, AllocError>
+pub(crate) fn page_at(
+    alloc: Global,
+    store: &FactStore,
+    dots: &[Dot],
+    more: bool,
+) -> Result<Page, AllocError>
     requires { length dots.now ≤ max_items }
     ensures page { IfOk result (λ page. spec.IsPageAt page store.now dots.now more) }
     ensures fits { OnOk result (AllByRecursion item.Fits
@@ -89,7 +94,7 @@ fn page_at(alloc: Global, store: &FactStore, dots: &[Dot], more: bool) -> Result
     ensures horizon { moment.Fits store.now.horizon }
 {
     let marked = has_mark(store, dots);
-    let version = version_with(newest_at(store, dots), marked);
+    let version = version_with(newest_at(store, dots), marked, false);
     let horizon = horizon_with(marked, store.horizon());
     store.horizon().known();
     let count = dots.len() as u16;
@@ -118,7 +123,7 @@ fn has_skipped(store: &FactStore, dots: &[Dot]) -> bool
 }
 
 // Returns the newest kind of what the store knows of the dots.
-fn newest_at(store: &FactStore, dots: &[Dot]) -> u8
+pub(crate) fn newest_at(store: &FactStore, dots: &[Dot]) -> u8
     ensures { result ≡ newest_kind 0 (spec.items_at store.now.slots dots.now) }
 {
     let mut newest = 0;
@@ -167,7 +172,7 @@ pub(crate) fn begin_bundle(
 }
 
 // Returns the last of the dots, if there is one.
-fn last_of(dots: &[Dot]) -> Option<Dot>
+pub(crate) fn last_of(dots: &[Dot]) -> Option<Dot>
     ensures { result ≡ spec.last_of dots.now }
 {
     match dots.last() {
@@ -239,7 +244,7 @@ pub fn single(alloc: Global, fact: &Fact) -> Result<Vec<u8>, AllocError>
     ensures fits { bundle.Fits (of_facts (fact.now ∷ [])) }
 {
     fact.known();
-    let version = version_with(kind_of(&fact.body), false);
+    let version = version_with(kind_of(&fact.body), false, false);
     let mut writer = begin_bundle(alloc, version, None, 1)?;
     fact.write_framed(alloc, &mut writer)?;
     Ok(writer.into_bytes())

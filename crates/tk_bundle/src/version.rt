@@ -1,4 +1,5 @@
-//! The versions of a bundle's bytes: the kinds of facts that each has, and whether it has marks.
+//! The versions of a bundle's bytes: the kinds of facts that each has, and whether it has marks and
+//! runs of marks.
 
 /// A version of a bundle's bytes (own).
 #[derive(Clone, Copy)]
@@ -9,35 +10,48 @@ pub(crate) struct Version {
     kinds: u8,
     /// Whether the version has marks of skipped facts, and then a horizon.
     marks: bool,
+    /// Whether the version has runs of marks.
+    runs: bool,
 }
 
 // A bundle keeps the version that it was written in: a row never changes, and a later version is
 // one row more.
-const VERSIONS: [Version; 5] = [
+const VERSIONS: [Version; 6] = [
     Version {
         digit: b'1',
         kinds: 9,
         marks: false,
+        runs: false,
     },
     Version {
         digit: b'2',
         kinds: 10,
         marks: false,
+        runs: false,
     },
     Version {
         digit: b'3',
         kinds: 10,
         marks: true,
+        runs: false,
     },
     Version {
         digit: b'4',
         kinds: 13,
         marks: false,
+        runs: false,
     },
     Version {
         digit: b'5',
         kinds: 13,
         marks: true,
+        runs: false,
+    },
+    Version {
+        digit: b'6',
+        kinds: 13,
+        marks: true,
+        runs: true,
     },
 ];
 
@@ -87,28 +101,29 @@ pub(crate) fn kind_of(body: &Body) -> u8
     }
 }
 
-// Returns whether the version has the kinds up to the given one, and marks if they are needed.
-fn has_all(version: &Version, kind: u8, marked: bool) -> bool
-    ensures { result ≡ spec.has_all version.now kind marked }
+// Returns whether the version has the kinds up to the given one, and marks and runs if they are
+// needed.
+fn has_all(version: &Version, kind: u8, marked: bool, runs: bool) -> bool
+    ensures { result ≡ spec.has_all version.now kind marked runs }
 {
-    kind <= version.kinds && (!marked || version.marks)
+    kind <= version.kinds && (!marked || version.marks) && (!runs || version.runs)
 }
 
-// Returns the digit of the first version that has the kinds up to the given one, and marks if they
-// are needed; 0, which is the digit of no version, if no version has.
-pub(crate) fn version_with(kind: u8, marked: bool) -> u8
-    ensures { result ≡ spec.version_with kind marked }
+// Returns the digit of the first version that has the kinds up to the given one, and marks and runs
+// if they are needed; 0, which is the digit of no version, if no version has.
+pub(crate) fn version_with(kind: u8, marked: bool, runs: bool) -> u8
+    ensures { result ≡ spec.version_with kind marked runs }
 {
-    digit_in(&VERSIONS, kind, marked)
+    digit_in(&VERSIONS, kind, marked, runs)
 }
 
 // Returns the digit of the first version in the list that has the kinds up to the given one, and
-// marks if they are needed; 0 if no version has.
-fn digit_in(versions: &[Version], kind: u8, marked: bool) -> u8
-    ensures { result ≡ spec.digit_in versions.now kind marked }
+// marks and runs if they are needed; 0 if no version has.
+fn digit_in(versions: &[Version], kind: u8, marked: bool, runs: bool) -> u8
+    ensures { result ≡ spec.digit_in versions.now kind marked runs }
 {
     for version in versions {
-        if has_all(version, kind, marked) {
+        if has_all(version, kind, marked, runs) {
             return version.digit;
         }
     }
@@ -126,11 +141,12 @@ pub(crate) fn kind_in(slot: &SlotRef<'_>) -> u8
     }
 }
 
-// Returns the digit of the first version that has all of the items.
-pub(crate) fn version_of(items: &[Item]) -> u8
-    ensures { result ≡ spec.version_of items.now }
+// Returns the digit of the first version that has all of the items, and runs if marks are spelled
+// as runs.
+pub(crate) fn version_of(runs: bool, items: &[Item]) -> u8
+    ensures { result ≡ spec.version_of runs items.now }
 {
-    version_with(newest_kind(items), has_mark(items))
+    version_with(newest_kind(items), has_mark(items), runs)
 }
 
 // Returns whether one of the items is a mark.
@@ -167,4 +183,14 @@ pub(crate) fn has_horizon(digit: u8) -> bool
     VERSIONS
         .iter()
         .any(|version| version.digit == digit && version.marks)
+}
+
+// Returns whether a bundle of the version has runs of marks.
+#[tactic(auto, unfolding(crate::specs::Versions::has_runs))]
+pub(crate) fn has_runs(digit: u8) -> bool
+    ensures { result ≡ spec.has_runs digit }
+{
+    VERSIONS
+        .iter()
+        .any(|version| version.digit == digit && version.runs)
 }

@@ -18,7 +18,7 @@ use Rattle.tk_listing.specs.Printing.{PrintsInput, PrintsMore, PrintsWhole, Read
 use Rattle.tk_listing.specs.declared.print.End.{End}
 use Rattle.tk_listing.specs.declared.print.End.TheVariants as ends
 use Rattle.tk_listing.specs.declared.print.PrintFault.{PrintFault}
-use Rattle.tk_listing.specs.declared.print.PrintFault.TheVariants.{Malformed, Read, Memory, Output}
+use Rattle.tk_listing.specs.declared.print.PrintFault.TheVariants.{Read, Memory}
 use Rattle.tk_listing.proofs.Showing.{shows_none, shows_trans, shows_extend, prints_more}
 
 -- what was read and printed before a read
