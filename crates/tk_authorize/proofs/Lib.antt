@@ -1,3 +1,4 @@
+mod LoginLaws
 pub mod MadeLaws
 pub mod RedirectLaws
 mod RegistrationLaws

@@ -1,11 +1,16 @@
 -- Authorisation and administration make no fact that uses a token. Key results:
 --   authorizes_alone    authorisation requests
+--   UsesNothing         a fact names no token's dot, or revokes a token
 --   administers_alone   administration requests
 --   lists_alone         requests for a page of clients, which make no fact
+--   shows_alone         requests for what a subject has, which make no fact
 use Rattle.std.proofs.Common.{◌≡◌, ℕ, true, false, List, codes, Option, None, IfSome, Result, Ok}
 use Rattle.std.proofs.Common.{Err, refl}
 use Rattle.tk_handle.specs.declared.dot.Dot.{Dot}
 use Rattle.tk_fact.specs.Keeping.{names_of}
+use Rattle.tk_fact.specs.declared.body.Body.{Body}
+use Rattle.tk_fact.specs.declared.body.Body.TheVariants.{CodeRedeemed, RefreshRotated, ReuseSeen}
+use Rattle.tk_fact.specs.declared.body.Body.TheVariants.{AccessRefreshed}
 use Rattle.tk_store.specs.FactSet.{FactSet}
 use Rattle.tk_params.specs.Params.{Pairs, value_of}
 use Rattle.tk_message.specs.RequestFields.{RequestFields}
@@ -17,9 +22,11 @@ use Rattle.tk_authorize.specs.Chosen.{chosen}
 use Rattle.tk_authorize.specs.Authorization.{decided_by, authorization_of, kept_state}
 use Rattle.tk_authorize.specs.Judged.{judged_of}
 use Rattle.tk_authorize.specs.Listing.{after_named, listed_by, listing_of}
+use Rattle.tk_authorize.specs.SubjectListing.{asked_of, shown_by, subject_of}
 use Rattle.tk_authorize.specs.declared.admin_refusal.AdminRefusal.{AdminRefusal}
 use Rattle.tk_authorize.specs.declared.administered.Administered.{Administered}
 use Rattle.tk_authorize.specs.declared.administered.Administered.TheVariants as administered
+use Rattle.tk_authorize.specs.declared.subject_listing.SubjectAsked.{SubjectAsked}
 use Rattle.tk_authorize.specs.declared.judged.Judged.{Judged}
 use Rattle.tk_authorize.specs.declared.judged.Judged.TheVariants as judged
 
@@ -40,21 +47,33 @@ authorizes_alone F place now words request =
     decides_alone place now words (kept_state (value_of (codes "state") request.params))
     (judged_of F place.choices.challenge request.params request.subject)
 
-carried_out_alone : (place : Place) (a : Administered) → MakesAlone (administered_by place a)
+-- a fact that uses no code or refresh token and refreshes no access token: it names no token's dot,
+-- or revokes a token
+abbrev pub UsesNothing : Body → Type 0
+UsesNothing (CodeRedeemed f) = ⊥
+UsesNothing (RefreshRotated f) = ⊥
+UsesNothing (ReuseSeen f) = ⊥
+UsesNothing (AccessRefreshed f) = ⊥
+UsesNothing b = Unit {0}
+
+carried_out_alone : (place : Place) (a : Administered)
+    → IfSome (administered_by place a).made UsesNothing
 carried_out_alone place (administered.Refused why) = tt
-carried_out_alone place (administered.Registers client) = refl
+carried_out_alone place (administered.Registers client) = tt
 carried_out_alone place (administered.Shows client) = tt
-carried_out_alone place (administered.Retires client true) = refl
+carried_out_alone place (administered.Retires client true) = tt
 carried_out_alone place (administered.Retires client false) = tt
-carried_out_alone place (administered.Consents consent) = refl
+carried_out_alone place (administered.Consents consent) = tt
 carried_out_alone place (administered.HasConsent consent) = tt
-carried_out_alone place (administered.Withdraws consent true) = refl
+carried_out_alone place (administered.Withdraws consent true) = tt
 carried_out_alone place (administered.Withdraws consent false) = tt
 carried_out_alone place (administered.AlreadyOut subject) = tt
-carried_out_alone place (administered.SignsOut sign_out) = refl
+carried_out_alone place (administered.SignsOut sign_out) = tt
+carried_out_alone place (administered.EndsLogin login revocation) = tt
+carried_out_alone place (administered.AlreadyEnded login) = tt
 
 pub administers_alone : (F : FactSet) (place : Place) (now : ℕ) (request : RequestFields)
-    → IfSome (administration_of F place now request).made (λ b. names_of b ≡ None)
+    → IfSome (administration_of F place now request).made UsesNothing
 administers_alone F place now request =
     carried_out_alone place (chosen F place.choices (administered_of F now request))
 
@@ -64,3 +83,11 @@ lists_none F (Ok after) = refl
 
 pub lists_alone : (F : FactSet) (params : Pairs) → (listing_of F params).made ≡ None
 lists_alone F params = lists_none F (after_named params)
+
+shows_none : (F : FactSet) (now : ℕ) (r : Result SubjectAsked AdminRefusal)
+    → (shown_by F now r).made ≡ None
+shows_none F now (Err why) = refl
+shows_none F now (Ok asked) = refl
+
+pub shows_alone : (F : FactSet) (now : ℕ) (params : Pairs) → (subject_of F now params).made ≡ None
+shows_alone F now params = shows_none F now (asked_of params)

@@ -1,13 +1,15 @@
 -- Authorisation and administration requests are decided alike by two sets that say the same of
--- clients, consents and sign-outs. Key results:
+-- clients, consents, sign-outs and logins. Key results:
 --   authorizations_same    the decisions of authorisation requests
 --   administrations_same   the decisions of administration requests
 --   listings_same          the pages of clients
+--   subjects_same          the pages of what subjects have
 use Rattle.std.proofs.Common.{◌≡◌, ℕ, cond, List, codes, Option, None, Some, Result, Ok, Err, refl}
 use Rattle.std.proofs.Common.{ap, ◌∙◌}
 use Rattle.std.specs.FinMap as map
 use Rattle.tk_handle.specs.ClientId.{client_in}
 use Rattle.tk_handle.specs.ConsentId.{consent_in}
+use Rattle.tk_handle.specs.LoginId.{login_in}
 use Rattle.tk_handle.specs.declared.dot.Dot.{Dot}
 use Rattle.tk_handle.specs.Dot.{dot_cmp}
 use Rattle.tk_fact.specs.Subject.{is_subject}
@@ -16,12 +18,17 @@ use Rattle.tk_match.specs.Pick.{Picked, Uri, Missing, Unknown, picked}
 use Rattle.tk_store.specs.FactSet.{FactSet}
 use Rattle.tk_store.specs.Walk.{above}
 use Rattle.tk_ledger.specs.Clients.{consent_for}
+use Rattle.tk_ledger.specs.Logins.{login_view}
 use Rattle.tk_ledger.specs.SignOuts.{is_signed_out}
-use Rattle.tk_ledger.specs.ViewFields.{ClientFields}
+use Rattle.tk_ledger.specs.SubjectWalk.{consents_of, logins_of}
+use Rattle.tk_ledger.specs.ViewFields.{ClientFields, ConsentFields, LoginFields}
 use Rattle.tk_ledger.specs.Views.{client_view, consent_view}
 use Rattle.tk_ledger.proofs.ClientWalkLaws.{clients_same}
 use Rattle.tk_params.specs.Params.{Pairs, value_of, has_twice}
 use Rattle.tk_message.specs.ClientPage.{page_body}
+use Rattle.tk_message.specs.LastSignOut.{last_sign_out}
+use Rattle.tk_message.specs.SubjectPage.{page_of}
+use Rattle.tk_message.proofs.LastSignOutLaws.{last_sign_out_same}
 use Rattle.tk_message.specs.Reply.{json_reply}
 use Rattle.tk_message.specs.Decision.{answered}
 use Rattle.tk_message.specs.RequestFields.{RequestFields}
@@ -44,6 +51,9 @@ use Rattle.tk_authorize.specs.Approval.{approval_by_consent, approval_of}
 use Rattle.tk_authorize.specs.Asked.{asked_of}
 use Rattle.tk_authorize.specs.Authorization.{decided_by, authorization_of, kept_state}
 use Rattle.tk_authorize.specs.Listing.{after_named, listed_by, listing_of}
+use Rattle.tk_authorize.specs.Logouts.{ended_at, logged_out_to, logged_out_by, logout_names}
+use Rattle.tk_authorize.specs.SubjectListing as subjects
+use Rattle.tk_authorize.specs.SubjectListing.{subject_of}
 use Rattle.tk_authorize.specs.Judged.{judged_at, target_of, judged_by_redirect, judged_by_view}
 use Rattle.tk_authorize.specs.Judged.{judged_by_client, judged_by_id, target_names}
 use Rattle.tk_authorize.specs.declared.admin_refusal.AdminRefusal.{AdminRefusal}
@@ -52,6 +62,7 @@ use Rattle.tk_authorize.specs.declared.admin_refusal.AdminRefusal.TheVariants.{M
 use Rattle.tk_authorize.specs.declared.administered.Administered.{Administered}
 use Rattle.tk_authorize.specs.declared.administered.Administered.TheVariants as administered
 use Rattle.tk_authorize.specs.declared.asked.Asked.{Asked}
+use Rattle.tk_authorize.specs.declared.subject_listing.SubjectAsked.{SubjectAsked}
 use Rattle.tk_authorize.specs.declared.denial.Denial.{Denial}
 use Rattle.tk_authorize.specs.declared.denial.Denial.TheVariants as denial
 use Rattle.tk_authorize.specs.declared.judged.Judged.{Judged}
@@ -124,68 +135,83 @@ authorizations_same F G place now words request views grants =
 module _ (F G : FactSet) (now : ℕ) (views : (d : Dot) → client_view F d ≡ client_view G d)
     (consents : (d : Dot) → consent_view F d ≡ consent_view G d)
     (outs : (subject : List ℕ) (moment : ℕ)
-    → is_signed_out F subject moment ≡ is_signed_out G subject moment) where
-  shown_same : (r : Result Dot AdminRefusal) → shown_by F r ≡ shown_by G r
-  shown_same (Err why) = refl
-  shown_same (Ok d) = ap (shown_at d) (views d)
+    → is_signed_out F subject moment ≡ is_signed_out G subject moment)
+    (logouts : (d : Dot) → ended_at F d (login_view F now d) ≡ ended_at G d (login_view G now d))
+  where
+    shown_same : (r : Result Dot AdminRefusal) → shown_by F r ≡ shown_by G r
+    shown_same (Err why) = refl
+    shown_same (Ok d) = ap (shown_at d) (views d)
 
-  retired_same : (r : Result Dot AdminRefusal) → retired_by F r ≡ retired_by G r
-  retired_same (Err why) = refl
-  retired_same (Ok d) = ap (retired_at d) (views d)
+    retired_same : (r : Result Dot AdminRefusal) → retired_by F r ≡ retired_by G r
+    retired_same (Err why) = refl
+    retired_same (Ok d) = ap (retired_at d) (views d)
 
-  consented_to_same : (subject scope : List ℕ) (o : Option Dot)
-      → consented_to F subject scope o ≡ consented_to G subject scope o
-  consented_to_same subject scope None = refl
-  consented_to_same subject scope (Some client) =
-      ap (consented_at client subject scope) (views client)
+    consented_to_same : (subject scope : List ℕ) (o : Option Dot)
+        → consented_to F subject scope o ≡ consented_to G subject scope o
+    consented_to_same subject scope None = refl
+    consented_to_same subject scope (Some client) =
+        ap (consented_at client subject scope) (views client)
 
-  consented_same : (id subject scope : Option (List ℕ))
-      → consented_by F id subject scope ≡ consented_by G id subject scope
-  consented_same None subject scope = refl
-  consented_same (Some id) None scope = refl
-  consented_same (Some id) (Some subject) None = refl
-  consented_same (Some id) (Some subject) (Some scope) =
-      consented_to_same subject scope (client_in id)
+    consented_same : (id subject scope : Option (List ℕ))
+        → consented_by F id subject scope ≡ consented_by G id subject scope
+    consented_same None subject scope = refl
+    consented_same (Some id) None scope = refl
+    consented_same (Some id) (Some subject) None = refl
+    consented_same (Some id) (Some subject) (Some scope) =
+        consented_to_same subject scope (client_in id)
 
-  withdrawn_to_same : (o : Option Dot) → withdrawn_to F o ≡ withdrawn_to G o
-  withdrawn_to_same None = refl
-  withdrawn_to_same (Some d) = ap (withdrawn_at d) (consents d)
+    withdrawn_to_same : (o : Option Dot) → withdrawn_to F o ≡ withdrawn_to G o
+    withdrawn_to_same None = refl
+    withdrawn_to_same (Some d) = ap (withdrawn_at d) (consents d)
 
-  withdrawn_same : (o : Option (List ℕ)) → withdrawn_by F o ≡ withdrawn_by G o
-  withdrawn_same None = refl
-  withdrawn_same (Some id) = withdrawn_to_same (consent_in id)
+    withdrawn_same : (o : Option (List ℕ)) → withdrawn_by F o ≡ withdrawn_by G o
+    withdrawn_same None = refl
+    withdrawn_same (Some id) = withdrawn_to_same (consent_in id)
 
-  signed_out_same : (o : Option (List ℕ)) → signed_out_by F now o ≡ signed_out_by G now o
-  signed_out_same None = refl
-  signed_out_same (Some subject) =
-      ap (λ t. cond (is_subject subject)
-      (cond t (administered.AlreadyOut subject)
-      (administered.SignsOut (record { subject = subject; moment = now })))
-      (administered.Refused MalformedSubject)) (outs subject now)
+    signed_out_same : (o : Option (List ℕ)) → signed_out_by F now o ≡ signed_out_by G now o
+    signed_out_same None = refl
+    signed_out_same (Some subject) =
+        ap (λ t. cond (is_subject subject)
+        (cond t (administered.AlreadyOut subject)
+        (administered.SignsOut (record { subject = subject; moment = now })))
+        (administered.Refused MalformedSubject)) (outs subject now)
 
-  administered_same : (e : Endpoint) (params : Pairs)
-      → administered_at e F now params ≡ administered_at e G now params
-  administered_same endpoint.Authorize params = refl
-  administered_same endpoint.Token params = refl
-  administered_same endpoint.Introspect params = refl
-  administered_same endpoint.Revoke params = refl
-  administered_same endpoint.AddClient params = refl
-  administered_same endpoint.ShowClient params = shown_same (client_named params)
-  administered_same endpoint.ListClients params = refl
-  administered_same endpoint.Retire params = retired_same (client_named params)
-  administered_same endpoint.Consent params =
-      ap (λ (x : Administered).
-      cond (has_twice consent_names params) (administered.Refused DuplicateParameter) x)
-      (consented_same (value_of (codes "client_id") params) (value_of (codes "subject") params)
-      (value_of (codes "scope") params))
-  administered_same endpoint.Withdraw params =
-      ap (λ (x : Administered).
-      cond (has_twice withdrawal_names params) (administered.Refused DuplicateParameter) x)
-      (withdrawn_same (value_of (codes "consent_id") params))
-  administered_same endpoint.SignOut params =
-      ap (λ (x : Administered).
-      cond (has_twice sign_out_names params) (administered.Refused DuplicateParameter) x)
-      (signed_out_same (value_of (codes "subject") params))
+    logged_out_to_same : (o : Option Dot) → logged_out_to F now o ≡ logged_out_to G now o
+    logged_out_to_same None = refl
+    logged_out_to_same (Some d) = logouts d
+
+    logged_out_same : (o : Option (List ℕ)) → logged_out_by F now o ≡ logged_out_by G now o
+    logged_out_same None = refl
+    logged_out_same (Some id) = logged_out_to_same (login_in id)
+
+    administered_same : (e : Endpoint) (params : Pairs)
+        → administered_at e F now params ≡ administered_at e G now params
+    administered_same endpoint.Authorize params = refl
+    administered_same endpoint.Token params = refl
+    administered_same endpoint.Introspect params = refl
+    administered_same endpoint.Revoke params = refl
+    administered_same endpoint.AddClient params = refl
+    administered_same endpoint.ShowClient params = shown_same (client_named params)
+    administered_same endpoint.ListClients params = refl
+    administered_same endpoint.Retire params = retired_same (client_named params)
+    administered_same endpoint.Consent params =
+        ap (λ (x : Administered).
+        cond (has_twice consent_names params) (administered.Refused DuplicateParameter) x)
+        (consented_same (value_of (codes "client_id") params) (value_of (codes "subject") params)
+        (value_of (codes "scope") params))
+    administered_same endpoint.Withdraw params =
+        ap (λ (x : Administered).
+        cond (has_twice withdrawal_names params) (administered.Refused DuplicateParameter) x)
+        (withdrawn_same (value_of (codes "consent_id") params))
+    administered_same endpoint.SignOut params =
+        ap (λ (x : Administered).
+        cond (has_twice sign_out_names params) (administered.Refused DuplicateParameter) x)
+        (signed_out_same (value_of (codes "subject") params))
+    administered_same endpoint.ShowSubject params = refl
+    administered_same endpoint.EndLogin params =
+        ap (λ (x : Administered).
+        cond (has_twice logout_names params) (administered.Refused DuplicateParameter) x)
+        (logged_out_same (value_of (codes "login_id") params))
 
 -- judgements by the choices
 module _ (F G : FactSet)
@@ -207,18 +233,21 @@ module _ (F G : FactSet)
   chosen_same choices (administered.Withdraws consent live) = refl
   chosen_same choices (administered.AlreadyOut subject) = refl
   chosen_same choices (administered.SignsOut sign_out) = refl
+  chosen_same choices (administered.EndsLogin login revocation) = refl
+  chosen_same choices (administered.AlreadyEnded login) = refl
 
 pub administrations_same : (F G : FactSet) (place : Place) (now : ℕ) (request : RequestFields)
     → ((d : Dot) → client_view F d ≡ client_view G d)
     → ((d : Dot) → consent_view F d ≡ consent_view G d)
     → ((subject : List ℕ) (moment : ℕ)
     → is_signed_out F subject moment ≡ is_signed_out G subject moment)
+    → ((d : Dot) → ended_at F d (login_view F now d) ≡ ended_at G d (login_view G now d))
     → ((client : Dot) (subject scope : List ℕ)
     → consent_for F client subject scope ≡ consent_for G client subject scope)
     → administration_of F place now request ≡ administration_of G place now request
-administrations_same F G place now request views consents outs grants =
+administrations_same F G place now request views consents outs logouts grants =
     ap (λ (a : Administered). administered_by place (chosen F place.choices a))
-    (administered_same F G now views consents outs request.endpoint request.params)
+    (administered_same F G now views consents outs logouts request.endpoint request.params)
     ∙ ap (administered_by place)
     (chosen_same F G grants place.choices (administered_of G now request))
 
@@ -232,3 +261,33 @@ listings_same F G params views = by_cursor (after_named params)
     by_cursor (Err why) = refl
     by_cursor (Ok after) = ap (λ (m : map.FinMap dot_cmp ClientFields).
         answered (json_reply status.Ok (page_body after (above m after)))) (clients_same F G views)
+
+-- ---- pages of what subjects have
+
+pub subjects_same : (F G : FactSet) (now : ℕ) (params : Pairs)
+    → ((subject : List ℕ) → consents_of F subject ≡ consents_of G subject)
+    → ((subject : List ℕ) → logins_of F now subject ≡ logins_of G now subject)
+    → ((subject : List ℕ) (moment : ℕ)
+    → is_signed_out F subject moment ≡ is_signed_out G subject moment)
+    → subject_of F now params ≡ subject_of G now params
+subjects_same F G now params given begun outs = by_asked (subjects.asked_of params)
+  where
+    by_asked : (r : Result SubjectAsked AdminRefusal)
+        → subjects.shown_by F now r ≡ subjects.shown_by G now r
+    by_asked (Err why) = refl
+    by_asked (Ok a) =
+        ap (λ (m : map.FinMap dot_cmp ConsentFields).
+        answered (json_reply status.Ok
+        (page_of a.consents_after (above m a.consents_after) a.logins_after
+        (above (logins_of F now a.subject) a.logins_after) (last_sign_out F a.subject) a.subject)))
+        (given a.subject)
+        ∙ ap (λ (m : map.FinMap dot_cmp LoginFields).
+        answered (json_reply status.Ok
+        (page_of a.consents_after (above (consents_of G a.subject) a.consents_after) a.logins_after
+        (above m a.logins_after) (last_sign_out F a.subject) a.subject)))
+        (begun a.subject)
+        ∙ ap (λ (o : Option ℕ).
+        answered (json_reply status.Ok
+        (page_of a.consents_after (above (consents_of G a.subject) a.consents_after) a.logins_after
+        (above (logins_of G now a.subject) a.logins_after) o a.subject)))
+        (last_sign_out_same F G a.subject (outs a.subject))

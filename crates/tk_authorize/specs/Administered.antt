@@ -1,5 +1,5 @@
 -- The judgement of an administration request: the cases of each endpoint, in their order (own;
--- RFC 6749, 2 for clients, 3.3 for scopes).
+-- RFC 6749, 2 for clients, 3.3 for scopes). That of a logout is in specs/Logouts.
 --   registered_of     POST /admin/client
 --   shown_of          GET /admin/client
 --   retired_of        POST /admin/retire
@@ -54,6 +54,7 @@ use Rattle.tk_message.specs.declared.request.Endpoint.TheVariants as endpoint
 use Rattle.tk_message.specs.RequestFields.{RequestFields}
 use Rattle.tk_message.specs.ScopeAsked.{scope_asked}
 use Rattle.tk_authorize.specs.Lives.{lives_sent, lives_allowed}
+use Rattle.tk_authorize.specs.Logouts.{logged_out_of}
 use Rattle.tk_authorize.specs.declared.admin_refusal.AdminRefusal.{AdminRefusal}
 use Rattle.tk_authorize.specs.declared.admin_refusal.AdminRefusal.TheVariants.{
   DuplicateParameter,
@@ -384,6 +385,8 @@ administered_at endpoint.Retire F now params = retired_of F params
 administered_at endpoint.Consent F now params = consented_of F params
 administered_at endpoint.Withdraw F now params = withdrawn_of F params
 administered_at endpoint.SignOut F now params = signed_out_of F now params
+administered_at endpoint.ShowSubject F now params = Refused UnknownEndpoint
+administered_at endpoint.EndLogin F now params = logged_out_of F now params
 
 -- the judgement of an administration request (own)
 abbrev pub administered_of : FactSet → ℕ → RequestFields → Administered

@@ -12,10 +12,12 @@ use Rattle.tk_fact.specs.declared.body.Body.TheVariants.{
   ConsentGiven,
   ConsentWithdrawn,
   SubjectOut,
+  TokenRevoked,
 }
 use Rattle.tk_fact.specs.declared.client_added.ClientAdded as added
 use Rattle.tk_fact.specs.declared.consent_given.ConsentGiven as given
 use Rattle.tk_fact.specs.declared.subject_out.SubjectOut as out
+use Rattle.tk_fact.specs.declared.token_revoked.TokenRevoked as revoked
 use Rattle.tk_store.specs.FactSet.{FactSet}
 use Rattle.tk_message.specs.declared.decision.Decision.{Decision}
 use Rattle.tk_message.specs.declared.error_code.ErrorCode.{ErrorCode}
@@ -28,7 +30,8 @@ use Rattle.tk_message.specs.declared.place.Place.{Place}
 use Rattle.tk_message.specs.declared.status_code.StatusCode.TheVariants as status
 use Rattle.tk_message.specs.Decision.{answered, refused}
 use Rattle.tk_message.specs.Place.{next_in}
-use Rattle.tk_message.specs.Bodies.{client_body, consent_body, shown_body, subject_body}
+use Rattle.tk_message.specs.Bodies.{client_body, consent_body, login_body, shown_body}
+use Rattle.tk_message.specs.Bodies.{subject_body}
 use Rattle.tk_message.specs.Reply.{json_reply}
 use Rattle.tk_message.specs.RequestFields.{RequestFields}
 use Rattle.tk_authorize.specs.declared.admin_refusal.AdminRefusal.{AdminRefusal}
@@ -45,6 +48,8 @@ use Rattle.tk_authorize.specs.declared.administered.Administered.TheVariants.{
   Withdraws,
   AlreadyOut,
   SignsOut,
+  EndsLogin,
+  AlreadyEnded,
 }
 use Rattle.tk_authorize.specs.Administered.{administered_of}
 use Rattle.tk_authorize.specs.Chosen.{chosen}
@@ -65,6 +70,8 @@ code_of refusal.UnknownClient = NotFound
 code_of refusal.MalformedSubject = InvalidRequest
 code_of refusal.WrongScope = InvalidScope
 code_of refusal.UnknownConsent = NotFound
+code_of refusal.UnknownLogin = NotFound
+code_of refusal.UnredeemedCode = NotFound
 code_of refusal.UnknownEndpoint = NotFound
 
 -- a client is added, and gets the id of the next dot (own; RFC 6749, 2)
@@ -113,7 +120,15 @@ decided_out sign_out = record {
   made = Some (SubjectOut sign_out);
 }
 
--- the decision by a judgement. A subject that is signed out already makes no fact (own)
+-- a login is ended: its refresh token is revoked in the name of its client (RFC 7009, 2.1)
+abbrev pub decided_ended : Dot → revoked.TokenRevoked → Decision
+decided_ended login revocation = record {
+  reply = json_reply status.Ok (login_body login);
+  made = Some (TokenRevoked revocation);
+}
+
+-- the decision by a judgement. A subject that is signed out already makes no fact, and neither does
+-- a login that is ended already (own)
 abbrev pub administered_by : Place → Administered → Decision
 administered_by place (Refused why) = refused (code_of why)
 administered_by place (Registers client) = decided_registered place client
@@ -124,6 +139,8 @@ administered_by place (HasConsent consent) = decided_held consent
 administered_by place (Withdraws consent live) = decided_withdrawn consent live
 administered_by place (AlreadyOut subject) = answered (json_reply status.Ok (subject_body subject))
 administered_by place (SignsOut sign_out) = decided_out sign_out
+administered_by place (EndsLogin login revocation) = decided_ended login revocation
+administered_by place (AlreadyEnded login) = answered (json_reply status.Ok (login_body login))
 
 -- the decision of an administration request (own)
 abbrev pub administration_of : FactSet → Place → ℕ → RequestFields → Decision

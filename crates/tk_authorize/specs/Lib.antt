@@ -10,9 +10,11 @@
 -- For administration requests:
 --   Lives               lives_sent, the lives that a new client is registered with
 --   Administered        administered_of, the cases of each endpoint in their order
+--   Logouts             logged_out_of, the cases of the end of a login
 --   Chosen              chosen, a judgement by the region's choices
 --   Administration      administration_of, the decision of a request
 --   Listing             listing_of, the decision of a request for a page of clients
+--   SubjectListing      subject_of, the decision of a request for what a subject has
 --   SoundAdministered   IsSoundAdministered, the fact that a judgement makes passes its check
 pub mod Administered
 pub mod Administration
@@ -25,6 +27,8 @@ pub mod Denial
 pub mod Judged
 pub mod Listing
 pub mod Lives
+pub mod Logouts
 pub mod Refusal
 pub mod Registered
 pub mod SoundAdministered
+pub mod SubjectListing

@@ -3,6 +3,7 @@
 use Rattle.std.specs.Prelude.{◌≡◌, None}
 use Rattle.tk_fact.specs.Check.{refusal_of}
 use Rattle.tk_fact.specs.declared.body.Body.TheVariants.{ClientAdded, ConsentGiven, SubjectOut}
+use Rattle.tk_fact.specs.declared.body.Body.TheVariants.{TokenRevoked}
 use Rattle.tk_authorize.specs.declared.administered.Administered.{Administered}
 use Rattle.tk_authorize.specs.declared.administered.Administered.TheVariants.{
   Refused,
@@ -14,9 +15,11 @@ use Rattle.tk_authorize.specs.declared.administered.Administered.TheVariants.{
   Withdraws,
   AlreadyOut,
   SignsOut,
+  EndsLogin,
+  AlreadyEnded,
 }
 
--- the client, the consent or the sign-out in the judgement passes its check
+-- the client, the consent, the sign-out or the revocation in the judgement passes its check
 abbrev pub IsSoundAdministered : Administered → Type 0
 IsSoundAdministered (Refused why) = Unit {0}
 IsSoundAdministered (Registers client) = refusal_of (ClientAdded client) ≡ None
@@ -27,3 +30,5 @@ IsSoundAdministered (HasConsent consent) = Unit {0}
 IsSoundAdministered (Withdraws consent live) = Unit {0}
 IsSoundAdministered (AlreadyOut subject) = Unit {0}
 IsSoundAdministered (SignsOut sign_out) = refusal_of (SubjectOut sign_out) ≡ None
+IsSoundAdministered (EndsLogin login revocation) = refusal_of (TokenRevoked revocation) ≡ None
+IsSoundAdministered (AlreadyEnded login) = Unit {0}

@@ -6,7 +6,7 @@ ghost use Rattle.tk_authorize.specs.Administration.{code_of};
 use tk_message::ErrorCode;
 
 /// The reason why an administration request is refused (own): the first that holds, in the order
-/// that `specs/Administered.antt` has for the endpoint.
+/// that `specs/Administered.antt`, `Logouts.antt` or a listing has for the endpoint.
 #[derive(Clone, Copy)]
 pub(crate) enum AdminRefusal {
     /// A parameter that the endpoint knows occurs twice.
@@ -38,6 +38,10 @@ pub(crate) enum AdminRefusal {
     WrongScope,
     /// No consent has the id.
     UnknownConsent,
+    /// No login has the id, or its family is over.
+    UnknownLogin,
+    /// The code of the login wasn't redeemed here, so there is no token to revoke.
+    UnredeemedCode,
     /// The request is not for an endpoint of administration.
     UnknownEndpoint,
 }
@@ -61,6 +65,8 @@ impl AdminRefusal {
             AdminRefusal::MalformedScope | AdminRefusal::WrongScope => ErrorCode::InvalidScope,
             AdminRefusal::UnknownClient
             | AdminRefusal::UnknownConsent
+            | AdminRefusal::UnknownLogin
+            | AdminRefusal::UnredeemedCode
             | AdminRefusal::UnknownEndpoint => ErrorCode::NotFound,
         }
     }

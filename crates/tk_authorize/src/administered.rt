@@ -1,7 +1,9 @@
 //! Judgements of administration requests, by their endpoint.
 
 use crate::admin_refusal::AdminRefusal;
-use tk_fact::{ClientAdded, ClientKind, ClientLives, ConsentGiven, Subject, SubjectOut};
+use tk_fact::{
+    ClientAdded, ClientKind, ClientLives, ConsentGiven, Subject, SubjectOut, TokenRevoked,
+};
 use tk_handle::Dot;
 use tk_scope::Scope;
 
@@ -22,6 +24,10 @@ pub(crate) enum Administered {
     // The subject was signed out at the moment, or is signed out later.
     AlreadyOut(Subject),
     SignsOut(SubjectOut),
+    // Ends the login that the code of the dot began, by this revocation.
+    EndsLogin(Dot, TokenRevoked),
+    // The login is dead already, or its client or consent isn't live.
+    AlreadyEnded(Dot),
 }
 
 // A client, as an administrator sees it.
@@ -41,6 +47,7 @@ ghost use Rattle.tk_authorize.specs.SoundAdministered.{IsSoundAdministered};
 
 use crate::clients::{retire, show};
 use crate::consents::{consent, withdraw};
+use crate::logins::log_out;
 use crate::registration::register;
 use crate::sign_outs::sign_out;
 use std::alloc::{AllocError, Global};
@@ -64,12 +71,14 @@ pub(crate) fn administer(
         | Endpoint::Token
         | Endpoint::Introspect
         | Endpoint::Revoke
-        | Endpoint::ListClients => { Ok(Administered::Refused(AdminRefusal::UnknownEndpoint)) }
+        | Endpoint::ListClients
+        | Endpoint::ShowSubject => { Ok(Administered::Refused(AdminRefusal::UnknownEndpoint)) }
         Endpoint::AddClient => register(alloc, &request.params),
         Endpoint::ShowClient => show(alloc, ledger, &request.params),
         Endpoint::Retire => Ok(retire(ledger, &request.params)),
         Endpoint::Consent => consent(alloc, ledger, &request.params),
         Endpoint::Withdraw => Ok(withdraw(ledger, &request.params)),
         Endpoint::SignOut => sign_out(alloc, ledger, now, &request.params),
+        Endpoint::EndLogin => Ok(log_out(ledger, now, &request.params)),
     }
 }

@@ -3,7 +3,7 @@
 ghost use Rattle.std.specs.Prelude.{◌≡◌, IfOk};
 ghost use Rattle.tk_store.specs.StoreFields.{held_facts};
 ghost use Rattle.tk_message.specs.Decision.{answered, Passes};
-ghost use Rattle.tk_message.specs.Bodies.{subject_body};
+ghost use Rattle.tk_message.specs.Bodies.{login_body, subject_body};
 ghost use Rattle.tk_message.specs.Reply.{json_reply};
 ghost use Rattle.tk_authorize.specs.Administration as spec;
 ghost use Rattle.tk_authorize.specs.SoundAdministered.{IsSoundAdministered};
@@ -13,6 +13,7 @@ use crate::chosen::choose;
 use std::alloc::{AllocError, Global};
 use tk_fact::{
     Body, ClientAdded, ClientRetired, ConsentGiven, ConsentWithdrawn, Subject, SubjectOut,
+    TokenRevoked,
 };
 use tk_handle::{Dot, Moment};
 use tk_ledger::Ledger;
@@ -21,11 +22,11 @@ use tk_message::{Decision, JsonReply, Place, Request, StatusCode};
 /// Decides an administration request at a moment (own). Returns the reply, and the fact that the
 /// request makes, if any.
 ///
-/// Administrators add, show and retire clients, give and withdraw consents, and sign subjects out
-/// everywhere. The region's choices say which redirection URIs a new client may have, and whether a
-/// consent is given again if one that is held is good. A request for another endpoint is
-/// `not_found`. Whether the sender may administer is not examined: the front end must see to that.
-/// Returns an error if memory runs out.
+/// Administrators add, show and retire clients, give and withdraw consents, sign subjects out
+/// everywhere, and end logins. The region's choices say which redirection URIs a new client may
+/// have, and whether a consent is given again if one that is held is good. A request for another
+/// endpoint is `not_found`. Whether the sender may administer is not examined: the front end must
+/// see to that. Returns an error if memory runs out.
 pub fn decide_admin(
     alloc: Global,
     ledger: &Ledger,
@@ -64,6 +65,8 @@ fn decide_by(
         Administered::Withdraws(consent, live) => decide_withdrawn(alloc, consent, live),
         Administered::AlreadyOut(subject) => decide_already_out(alloc, &subject),
         Administered::SignsOut(sign_out) => decide_out(alloc, sign_out),
+        Administered::EndsLogin(login, revocation) => decide_ended(alloc, login, revocation),
+        Administered::AlreadyEnded(login) => decide_already_ended(alloc, login),
     }
 }
 
@@ -172,4 +175,26 @@ fn decide_out(alloc: Global, sign_out: SubjectOut) -> Result<Decision, AllocErro
         reply,
         made: Some(Body::SubjectOut(sign_out)),
     })
+}
+
+// Ends a login, by the revocation of its refresh token.
+fn decide_ended(alloc: Global, login: Dot, revocation: TokenRevoked) -> Result<Decision, AllocError>
+    requires { IsSoundAdministered (Administered.EndsLogin login revocation) }
+    ensures value { IfOk result (λ d. d ≡ spec.decided_ended login revocation) }
+    ensures passes { IfOk result (λ d. Passes d.made) }
+{
+    let reply = JsonReply::Login(login).reply(alloc)?;
+    Ok(Decision {
+        reply,
+        made: Some(Body::TokenRevoked(revocation)),
+    })
+}
+
+// Names a login that is ended already, without a fact.
+fn decide_already_ended(alloc: Global, login: Dot) -> Result<Decision, AllocError>
+    ensures { IfOk result (λ d. d
+        ≡ answered (json_reply StatusCode.Ok (login_body login))) }
+{
+    let reply = JsonReply::Login(login).reply(alloc)?;
+    Ok(Decision::answer(reply))
 }

@@ -34,7 +34,9 @@ pub(crate) fn choose(
         | Administered::HasConsent(_)
         | Administered::Withdraws(_, _)
         | Administered::AlreadyOut(_)
-        | Administered::SignsOut(_) => Ok(judged),
+        | Administered::SignsOut(_)
+        | Administered::EndsLogin(_, _)
+        | Administered::AlreadyEnded(_) => Ok(judged),
     }
 }
 

@@ -6,17 +6,19 @@
 //! code is issued for. Then the judgement becomes the reply, and the fact if a code is issued.
 //!
 //! `decide_admin` (own) decides a request to an endpoint under `/admin/`: clients are added, shown
-//! and retired, consents are given and withdrawn, subjects are signed out everywhere. An
-//! `AdminRefusal` is the first case of the endpoint that held; `decide_clients` lists clients.
+//! and retired, consents are given and withdrawn, subjects are signed out everywhere, logins are
+//! ended. An `AdminRefusal` is the first case of the endpoint that held; `decide_clients` lists
+//! clients, and `decide_subject` what a subject has.
 //!
 //! Who has signed in, and what the subject consents to, is reported by the front end. Who may send
 //! requests to `/admin/` is left to the deployment.
 //!
 //! In reading order: `Refusal`, `Denial`, `challenge`, `Asked`, `Approval`, `Judged`,
 //! `decide_authorize`; then `AdminRefusal`, `lives`, `registration`, `clients`, `consents`,
-//! `sign_outs`, `Administered`, `chosen`, `decide_admin`, `decide_clients`. The definitions are in
-//! `specs/`, by these names; those of administration are in `Lives`, `Administered`, `Chosen`,
-//! `Administration` and `Listing`.
+//! `sign_outs`, `logins`, `Administered`, `chosen`, `decide_admin`, `decide_clients`,
+//! `decide_subject`. The definitions are in `specs/`, by these names; those of administration are
+//! in `Lives`, `Administered`, `Logouts`, `Chosen`, `Administration`, `Listing` and
+//! `SubjectListing`.
 #![tactic(auto)]
 
 mod admin_refusal;
@@ -33,10 +35,13 @@ mod denial;
 mod judged;
 mod listing;
 mod lives;
+mod logins;
 mod refusal;
 mod registration;
 mod sign_outs;
+mod subject_listing;
 
 pub use administration::decide_admin;
 pub use authorization::decide_authorize;
 pub use listing::decide_clients;
+pub use subject_listing::decide_subject;

@@ -1,47 +1,47 @@
--- A page of clients, one client after the other. Key results:
---   listed_none, cursor_none   a page of no clients
---   tokens_more, cursor_more   a page of one client and others
---   one_left, none_left        how many clients are left of a page
---   whole_none, whole_some     the whole page, without and with a client behind which others follow
+-- A page of entries, one behind the other. Key results:
+--   listed_none, cursor_none   a page of no entries
+--   tokens_more, cursor_more   a page of one entry and others
+--   one_left, none_left        how many entries are left of a page
+--   opened_of                  a page behind its name
+--   whole_none, whole_some     a page of clients, without and with one behind which others follow
 use Rattle.std.proofs.Common.{◌≡◌, ◌≤◌, ◌<◌, ◌+◌, ◌-◌, ℕ, zero, suc, List, [], ◌∷◌, ◌++◌, codes}
 use Rattle.std.proofs.Common.{Option, Some, None, refl, sym, ap, ◌∙◌, append_assoc, arith}
 use Rattle.json.specs.Token as token
 use Rattle.json.specs.Token.{Token}
 use Rattle.json.specs.Tree.{items_tokens, json_tokens}
 use Rattle.serde_json.specs.Data as json
-use Rattle.serde_json.specs.Data.{Items, no_items}
+use Rattle.serde_json.specs.Data.{Data, Items, no_items}
 use Rattle.serde_json.specs.Written.{items_outline, outline}
 use Rattle.tk_handle.specs.declared.dot.Dot.{Dot}
 use Rattle.tk_handle.specs.ClientId.{client_text}
-use Rattle.tk_ledger.specs.ViewFields.{ClientFields}
-use Rattle.tk_message.specs.ClientPage.{page_size, listed_body, listed, cursor_of}
+use Rattle.tk_message.specs.Page.{page_size, listed, cursor_of}
 
-pub listed_none : (n : ℕ) → listed n [] ≡ no_items
-listed_none zero = refl
-listed_none (suc n) = refl
+pub listed_none : {X : Type 0} (body : Dot × X → Data) (n : ℕ) → listed body n [] ≡ no_items
+listed_none body zero = refl
+listed_none body (suc n) = refl
 
-pub cursor_none : (n : ℕ) (at : Option Dot) → cursor_of n at [] ≡ None
-cursor_none zero at = refl
-cursor_none (suc n) at = refl
+pub cursor_none : (X : Type 0) (n : ℕ) (at : Option Dot) → cursor_of {X = X} n at [] ≡ None
+cursor_none X zero at = refl
+cursor_none X (suc n) at = refl
 
--- what is left to write behind a client is the rest of the page
-pub tokens_more : (t u all : List Token) (n m : ℕ) (c : Dot × ClientFields)
-    (cs more : List (Dot × ClientFields))
+-- what is left to write behind an entry is the rest of the page
+pub tokens_more : {X : Type 0} (body : Dot × X → Data) (t u all : List Token) (n m : ℕ)
+    (c : Dot × X) (cs more : List (Dot × X))
     → n ≡ suc m → more ≡ c ∷ cs
-    → u ≡ t ++ json_tokens (outline (listed_body c))
-    → t ++ items_tokens (items_outline (listed n more)) ≡ all
-    → u ++ items_tokens (items_outline (listed m cs)) ≡ all
-tokens_more t u all n m c cs more left is written whole =
-    ap (λ x. x ++ items_tokens (items_outline (listed m cs))) written
-    ∙ append_assoc t (json_tokens (outline (listed_body c)))
-    (items_tokens (items_outline (listed m cs)))
-    ∙ ap (λ (k : ℕ). t ++ items_tokens (items_outline (listed k (c ∷ cs)))) (sym left)
-    ∙ ap (λ (x : List (Dot × ClientFields)). t ++ items_tokens (items_outline (listed n x)))
+    → u ≡ t ++ json_tokens (outline (body c))
+    → t ++ items_tokens (items_outline (listed body n more)) ≡ all
+    → u ++ items_tokens (items_outline (listed body m cs)) ≡ all
+tokens_more {X} body t u all n m c cs more left is written whole =
+    ap (λ x. x ++ items_tokens (items_outline (listed body m cs))) written
+    ∙ append_assoc t (json_tokens (outline (body c)))
+    (items_tokens (items_outline (listed body m cs)))
+    ∙ ap (λ (k : ℕ). t ++ items_tokens (items_outline (listed body k (c ∷ cs)))) (sym left)
+    ∙ ap (λ (x : List (Dot × X)). t ++ items_tokens (items_outline (listed body n x)))
     (sym is)
     ∙ whole
 
-pub cursor_more : (n m : ℕ) (at last : Option Dot) (c : Dot × ClientFields)
-    (cs more : List (Dot × ClientFields))
+pub cursor_more : {X : Type 0} (n m : ℕ) (at last : Option Dot) (c : Dot × X)
+    (cs more : List (Dot × X))
     → n ≡ suc m → more ≡ c ∷ cs
     → cursor_of n at more ≡ last → cursor_of m (Some c.0) cs ≡ last
 cursor_more n m at last c cs more left is whole =
@@ -53,7 +53,13 @@ one_left k below = omega (arith, below)
 pub none_left : (k : ℕ) → page_size ≤ k → page_size - k ≡ zero
 none_left k full = omega (arith, full)
 
--- ---- the whole page
+-- a page behind its name and its opening bracket
+pub opened_of : (t u v page : List Token) (name : List ℕ) → u ≡ t ++ token.key name ∷ []
+    → v ≡ u ++ token.begin_array ∷ []
+    → v ++ page ≡ t ++ token.key name ∷ token.begin_array ∷ page
+opened_of t u v page name h k = rw (k, h) (simp append_assoc)
+
+-- ---- a whole page of clients
 
 abbrev pub opened : List Token
 opened = token.begin_object ∷ token.key (codes "clients") ∷ token.begin_array ∷ []

@@ -13,20 +13,20 @@ use Rattle.tk_fact.specs.declared.client_kind.ClientKind.{ClientKind}
 use Rattle.tk_fact.specs.declared.client_kind.ClientKind.TheVariants.{Public, Confidential}
 use Rattle.tk_fact.specs.declared.client_kind.ClientKind.TheVariants.{Resource, Keeping}
 use Rattle.tk_fact.specs.declared.client_lives.ClientLives.{ClientLives}
-use Rattle.tk_message.specs.Bodies.{kind_name, refresh_written, life_written, shown_body}
+use Rattle.tk_message.specs.Bodies.{kind_name, refresh_written, number_written, shown_body}
 use Rattle.tk_message.specs.Bodies.{access_life, refresh_life, family_life}
 use Rattle.tk_message.proofs.MemberLaws.{three_of}
 
 -- the members of a client
 abbrev pub shown : Dot → ClientKind → Option ClientLives → Bool → List ℕ → List Token
 shown client client_kind lives live scope =
-    life_written (codes "access_life") (access_life lives)
+    number_written (codes "access_life") (access_life lives)
     ++ (token.key (codes "client_id") ∷ token.string (client_text client) ∷ []
-    ++ (life_written (codes "family_life") (family_life lives)
+    ++ (number_written (codes "family_life") (family_life lives)
     ++ (token.key (codes "kind") ∷ token.string (kind_name client_kind)
     ∷ token.key (codes "live") ∷ token.boolean live ∷ []
     ++ (refresh_written client_kind
-    ++ (life_written (codes "refresh_life") (refresh_life lives)
+    ++ (number_written (codes "refresh_life") (refresh_life lives)
     ++ token.key (codes "scope") ∷ token.string scope ∷ [])))))
 
 shown_written : (client : Dot) (k : ClientKind) (lives : Option ClientLives) (live : Bool)

@@ -2,6 +2,7 @@
 --   error_body      {"error":NAME} (RFC 6749, 5.2)
 --   client_body     {"client_id":ID} (own)
 --   consent_body    {"consent_id":ID} (own)
+--   login_body      {"login_id":ID} (own)
 --   subject_body    {"subject":SUBJECT} (own)
 --   shown_body      {"client_id":ID,"kind":KIND,"live":LIVE,"scope":SCOPE}, with a member
 --                   "refresh":"kept" of a client that keeps its refresh token, and members
@@ -31,6 +32,7 @@ use Rattle.serde_json.specs.Data.{
 use Rattle.tk_handle.specs.declared.dot.Dot.{Dot}
 use Rattle.tk_handle.specs.ClientId.{client_text}
 use Rattle.tk_handle.specs.ConsentId.{consent_text}
+use Rattle.tk_handle.specs.LoginId.{login_text}
 use Rattle.tk_handle.specs.declared.handle.Handle.{Handle}
 use Rattle.tk_handle.specs.Handle.{handle_text}
 use Rattle.tk_fact.specs.declared.client_kind.ClientKind.{ClientKind}
@@ -56,6 +58,10 @@ abbrev pub consent_body : Dot → Data
 consent_body consent =
     object (member (codes "consent_id") (string (consent_text consent)) no_members)
 
+-- the body with a login's id (own)
+abbrev pub login_body : Dot → Data
+login_body login = object (member (codes "login_id") (string (login_text login)) no_members)
+
 -- the body with the name of a subject (own)
 abbrev pub subject_body : List ℕ → Data
 subject_body subject = object (member (codes "subject") (string subject) no_members)
@@ -77,15 +83,25 @@ abbrev pub refresh_written : ClientKind → List Token
 refresh_written (Keeping digest) = key (codes "refresh") ∷ a_string (codes "kept") ∷ []
 refresh_written client_kind = []
 
--- the members behind one that is a life of the client in seconds, if the client has lives (own)
-abbrev pub with_life : List ℕ → Option ℕ → Members → Members
-with_life name None rest = rest
-with_life name (Some life) rest = member name (number (unsigned life)) rest
+-- the members behind one that is a number, if there is such a number (own)
+abbrev pub with_number : List ℕ → Option ℕ → Members → Members
+with_number name None rest = rest
+with_number name (Some value) rest = member name (number (unsigned value)) rest
 
--- the member that is a life of the client, if the client has lives, as it is written (own)
-abbrev pub life_written : List ℕ → Option ℕ → List Token
-life_written name None = []
-life_written name (Some life) = key name ∷ a_number (decimal life) ∷ []
+-- the member that is a number, if there is such a number, as it is written (own)
+abbrev pub number_written : List ℕ → Option ℕ → List Token
+number_written name None = []
+number_written name (Some value) = key name ∷ a_number (decimal value) ∷ []
+
+-- the members behind one that is a text, if there is such a text (own)
+abbrev pub with_text : List ℕ → Option (List ℕ) → Members → Members
+with_text name None rest = rest
+with_text name (Some text) rest = member name (string text) rest
+
+-- the member that is a text, if there is such a text, as it is written (own)
+abbrev pub text_written : List ℕ → Option (List ℕ) → List Token
+text_written name None = []
+text_written name (Some text) = key name ∷ a_string text ∷ []
 
 -- the life of an access token of a client with lives (own)
 abbrev pub access_life : Option ClientLives → Option ℕ
@@ -102,13 +118,13 @@ family_life lives = option_map (λ l. l.family) lives
 -- the body that shows a client (own)
 abbrev pub shown_body : Dot → ClientKind → Option ClientLives → Bool → List ℕ → Data
 shown_body client client_kind lives live scope = object
-    (with_life (codes "access_life") (access_life lives)
+    (with_number (codes "access_life") (access_life lives)
     (member (codes "client_id") (string (client_text client))
-    (with_life (codes "family_life") (family_life lives)
+    (with_number (codes "family_life") (family_life lives)
     (member (codes "kind") (string (kind_name client_kind))
     (member (codes "live") (boolean live)
     (with_refresh client_kind
-    (with_life (codes "refresh_life") (refresh_life lives)
+    (with_number (codes "refresh_life") (refresh_life lives)
     (member (codes "scope") (string scope) no_members))))))))
 
 -- an access token, its life in seconds, a refresh token, and the scope of the access token (RFC

@@ -1,22 +1,8 @@
 -- A page of clients, as an administrator sees them (own).
---   page_size      how many clients a page has at most
 --   listed_body    a client of the page
---   listed         the first clients, as items
---   cursor_of      the client behind which the next page begins, if there is one
 --   clients_body   {"clients":[CLIENT,..],"next":ID}
-use Rattle.std.specs.Prelude.{ℕ, zero, suc, List, [], ◌∷◌, codes, Option, Some, None}
-use Rattle.serde_json.specs.Data.{
-  Data,
-  Items,
-  no_items,
-  item,
-  Members,
-  no_members,
-  member,
-  string,
-  array,
-  object,
-}
+use Rattle.std.specs.Prelude.{List, codes, Option, Some, None}
+use Rattle.serde_json.specs.Data.{Data, Members, no_members, member, string, array, object}
 use Rattle.tk_handle.specs.declared.dot.Dot.{Dot}
 use Rattle.tk_handle.specs.ClientId.{client_text}
 use Rattle.tk_store.specs.FactSet.{FactSet}
@@ -24,27 +10,11 @@ use Rattle.tk_store.specs.Walk.{above}
 use Rattle.tk_ledger.specs.ClientWalk.{clients_in}
 use Rattle.tk_ledger.specs.ViewFields.{ClientFields}
 use Rattle.tk_message.specs.Bodies.{shown_body}
-
--- how many clients a page has at most (own)
-abbrev pub page_size : ℕ
-page_size = 128
+use Rattle.tk_message.specs.Page.{page_size, listed, cursor_of}
 
 -- a client of the page: its id, kind, lives, whether it is live, and its scope (own)
 abbrev pub listed_body : Dot × ClientFields → Data
 listed_body c = shown_body c.0 c.1.client_kind c.1.lives c.1.live c.1.scope
-
--- the first n clients, as items (own)
-abbrev pub listed : ℕ → List (Dot × ClientFields) → Items
-listed zero clients = no_items
-listed (suc n) [] = no_items
-listed (suc n) (c ∷ clients) = item (listed_body c) (listed n clients)
-
--- the last of the first n clients, if others follow; `at` is the one before them (own)
-abbrev pub cursor_of : ℕ → Option Dot → List (Dot × ClientFields) → Option Dot
-cursor_of zero at [] = None
-cursor_of zero at (c ∷ clients) = at
-cursor_of (suc n) at [] = None
-cursor_of (suc n) at (c ∷ clients) = cursor_of n (Some c.0) clients
 
 -- the member that names the client behind which the next page begins (own)
 abbrev pub next_member : Option Dot → Members
@@ -54,7 +24,7 @@ next_member (Some client) = member (codes "next") (string (client_text client)) 
 -- the page of these clients, which follow one (own)
 abbrev pub page_body : Option Dot → List (Dot × ClientFields) → Data
 page_body after clients = object
-    (member (codes "clients") (array (listed page_size clients))
+    (member (codes "clients") (array (listed listed_body page_size clients))
     (next_member (cursor_of page_size after clients)))
 
 -- the page of the clients above a dot, or of the first (own)

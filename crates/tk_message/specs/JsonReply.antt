@@ -15,6 +15,8 @@ use Rattle.tk_message.specs.declared.json_reply.JsonReply.TheVariants.{
   Clients,
   Consent,
   Subject,
+  SubjectPage,
+  Login,
   Tokens,
   Refreshed,
   Access,
@@ -28,6 +30,7 @@ use Rattle.tk_message.specs.Bodies.{
   shown_body,
   consent_body,
   subject_body,
+  login_body,
   token_body,
   refreshed_body,
   access_body,
@@ -40,6 +43,7 @@ use Rattle.tk_message.specs.ClientPage.{clients_body}
 use Rattle.tk_message.specs.ErrorCode.{error_status, error_name}
 use Rattle.tk_message.specs.Reply.{json_reply}
 use Rattle.tk_message.specs.ReplyFields.{ReplyFields}
+use Rattle.tk_message.specs.SubjectPage.{subject_page}
 
 -- the status of the reply (RFC 6749, 5.1 and 5.2; RFC 7662, 2.2; own)
 abbrev pub status_of : JsonReply → StatusCode
@@ -57,6 +61,9 @@ body_of (Shown client client_kind lives live scope) =
 body_of (Clients ledger after) = clients_body (held_facts ledger.now) after
 body_of (Consent status consent) = consent_body consent
 body_of (Subject subject) = subject_body subject.now
+body_of (SubjectPage ledger now subject consents_after logins_after) =
+    subject_page (held_facts ledger.now) now subject.now consents_after logins_after
+body_of (Login code) = login_body code
 body_of (Tokens access lifetime refresh scope) =
     token_body access.now lifetime refresh.now scope.now
 body_of (Refreshed access lifetime scope) = refreshed_body access.now lifetime scope.now

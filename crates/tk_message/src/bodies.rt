@@ -20,7 +20,7 @@ use crate::object::{begin, end, put_flag, put_handle, put_number, put_text};
 use json::Writer;
 use std::alloc::{AllocError, Global};
 use tk_fact::{ClientKind, ClientLives};
-use tk_handle::{Dot, Handle, client_text, consent_text};
+use tk_handle::{Dot, Handle, client_text, consent_text, login_text};
 use tk_ledger::Standing;
 use tk_scope::Scope;
 
@@ -74,6 +74,14 @@ pub(crate) fn consent_body(alloc: Global, consent: Dot) -> Result<Vec<u8>, Alloc
     one_text(alloc, "consent_id", id.as_str())
 }
 
+// Returns the body with the id of the login that the code of the dot began (own).
+pub(crate) fn login_body(alloc: Global, code: Dot) -> Result<Vec<u8>, AllocError>
+    ensures { IfOk result (λ body. body.items ≡ compact_text (spec.login_body code)) }
+{
+    let id = login_text(alloc, code)?;
+    one_text(alloc, "login_id", id.as_str())
+}
+
 // Returns the body that shows the client that was added at the dot (own).
 pub(crate) fn shown_body(
     alloc: Global,
@@ -102,35 +110,39 @@ pub(crate) fn put_shown(
     scope: &Scope,
 ) -> Result<(), AllocError>
     ensures ok { OnOk result (out.new.tokens ≡ out.old.tokens
-        ++ (spec.life_written (codes "access_life") (spec.access_life lives)
+        ++ (spec.number_written (codes "access_life") (spec.access_life lives)
         ++ (key (codes "client_id") ∷ string (client_name client) ∷ []
-        ++ (spec.life_written (codes "family_life") (spec.family_life lives)
+        ++ (spec.number_written (codes "family_life") (spec.family_life lives)
         ++ (key (codes "kind") ∷ string (spec.kind_name client_kind.now)
         ∷ key (codes "live") ∷ a_flag live ∷ []
         ++ (spec.refresh_written client_kind.now
-        ++ (spec.life_written (codes "refresh_life") (spec.refresh_life lives)
+        ++ (spec.number_written (codes "refresh_life") (spec.refresh_life lives)
         ++ key (codes "scope") ∷ string scope.now ∷ []))))))) }
     ensures before { OnOk result (out.new.before ≡ out.old.before) }
 {
     let id = client_text(alloc, client)?;
-    put_life(out, "access_life", lives.map(|lives| lives.access))?;
+    put_optional(out, "access_life", lives.map(|lives| lives.access))?;
     put_text(out, "client_id", id.as_str())?;
-    put_life(out, "family_life", lives.map(|lives| lives.family))?;
+    put_optional(out, "family_life", lives.map(|lives| lives.family))?;
     put_text(out, "kind", kind_name(client_kind))?;
     put_flag(out, "live", live)?;
     put_refresh(out, client_kind)?;
-    put_life(out, "refresh_life", lives.map(|lives| lives.refresh))?;
+    put_optional(out, "refresh_life", lives.map(|lives| lives.refresh))?;
     put_text(out, "scope", scope.text())
 }
 
-// Writes a member that is a life of a client, if the client has lives.
-fn put_life(out: &mut Writer, name: &str, life: Option<u64>) -> Result<(), AllocError>
+// Writes a member that is a number, if there is one.
+pub(crate) fn put_optional(
+    out: &mut Writer,
+    name: &str,
+    value: Option<u64>,
+) -> Result<(), AllocError>
     ensures ok { OnOk result
-        (out.new.tokens ≡ out.old.tokens ++ spec.life_written name.now life) }
+        (out.new.tokens ≡ out.old.tokens ++ spec.number_written name.now value) }
     ensures before { OnOk result (out.new.before ≡ out.old.before) }
 {
-    match life {
-        Some(life) => put_number(out, name, life),
+    match value {
+        Some(value) => put_number(out, name, value),
         None => Ok(()),
     }
 }

@@ -8,6 +8,7 @@ ghost use Rattle.tk_store.specs.Walk.{above};
 ghost use Rattle.tk_ledger.specs.ClientWalk.{clients_in};
 ghost use Rattle.tk_message.specs.Bodies.{shown_body};
 ghost use Rattle.tk_message.specs.ClientPage as spec;
+ghost use Rattle.tk_message.specs.Page.{page_size, listed, cursor_of};
 
 use crate::bodies::put_shown;
 use crate::object::{begin, end, put_text};
@@ -16,7 +17,7 @@ use std::alloc::{AllocError, Global};
 use tk_handle::{Dot, client_text};
 use tk_ledger::{ClientView, Ledger};
 
-/// How many clients a page has at most.
+/// How many clients, consents or logins a page has at most.
 pub const MAX_LISTED: usize = 128;
 
 // How many bytes are reserved for a page. Most pages need fewer, a long one needs more.
@@ -51,8 +52,8 @@ fn put_clients(
     after: Option<Dot>,
 ) -> Result<Option<Dot>, AllocError>
     ensures ok { OnOk result (out.new.tokens ≡ out.old.tokens ++ items_tokens (items_outline
-        (spec.listed spec.page_size (above (clients_in (held_facts ledger.now)) after)))) }
-    ensures next { IfOk result (λ next. next ≡ spec.cursor_of spec.page_size after
+        (listed spec.listed_body page_size (above (clients_in (held_facts ledger.now)) after)))) }
+    ensures next { IfOk result (λ next. next ≡ cursor_of page_size after
         (above (clients_in (held_facts ledger.now)) after)) }
     ensures before { OnOk result (out.new.before ≡ out.old.before) }
 {
@@ -71,7 +72,7 @@ fn put_clients(
 
 // Returns the client that a full page ends with, if others follow.
 fn cursor_at(ledger: &Ledger, last: Option<Dot>) -> Option<Dot>
-    ensures { result ≡ spec.cursor_of zero last (above (clients_in (held_facts ledger.now)) last) }
+    ensures { result ≡ cursor_of zero last (above (clients_in (held_facts ledger.now)) last) }
 {
     let cursor = last;
     match ledger.next_client(last) {

@@ -3,7 +3,7 @@
 use crate::error_code::ErrorCode;
 use crate::status_code::StatusCode;
 use tk_fact::{ClientKind, ClientLives, Subject};
-use tk_handle::{Dot, Handle};
+use tk_handle::{Dot, Handle, Moment};
 use tk_ledger::{Ledger, Standing};
 use tk_scope::Scope;
 
@@ -23,6 +23,11 @@ pub enum JsonReply<'a> {
     Consent(StatusCode, Dot),
     /// The subject that was signed out (own).
     Subject(&'a Subject),
+    /// A page of what a subject has at the moment: its live consents and its logins that are above
+    /// a dot each, or the first, and when it last signed out everywhere (own).
+    SubjectPage(&'a Ledger, Moment, &'a Subject, Option<Dot>, Option<Dot>),
+    /// The id of the login that the code of the dot began (own).
+    Login(Dot),
     /// An access token, its life in seconds, a refresh token, and the scope of the access token
     /// (RFC 6749, 5.1).
     Tokens(&'a Handle, u64, &'a Handle, &'a Scope),
@@ -44,11 +49,12 @@ ghost use Rattle.serde_json.specs.Written.{compact_text};
 ghost use Rattle.tk_message.specs.JsonReply as spec;
 
 use crate::bodies::{
-    access_body, client_body, consent_body, one_flag, one_number, one_text, refresh_body,
-    refreshed_body, shown_body, token_body,
+    access_body, client_body, consent_body, login_body, one_flag, one_number, one_text,
+    refresh_body, refreshed_body, shown_body, token_body,
 };
 use crate::client_page::clients_body;
 use crate::reply::{Payload, Reply, asks_by};
+use crate::subject_page::subject_page;
 use std::alloc::{AllocError, Global};
 
 impl JsonReply<'_> {
@@ -95,6 +101,10 @@ impl JsonReply<'_> {
             JsonReply::Clients(ledger, after) => clients_body(alloc, ledger, after),
             JsonReply::Consent(_, consent) => consent_body(alloc, consent),
             JsonReply::Subject(subject) => one_text(alloc, "subject", subject.as_str()),
+            JsonReply::SubjectPage(ledger, now, subject, consents_after, logins_after) => {
+                subject_page(alloc, ledger, now, subject, consents_after, logins_after)
+            }
+            JsonReply::Login(code) => login_body(alloc, code),
             JsonReply::Tokens(access, lifetime, refresh, scope) => {
                 token_body(alloc, access, lifetime, refresh, scope)
             }

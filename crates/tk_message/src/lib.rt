@@ -32,6 +32,7 @@ mod reply;
 mod request;
 mod scope;
 mod status_code;
+mod subject_page;
 
 pub use authentication::{Auth, authenticate};
 pub use caller::{Caller, find_caller};

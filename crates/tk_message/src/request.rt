@@ -28,6 +28,10 @@ pub enum Endpoint {
     Withdraw,
     /// POST `/admin/signout`: sign a subject out everywhere.
     SignOut,
+    /// GET `/admin/subject`: list the consents and the logins of a subject.
+    ShowSubject,
+    /// POST `/admin/logout`: end a login.
+    EndLogin,
 }
 
 /// A request, read from its head and body. Contracts see the bytes of its parts.
