@@ -27,6 +27,7 @@ use Rattle.tk_edge.specs.Judged.{judged_of, at_path, at_service, asked, with_bod
 use Rattle.tk_edge.specs.Judged.{limit_of, MayPost, MayTell, MayAsk}
 use Rattle.tk_edge.specs.Laws.{HasOneMeaning, HearsAll}
 use Rattle.tk_edge.specs.Paths.{path_of, path_named, client_named, admin_named, sync_named}
+use Rattle.tk_edge.specs.Paths.{logins_named}
 use Rattle.tk_edge.specs.Paths.{has_metrics, notice_named, beside_clients, inner_named}
 use Rattle.tk_edge.specs.Paths.{method_named, service_at}
 use Rattle.tk_format.specs.Numerals.{is_numeral, numeral_up_to}
@@ -141,6 +142,11 @@ client_may reach text =
     (pick reach (bytes_eq text (codes "/introspect")) (Some path.Introspect) _ tt
     (pick reach (bytes_eq text (codes "/revoke")) (Some path.Revoke) None tt tt)))
 
+logins_may : (reach : Reach) (text : List ℕ) → MayServeIf reach (logins_named text)
+logins_may reach text =
+    pick reach (bytes_eq text (codes "/admin/subject")) (Some path.Subject) _ tt
+    (pick reach (bytes_eq text (codes "/admin/logout")) (Some path.Logout) None tt tt)
+
 admin_may : (reach : Reach) (text : List ℕ) → MayServeIf reach (admin_named text)
 admin_may reach text =
     pick reach (bytes_eq text (codes "/admin/client")) (Some path.Client) _ tt
@@ -148,7 +154,8 @@ admin_may reach text =
     (pick reach (bytes_eq text (codes "/admin/retire")) (Some path.Retire) _ tt
     (pick reach (bytes_eq text (codes "/admin/consent")) (Some path.Consent) _ tt
     (pick reach (bytes_eq text (codes "/admin/withdraw")) (Some path.Withdraw) _ tt
-    (pick reach (bytes_eq text (codes "/admin/signout")) (Some path.SignOut) None tt tt)))))
+    (pick reach (bytes_eq text (codes "/admin/signout")) (Some path.SignOut) _ tt
+    (logins_may reach text))))))
 
 sync_may : (reach : Reach) (text : List ℕ) → reach.paths ≡ All → MayServeIf reach (sync_named text)
 sync_may reach text on =

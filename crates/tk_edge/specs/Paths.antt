@@ -4,6 +4,7 @@
 --   path_of        the part of a target before its first `?` (RFC 9112, 3.2.1)
 --   query_of       the part of a target behind its first `?`
 --   client_named   the path of a name among those of clients
+--   logins_named   the path of a name among those by which operators see and end logins
 --   admin_named    the path of a name among those of operators
 --   sync_named     the path of a name among those by which regions exchange facts
 --   has_metrics    the metrics are reached
@@ -24,7 +25,7 @@ use Rattle.tk_message.specs.declared.request.Endpoint.TheVariants as endpoint
 use Rattle.tk_edge.specs.declared.path.Path.{Path}
 use Rattle.tk_edge.specs.declared.path.Path.TheVariants.{Authorize, Token, Introspect, Revoke}
 use Rattle.tk_edge.specs.declared.path.Path.TheVariants.{Client, Retire, Consent, Withdraw, SignOut}
-use Rattle.tk_edge.specs.declared.path.Path.TheVariants.{Vector, Pull, Push}
+use Rattle.tk_edge.specs.declared.path.Path.TheVariants.{Subject, Logout, Vector, Pull, Push}
 use Rattle.tk_edge.specs.declared.path.Path.TheVariants as paths
 use Rattle.tk_edge.specs.declared.path.Method.{Method}
 use Rattle.tk_edge.specs.declared.path.Method.TheVariants.{Get, Post}
@@ -53,6 +54,13 @@ client_named path =
     else if bytes_eq path (codes "/revoke") then Some Revoke
     else None
 
+-- the path of a name among those by which operators see and end logins (own)
+abbrev pub logins_named : List ℕ → Option Path
+logins_named path =
+    if bytes_eq path (codes "/admin/subject") then Some Subject
+    else if bytes_eq path (codes "/admin/logout") then Some Logout
+    else None
+
 -- the path of a name among those of operators (own)
 abbrev pub admin_named : List ℕ → Option Path
 admin_named path =
@@ -62,7 +70,7 @@ admin_named path =
     else if bytes_eq path (codes "/admin/consent") then Some Consent
     else if bytes_eq path (codes "/admin/withdraw") then Some Withdraw
     else if bytes_eq path (codes "/admin/signout") then Some SignOut
-    else None
+    else logins_named path
 
 -- the path of a name among those by which regions exchange facts (own)
 abbrev pub sync_named : List ℕ → Option Path
@@ -121,6 +129,7 @@ abbrev pub get_service : Path → Option Service
 get_service Authorize = Some (service.Query endpoint.Authorize)
 get_service Client = Some (service.Query endpoint.ShowClient)
 get_service paths.Clients = Some (service.Query endpoint.ListClients)
+get_service Subject = Some (service.Query endpoint.ShowSubject)
 get_service Vector = Some service.Vector
 get_service (paths.Notice notice) = Some (service.Notice notice)
 get_service path = None
@@ -141,6 +150,8 @@ post_service Retire = form_for endpoint.Retire
 post_service Consent = form_for endpoint.Consent
 post_service Withdraw = form_for endpoint.Withdraw
 post_service SignOut = form_for endpoint.SignOut
+post_service Subject = None
+post_service Logout = form_for endpoint.EndLogin
 post_service Vector = None
 post_service Pull = Some (service.Body posted.Pull)
 post_service Push = Some (service.Body posted.Push)
@@ -157,6 +168,7 @@ abbrev pub allowed_at : Path → List ℕ
 allowed_at Authorize = codes "GET"
 allowed_at Client = codes "GET, POST"
 allowed_at paths.Clients = codes "GET"
+allowed_at Subject = codes "GET"
 allowed_at Vector = codes "GET"
 allowed_at (paths.Notice notice) = codes "GET"
 allowed_at path = codes "POST"

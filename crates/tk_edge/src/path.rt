@@ -34,6 +34,10 @@ pub enum Path {
     Withdraw,
     /// Signs a subject out, `/admin/signout` (own).
     SignOut,
+    /// Lists what a subject has, `/admin/subject` (own).
+    Subject,
+    /// Ends a login, `/admin/logout` (own).
+    Logout,
     /// Shows the region's vector, `/sync/vector` (own).
     Vector,
     /// Returns a page of facts, `/sync/pull` (own).
@@ -213,6 +217,19 @@ fn admin_named(path: &[u8]) -> Option<Path>
     if is_named(path, b"/admin/signout") {
         return Some(Path::SignOut);
     }
+    logins_named(path)
+}
+
+// Returns the path of this name among those by which operators see and end logins.
+fn logins_named(path: &[u8]) -> Option<Path>
+    ensures { result ≡ spec.logins_named path.now }
+{
+    if is_named(path, b"/admin/subject") {
+        return Some(Path::Subject);
+    }
+    if is_named(path, b"/admin/logout") {
+        return Some(Path::Logout);
+    }
     None
 }
 
@@ -265,6 +282,7 @@ impl Path {
             Path::Authorize => Some(Service::Query(Endpoint::Authorize)),
             Path::Client => Some(Service::Query(Endpoint::ShowClient)),
             Path::Clients => Some(Service::Query(Endpoint::ListClients)),
+            Path::Subject => Some(Service::Query(Endpoint::ShowSubject)),
             Path::Vector => Some(Service::Vector),
             Path::Notice(notice) => Some(Service::Notice(notice)),
             _ => None,
@@ -276,7 +294,8 @@ impl Path {
         ensures { result ≡ spec.post_service self }
     {
         match self {
-            Path::Authorize | Path::Clients | Path::Vector | Path::Notice(_) => None,
+            Path::Authorize | Path::Clients | Path::Subject | Path::Vector | Path::Notice(_) =>
+                None,
             Path::Token => form_for(Endpoint::Token),
             Path::Introspect => form_for(Endpoint::Introspect),
             Path::Revoke => form_for(Endpoint::Revoke),
@@ -285,6 +304,7 @@ impl Path {
             Path::Consent => form_for(Endpoint::Consent),
             Path::Withdraw => form_for(Endpoint::Withdraw),
             Path::SignOut => form_for(Endpoint::SignOut),
+            Path::Logout => form_for(Endpoint::EndLogin),
             Path::Pull => Some(Service::Body(Posted::Pull)),
             Path::Push => Some(Service::Body(Posted::Push)),
         }
@@ -295,7 +315,8 @@ impl Path {
         ensures { result.now ≡ spec.allowed_at self }
     {
         match self {
-            Path::Authorize | Path::Clients | Path::Vector | Path::Notice(_) => b"GET",
+            Path::Authorize | Path::Clients | Path::Subject | Path::Vector => b"GET",
+            Path::Notice(_) => b"GET",
             Path::Client => b"GET, POST",
             _ => b"POST",
         }

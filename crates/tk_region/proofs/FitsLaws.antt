@@ -1,11 +1,10 @@
 -- What holds of the items of a bundle that has a spelling. Key results:
---   fits_few      they are at most 128
+--   fits_few      they are at most 1,024
 --   fits_differ   their dots differ from each other
 --   fits_pass     their facts pass the check
-use Rattle.std.proofs.Common.{◌≡◌, ◌≤◌, ℕ, true, false, nat_le, [], ◌∷◌, length, Option, Some, None}
-use Rattle.std.proofs.Common.{is_none, refl, subst, arith}
+use Rattle.std.proofs.Common.{◌≡◌, ◌≤◌, ℕ, true, false, [], ◌∷◌, length, Option, Some, None}
+use Rattle.std.proofs.Common.{is_none, refl, subst}
 use mathlib.Core.Bool.{false≢true}
-use Rattle.std.proofs.lemmas.Bool.Decides.{nat_tests}
 use Rattle.std.specs.declared.cmp.Ordering.TheVariants.{Less}
 use Rattle.std.specs.List.{AllByRecursion}
 use Rattle.tk_handle.specs.declared.dot.Dot.{Dot}
@@ -16,6 +15,7 @@ use Rattle.tk_store.specs.Slots.{Held, Skipped}
 use Rattle.tk_bundle.specs.Bundle.{ascends, bundle}
 use Rattle.tk_bundle.specs.BundleFields.{BundleFields, Items}
 use Rattle.tk_bundle.specs.Items.{item}
+use Rattle.tk_bundle.proofs.FitLaws.{items_few, items_fit, items_rise}
 use Rattle.tk_region.proofs.TakeLaws.{Avoids, Differs, AllPass}
 use Rattle.std.proofs.lemmas.Bool.{and_parts as both_true}
 use Rattle.tk_handle.proofs.TestLaws.{less}
@@ -60,14 +60,11 @@ all_pass [] h = tt
 all_pass ((d, Held b) ∷ items) h = (none (refusal_of b) h.0.0.1, all_pass items h.1)
 all_pass ((d, Skipped) ∷ items) h = (tt, all_pass items h.1)
 
-at_most : (n : ℕ) → nat_le n 128 ≡ true → n ≤ 128
-at_most n h = grind (arith, nat_tests)
-
-pub fits_few : (b : BundleFields) → bundle.Fits b → length b.items ≤ 128
-fits_few b fits = at_most (length b.items) fits.0.1.0.1
+pub fits_few : (b : BundleFields) → bundle.Fits b → length b.items ≤ 1024
+fits_few b fits = items_few b fits
 
 pub fits_differ : (b : BundleFields) → bundle.Fits b → Differs b.items
-fits_differ b fits = differs b.items fits.1
+fits_differ b fits = differs b.items (items_rise b fits)
 
 pub fits_pass : (b : BundleFields) → bundle.Fits b → AllPass b.items
-fits_pass b fits = all_pass b.items fits.0.1.1
+fits_pass b fits = all_pass b.items (items_fit b fits)

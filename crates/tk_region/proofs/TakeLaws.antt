@@ -203,8 +203,8 @@ raised_agrees P Q h items is agree = subst (λ (S : Slots). AgreesWith S items)
     (sym (ap (λ (R : StoreFields). R.slots) is ∙ raised_slots P h)) agree
 
 pub raised_takes : (P Q R : StoreFields) (b : BundleFields) (r : Result ℕ TakeError)
-    → Q ≡ raised P b.horizon → Takes Q (record { horizon = None; items = b.items }) r R
-    → Takes P b r R
+    → Q ≡ raised P b.horizon
+    → Takes Q (record { horizon = None; runs = b.runs; items = b.items }) r R → Takes P b r R
 raised_takes P Q R b (Ok n) is t = (
   t.0 ∙ ap (λ (X : StoreFields). items_taken X b.items) is,
   ap (λ (S : Slots). map.len S + n)

@@ -11,11 +11,13 @@ use Rattle.tk_message.specs.declared.request.Endpoint.TheVariants.{Authorize, To
 use Rattle.tk_message.specs.declared.request.Endpoint.TheVariants.{Revoke, AddClient, ShowClient}
 use Rattle.tk_message.specs.declared.request.Endpoint.TheVariants.{Retire, Consent, Withdraw}
 use Rattle.tk_message.specs.declared.request.Endpoint.TheVariants.{ListClients, SignOut}
+use Rattle.tk_message.specs.declared.request.Endpoint.TheVariants.{ShowSubject, EndLogin}
 use Rattle.tk_message.specs.RequestFields.{RequestFields}
 use Rattle.tk_message.specs.Decision.{answered, refused}
 use Rattle.tk_authorize.specs.Administration.{administration_of}
 use Rattle.tk_authorize.specs.Authorization.{authorization_of}
 use Rattle.tk_authorize.specs.Listing.{listing_of}
+use Rattle.tk_authorize.specs.SubjectListing.{subject_of}
 use Rattle.tk_grant.specs.Granted.{grant_of}
 use Rattle.tk_query.specs.Introspection.{introspection_of}
 use Rattle.tk_query.specs.Revocation.{revocation_of}
@@ -36,6 +38,8 @@ decision_by Retire P place now words request = administration_of (held_facts P) 
 decision_by Consent P place now words request = administration_of (held_facts P) place now request
 decision_by Withdraw P place now words request = administration_of (held_facts P) place now request
 decision_by SignOut P place now words request = administration_of (held_facts P) place now request
+decision_by ShowSubject P place now words request = subject_of (held_facts P) now request.params
+decision_by EndLogin P place now words request = administration_of (held_facts P) place now request
 
 -- the decision of a request, without regard to the cap
 abbrev pub decision_of : StoreFields → Place → ℕ → List ℕ → RequestFields → Decision

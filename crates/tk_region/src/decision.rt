@@ -5,7 +5,7 @@ ghost use Rattle.tk_message.specs.Decision.{Passes};
 ghost use Rattle.tk_region.specs.Decision as spec;
 
 use std::alloc::{AllocError, Global};
-use tk_authorize::{decide_admin, decide_authorize, decide_clients};
+use tk_authorize::{decide_admin, decide_authorize, decide_clients, decide_subject};
 use tk_grant::decide_token;
 use tk_handle::Moment;
 use tk_ledger::Ledger;
@@ -33,12 +33,14 @@ pub(crate) fn decide_endpoint(
         }
         Endpoint::Revoke => decide_revoke(alloc, ledger, place, now, request),
         Endpoint::ListClients => decide_clients(alloc, ledger, request),
+        Endpoint::ShowSubject => decide_subject(alloc, ledger, now, request),
         Endpoint::AddClient
         | Endpoint::ShowClient
         | Endpoint::Retire
         | Endpoint::Consent
         | Endpoint::Withdraw
-        | Endpoint::SignOut => decide_admin(alloc, ledger, place, now, request),
+        | Endpoint::SignOut
+        | Endpoint::EndLogin => decide_admin(alloc, ledger, place, now, request),
     }
 }
 

@@ -82,7 +82,8 @@ fn is_unmade(next: Dot, dot: Dot) -> bool
     dot.region().number() == next.region().number() && next.serial() <= dot.serial()
 }
 
-// Returns whether each item agrees with what is known of its dot. Recurses over at most 128 items.
+// Returns whether each item agrees with what is known of its dot. Recurses over at most 1,024
+// items.
 fn agree(ledger: &Ledger, items: &[Item]) -> bool
     ensures { IsTrue result ↔ spec.AgreesWith ledger.now.slots items.now }
 {
@@ -131,8 +132,8 @@ fn raise(ledger: &mut Ledger, horizon: Option<Moment>)
 fn take_items(ledger: &mut Ledger, sent: Bundle) -> Result<u16, TakeError>
     requires fits { bundle.Fits sent }
     requires agree { spec.AgreesWith ledger.old.slots sent.items }
-    ensures { spec.Takes ledger.old (record { horizon = None; items = sent.items }) result
-        ledger.new }
+    ensures { spec.Takes ledger.old
+        (record { horizon = None; runs = sent.runs; items = sent.items }) result ledger.new }
 {
     let mut taken = 0u16;
     for item in sent.into_items() {

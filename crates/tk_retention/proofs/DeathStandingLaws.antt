@@ -11,7 +11,6 @@ use Rattle.tk_family.specs.Families.{grant_at, IsUnder, IsUsed, IsTwice, IsDead}
 use Rattle.tk_family.proofs.FamilyLaws.{IsUnder-one}
 use Rattle.tk_fact.specs.Keeping.{kept_for}
 use Rattle.tk_fact.specs.declared.body.Body.TheVariants as body
-use Rattle.tk_fact.specs.declared.code_issued.CodeIssued as issued
 use Rattle.tk_store.specs.FactSet.{FactSet}
 use Rattle.tk_store.specs.Slots.{is_skipped}
 use Rattle.tk_store.specs.StoreFields.{StoreFields, held_facts}

@@ -26,7 +26,9 @@ use Rattle.tk_message.specs.declared.request.Endpoint.TheVariants as endpoint
 use Rattle.tk_authorize.specs.Administration.{administration_of}
 use Rattle.tk_authorize.specs.Authorization.{authorization_of}
 use Rattle.tk_authorize.specs.Listing.{listing_of}
+use Rattle.tk_authorize.specs.SubjectListing.{subject_of}
 use Rattle.tk_authorize.proofs.SameLaws.{authorizations_same, administrations_same, listings_same}
+use Rattle.tk_authorize.proofs.SameLaws.{subjects_same}
 use Rattle.tk_grant.specs.Judged as grants
 use Rattle.tk_grant.proofs.AlikeLaws.{grants_alike}
 use Rattle.tk_query.specs.Anew.{IsAnew}
@@ -39,6 +41,8 @@ use Rattle.tk_retention.specs.Decides.{DecidesFor}
 use Rattle.tk_retention.specs.StandsFor.{StandsFor, AreSound}
 use Rattle.tk_retention.proofs.LastingLaws.{client_view_same, consent_view_same, consent_for_same}
 use Rattle.tk_retention.proofs.LastingLaws.{signed_out_same, revoked_up, caller_same}
+use Rattle.tk_retention.proofs.LoginStandsLaws.{subject_consents_same, subject_logins_same}
+use Rattle.tk_retention.proofs.LoginStandsLaws.{logout_same}
 use Rattle.tk_retention.proofs.EarlyRevocationLaws.{revoked_early}
 use Rattle.tk_retention.proofs.StatusStandsLaws.{status_stands}
 use Rattle.tk_retention.proofs.WholeStatus.{whole_status}
@@ -69,7 +73,8 @@ module _ (P : StoreFields) (U F : FactSet) (S : StandsFor P U F) (sound : AreSou
       ≡ administration_of (held_facts (whole_store F)) place now request
   administered request =
       administrations_same H F place now request (client_view_same P U F S)
-      (consent_view_same P U F S) (signed_out_same P U F S) (consent_for_same P U F S)
+      (consent_view_same P U F S) (signed_out_same P U F S)
+      (logout_same P U F S sound now soon) (consent_for_same P U F S)
       ∙ ap (λ (G : FactSet). administration_of G place now request) (sym back)
 
   -- the decision is equal, or that of a first revocation
@@ -115,6 +120,11 @@ module _ (P : StoreFields) (U F : FactSet) (S : StandsFor P U F) (sound : AreSou
   by_endpoint endpoint.Consent request = inl (administered request)
   by_endpoint endpoint.Withdraw request = inl (administered request)
   by_endpoint endpoint.SignOut request = inl (administered request)
+  by_endpoint endpoint.ShowSubject request = inl (
+      subjects_same H F now request.params (subject_consents_same P U F S)
+      (subject_logins_same P U F S sound now soon) (signed_out_same P U F S)
+      ∙ ap (λ (G : FactSet). subject_of G now request.params) (sym back))
+  by_endpoint endpoint.EndLogin request = inl (administered request)
 
 pub decision_stands : (P : StoreFields) (U F : FactSet) → StandsFor P U F → AreSound U
     → (place : Place) (now : ℕ) → P.horizon ≤ now → (words : List ℕ) (request : RequestFields)

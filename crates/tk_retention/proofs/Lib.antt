@@ -3,6 +3,7 @@ pub mod DecisionLaws
 pub mod EarlyRevocationLaws
 pub mod KeepingLaws
 pub mod LastingLaws
+pub mod LoginStandsLaws
 pub mod MadeLaws
 pub mod OverLaws
 pub mod SliceStands
@@ -10,3 +11,4 @@ pub mod StandingLaws
 pub mod StatusParts
 pub mod StatusStandsLaws
 pub mod WholeStatus
+pub mod WithinLaws

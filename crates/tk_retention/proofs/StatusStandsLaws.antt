@@ -1,5 +1,6 @@
 -- From the horizon on, a handle's status by a store is that by the facts for which the store
 -- stands, or both are lost. Key results:
+--   never_over                a family that is not over at the moment wasn't at the horizon
 --   state_same                the state of a token whose family is not over
 --   status_stands             the statuses
 use Rattle.std.proofs.Common.{◌≡◌, ◌≢◌, inl, inr, ℕ, ◌≤◌, ◌<◌, true, ◌&&◌, not, Option, None, Some}
@@ -28,7 +29,6 @@ use Rattle.tk_ledger.specs.Status.{generation_of, state_in, standing_in, digest_
 use Rattle.tk_ledger.specs.Status.{minted_as, status_by, status_in, status_here}
 use Rattle.tk_ledger.specs.Tokens.{links_in, anchor_in, IsMintedUnder, issued_at, minted_in, Root}
 use Rattle.tk_ledger.specs.Tokens.{root_in, is_used, is_ended, is_dead}
-use Rattle.tk_ledger.specs.declared.status.State.TheVariants as state
 use Rattle.tk_ledger.specs.declared.status.Status.{Status}
 use Rattle.tk_ledger.specs.declared.status.Status.TheVariants.{Broken, Known}
 use Rattle.tk_ledger.proofs.HereLaws.{here_held, here_skipped, here_unknown}
@@ -60,7 +60,7 @@ module _ (P : StoreFields) (U F : FactSet) (S : StandsFor P U F) where
   module _ (now : ℕ) (soon : P.horizon ≤ now) (root : Root)
       (issues : issued_at (map.get F) root.code ≡ Some root.issued)
       (early : now < root.issued.family_end) where
-    never_over : IsOver U P.horizon root.code → ⊥
+    pub never_over : IsOver U P.horizon root.code → ⊥
     never_over over =
         let same : over.code ≡ root.issued = some_injective over.code root.issued
         (sym over.is ∙ issued_below F U (all_made P U F S) root.code root.issued issues) in

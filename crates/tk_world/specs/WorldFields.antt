@@ -5,7 +5,7 @@
 use Rattle.std.specs.Prelude.{ℕ, List, [], refl, unwrap_or}
 use Rattle.std.specs.Ordering.{nat_cmp}
 use Rattle.std.specs.FinMap as map
-use Rattle.std.specs.Coded.{Coded, code_by, coded×, coded_ℕ, coded_list, coded_option}
+use Rattle.std.specs.Coded.{Coded, code_by, coded×, coded_bool, coded_ℕ, coded_list, coded_option}
 use Rattle.tk_handle.specs.Dot.{coded_dot}
 use Rattle.tk_store.specs.Slots.{coded_slot}
 use Rattle.tk_store.specs.StoreFields.{StoreFields, coded_store, empty_store}
@@ -19,11 +19,14 @@ pub record WorldFields : Type 0 where
   pub regions : map.FinMap nat_cmp StoreFields
   pub bundles : List BundleFields
 
--- the code of a bundle, as a pair
+-- the code of a bundle, as nested pairs
 abbrev pub coded_bundle : Coded BundleFields
 coded_bundle =
-    code_by _ (coded× (coded_option coded_ℕ) (coded_list (coded× coded_dot coded_slot)))
-    (λ b. (b.horizon, b.items)) (λ p. record { horizon = p.0; items = p.1 }) (λ _. refl)
+    code_by _
+    (coded× (coded_option coded_ℕ)
+    (coded× coded_bool (coded_list (coded× coded_dot coded_slot))))
+    (λ b. (b.horizon, (b.runs, b.items)))
+    (λ p. record { horizon = p.0; runs = p.1.0; items = p.1.1 }) (λ _. refl)
 
 -- the code of a world, as nested pairs
 abbrev pub coded_world : Coded WorldFields

@@ -54,6 +54,8 @@ with_reply (Some named.Retire) status r = record r { retire = with_status status
 with_reply (Some named.Consent) status r = record r { consent = with_status status r.consent }
 with_reply (Some named.Withdraw) status r = record r { withdraw = with_status status r.withdraw }
 with_reply (Some named.SignOut) status r = record r { sign_out = with_status status r.sign_out }
+with_reply (Some named.Subject) status r = record r { subject = with_status status r.subject }
+with_reply (Some named.Logout) status r = record r { logout = with_status status r.logout }
 with_reply (Some named.Vector) status r = record r { vector = with_status status r.vector }
 with_reply (Some named.Pull) status r = record r { pull = with_status status r.pull }
 with_reply (Some named.Push) status r = record r { push = with_status status r.push }
@@ -116,6 +118,8 @@ no_replies = record {
   consent = no_statuses;
   withdraw = no_statuses;
   sign_out = no_statuses;
+  subject = no_statuses;
+  logout = no_statuses;
   vector = no_statuses;
   pull = no_statuses;
   push = no_statuses;

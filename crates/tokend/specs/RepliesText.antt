@@ -3,7 +3,8 @@
 --   sample             the sample of a status
 --   granted_samples, refused_samples, unread_samples   those of some statuses
 --   endpoint_samples   the samples of an endpoint
---   client_samples, notice_samples, registry_samples, consent_samples, admin_samples, sync_samples
+--   client_samples, notice_samples, registry_samples, consent_samples, login_samples,
+--   admin_samples, sync_samples
 --                      those of some endpoints
 --   outer_samples      the samples of what clients reach
 --   all_samples        the samples of all paths
@@ -79,9 +80,16 @@ consent_samples paths r = concat (
     ∷ endpoint_samples paths (codes "admin/withdraw") r.withdraw
     ∷ endpoint_samples paths (codes "admin/signout") r.sign_out ∷ [])
 
+-- the samples of the paths by which operators see and end logins
+unfoldable pub login_samples : List ℕ → Replies → List ℕ
+login_samples paths r = concat (
+    endpoint_samples paths (codes "admin/subject") r.subject
+    ∷ endpoint_samples paths (codes "admin/logout") r.logout ∷ [])
+
 -- the samples of the paths of operators
 unfoldable pub admin_samples : List ℕ → Replies → List ℕ
-admin_samples paths r = concat (registry_samples paths r ∷ consent_samples paths r ∷ [])
+admin_samples paths r = concat (
+    registry_samples paths r ∷ consent_samples paths r ∷ login_samples paths r ∷ [])
 
 -- the samples of the paths of other regions
 unfoldable pub sync_samples : List ℕ → Replies → List ℕ

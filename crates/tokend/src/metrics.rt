@@ -52,6 +52,10 @@ pub(crate) struct Replies {
     pub withdraw: Statuses,
     /// `/admin/signout`.
     pub sign_out: Statuses,
+    /// `/admin/subject`.
+    pub subject: Statuses,
+    /// `/admin/logout`.
+    pub logout: Statuses,
     /// `/sync/vector`.
     pub vector: Statuses,
     /// `/sync/pull`.
@@ -135,6 +139,8 @@ const NO_REPLIES: Replies = Replies {
     consent: NO_STATUSES,
     withdraw: NO_STATUSES,
     sign_out: NO_STATUSES,
+    subject: NO_STATUSES,
+    logout: NO_STATUSES,
     vector: NO_STATUSES,
     pull: NO_STATUSES,
     push: NO_STATUSES,
@@ -181,6 +187,8 @@ impl Replies {
             Some(Path::Consent) => self.consent.count(status),
             Some(Path::Withdraw) => self.withdraw.count(status),
             Some(Path::SignOut) => self.sign_out.count(status),
+            Some(Path::Subject) => self.subject.count(status),
+            Some(Path::Logout) => self.logout.count(status),
             Some(Path::Vector) => self.vector.count(status),
             Some(Path::Pull) => self.pull.count(status),
             Some(Path::Push) => self.push.count(status),

@@ -82,7 +82,8 @@ fn admin_samples(alloc: Global, paths: &[u8], replies: &Replies) -> Result<Vec<u
 {
     let clients = registry_samples(alloc, paths, replies)?;
     let consents = consent_samples(alloc, paths, replies)?;
-    joined(alloc, &[&clients, &consents])
+    let logins = login_samples(alloc, paths, replies)?;
+    joined(alloc, &[&clients, &consents, &logins])
 }
 
 // Returns the samples of the paths by which operators add, list and retire clients.
@@ -105,6 +106,16 @@ fn consent_samples(alloc: Global, paths: &[u8], replies: &Replies) -> Result<Vec
     let withdraw = endpoint_samples(alloc, paths, b"admin/withdraw", &replies.withdraw)?;
     let sign_out = endpoint_samples(alloc, paths, b"admin/signout", &replies.sign_out)?;
     joined(alloc, &[&consent, &withdraw, &sign_out])
+}
+
+// Returns the samples of the paths by which operators see and end logins.
+#[tactic(auto, unfolding(crate::specs::RepliesText::login_samples))]
+fn login_samples(alloc: Global, paths: &[u8], replies: &Replies) -> Result<Vec<u8>, AllocError>
+    ensures { IfOk result (λ text. text.items ≡ spec.login_samples paths.now replies.now) }
+{
+    let subject = endpoint_samples(alloc, paths, b"admin/subject", &replies.subject)?;
+    let logout = endpoint_samples(alloc, paths, b"admin/logout", &replies.logout)?;
+    joined(alloc, &[&subject, &logout])
 }
 
 // Returns the samples of the paths of other regions.
