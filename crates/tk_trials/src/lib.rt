@@ -9,7 +9,7 @@
 //! - `edge`: connections over devices that fail, and which paths are served.
 //! - `region`: a region that runs out of memory.
 //! - `results` and `uris`: results of calls that the program doesn't print.
-//! - `uncalled`: calls that no program makes.
+//! - `uncalled` and `pages`: calls that no program makes.
 #![tactic(auto)]
 
 #[cfg(test)]
@@ -18,6 +18,8 @@ mod dots;
 mod edge;
 #[cfg(test)]
 mod ledger;
+#[cfg(test)]
+mod pages;
 #[cfg(test)]
 mod region;
 #[cfg(test)]

@@ -90,36 +90,6 @@ const PATHS: &[Row] = &[
         ONLY_POST,
     ),
     (
-        b"PUT /admin/client HTTP/1.1\r\n\r\n",
-        UNKNOWN,
-        GET_AND_POST,
-        GET_AND_POST,
-    ),
-    (
-        b"PUT /admin/retire HTTP/1.1\r\n\r\n",
-        UNKNOWN,
-        ONLY_POST,
-        ONLY_POST,
-    ),
-    (
-        b"PUT /admin/consent HTTP/1.1\r\n\r\n",
-        UNKNOWN,
-        ONLY_POST,
-        ONLY_POST,
-    ),
-    (
-        b"PUT /admin/withdraw HTTP/1.1\r\n\r\n",
-        UNKNOWN,
-        ONLY_POST,
-        ONLY_POST,
-    ),
-    (
-        b"PUT /admin/signout HTTP/1.1\r\n\r\n",
-        UNKNOWN,
-        ONLY_POST,
-        ONLY_POST,
-    ),
-    (
         b"PUT /sync/vector HTTP/1.1\r\n\r\n",
         UNKNOWN,
         UNKNOWN,
@@ -151,6 +121,52 @@ const PATHS: &[Row] = &[
         UNKNOWN,
         UNKNOWN,
         VECTOR,
+    ),
+];
+
+// The same of the paths of operators.
+const ADMIN_PATHS: &[Row] = &[
+    (
+        b"PUT /admin/client HTTP/1.1\r\n\r\n",
+        UNKNOWN,
+        GET_AND_POST,
+        GET_AND_POST,
+    ),
+    (
+        b"PUT /admin/retire HTTP/1.1\r\n\r\n",
+        UNKNOWN,
+        ONLY_POST,
+        ONLY_POST,
+    ),
+    (
+        b"PUT /admin/consent HTTP/1.1\r\n\r\n",
+        UNKNOWN,
+        ONLY_POST,
+        ONLY_POST,
+    ),
+    (
+        b"PUT /admin/withdraw HTTP/1.1\r\n\r\n",
+        UNKNOWN,
+        ONLY_POST,
+        ONLY_POST,
+    ),
+    (
+        b"PUT /admin/subject HTTP/1.1\r\n\r\n",
+        UNKNOWN,
+        ONLY_GET,
+        ONLY_GET,
+    ),
+    (
+        b"PUT /admin/signout HTTP/1.1\r\n\r\n",
+        UNKNOWN,
+        ONLY_POST,
+        ONLY_POST,
+    ),
+    (
+        b"PUT /admin/logout HTTP/1.1\r\n\r\n",
+        UNKNOWN,
+        ONLY_POST,
+        ONLY_POST,
     ),
 ];
 
@@ -264,6 +280,12 @@ fn missed_anew(alloc: Global, rows: &'static [Row]) -> Option<&'static [u8]> {
 #[test]
 fn a_path_that_is_not_reached_is_unknown(rt: HostRuntime) {
     let miss = missed_anew(rt.alloc(), PATHS);
+    assert!(rt; miss.is_none(), "{miss:?}");
+}
+
+#[test]
+fn a_path_of_operators_that_is_not_reached_is_unknown(rt: HostRuntime) {
+    let miss = missed_anew(rt.alloc(), ADMIN_PATHS);
     assert!(rt; miss.is_none(), "{miss:?}");
 }
 

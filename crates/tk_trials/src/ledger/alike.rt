@@ -3,6 +3,7 @@
 use super::facts::{Place, dot, handle};
 use super::orders::Both;
 use super::same::{same_clients, same_consents, same_statuses, same_views};
+use super::subjects::{are_logins_alike, are_walks_alike};
 use tk_fact::{Fact, Subject};
 use tk_family::Steps;
 use tk_handle::{Dot, Handle, Kind, Moment, RegionNumber};
@@ -129,7 +130,11 @@ fn is_all_alike_at(both: &Both, at: Place, compared: &Compared<'_>) -> bool {
         }
     }
     match dot(at) {
-        Some(dot) => is_place_alike(both, dot, compared),
+        Some(dot) => {
+            is_place_alike(both, dot, compared)
+                && are_walks_alike(both, Some(dot), compared)
+                && are_logins_alike(both, dot, compared)
+        }
         None => false,
     }
 }
@@ -168,4 +173,5 @@ pub(super) fn are_all_alike(both: &Both, compared: &Compared<'_>) -> bool {
         && both.ledger.horizon().seconds() == both.plain.horizon()
         && are_outs_alike(both, compared.subject)
         && is_next_alike(both, None)
+        && are_walks_alike(both, None, compared)
 }

@@ -34,8 +34,8 @@ fn place_of(facts: &[Fact], dot: Dot) -> Option<usize> {
     None
 }
 
-// Returns the lower of two dots, or the first if there is no other.
-fn lower(dot: Dot, other: Option<Dot>) -> Dot {
+/// Returns the lower of two dots, or the first if there is no other.
+pub(super) fn lower(dot: Dot, other: Option<Dot>) -> Dot {
     match other {
         Some(other) if other < dot => other,
         _ => dot,
@@ -68,6 +68,11 @@ impl PlainLedger {
             }
         }
         false
+    }
+
+    // Returns all facts that are held.
+    pub(super) fn facts(&self) -> &[Fact] {
+        self.facts.as_slice()
     }
 
     // Returns the fact at the dot.
@@ -286,8 +291,8 @@ fn generation(body: &Body) -> u16 {
     }
 }
 
-// Returns the first state that holds.
-fn state(
+/// Returns the first state that holds.
+pub(super) fn state(
     facts: &[Fact],
     now: Moment,
     token: &TokenId,

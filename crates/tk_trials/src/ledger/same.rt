@@ -1,7 +1,7 @@
-//! Equality of statuses, and of views of clients and consents.
+//! Equality of statuses, and of views of clients, consents and logins.
 
 use tk_fact::Subject;
-use tk_ledger::{ClientView, ConsentView, Standing, Status};
+use tk_ledger::{ClientView, ConsentView, LoginView, Standing, Status};
 
 fn same_subjects(left: &Subject, right: &Subject) -> bool {
     left.as_bytes() == right.as_bytes()
@@ -56,7 +56,7 @@ pub(super) fn same_clients(left: &Option<ClientView<'_>>, right: &Option<ClientV
     }
 }
 
-fn same_grants(left: &ConsentView<'_>, right: &ConsentView<'_>) -> bool {
+pub(super) fn same_grants(left: &ConsentView<'_>, right: &ConsentView<'_>) -> bool {
     left.client == right.client
         && same_subjects(left.subject, right.subject)
         && left.scope.same(right.scope)
@@ -74,4 +74,12 @@ pub(super) fn same_consents(
         },
         None => right.is_none(),
     }
+}
+
+pub(super) fn same_logins(left: &LoginView<'_>, right: &LoginView<'_>) -> bool {
+    left.client == right.client
+        && left.scope.same(right.scope)
+        && left.start == right.start
+        && left.family_end == right.family_end
+        && left.state == right.state
 }
