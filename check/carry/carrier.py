@@ -222,7 +222,7 @@ class Misbehaving(Case):
         for why, said in {
                 "not a bundle: 1 bytes behind its last item": wrong,
                 "not a bundle: item 1 of 1 has 28 of 36 bytes": bundle(clients(4, 1))[:-8],
-                "not a bundle: it begins with b'OTB6', no version": b"OTB6" + wrong[4:],
+                "not a bundle: it begins with b'OTB7', no version": b"OTB7" + wrong[4:],
                 "not a bundle: item 2 isn't above the one before": bundle(clients(4, 2, 1))
                 }.items():
             with self.subTest(why):

@@ -54,7 +54,7 @@ class Bundles(unittest.TestCase):
     def test_no_bundles(self):
         mark = Dot(1, 7).write()
         for why, data in {
-                "no version": b"OTB6" + ADDED[4:],
+                "no version": b"OTB7" + ADDED[4:],
                 "129 items": bundle(*(fact(n) for n in range(1, 130))),
                 "has 8193 bytes": bundle(fact(1, 8193)),
                 "has 9 bytes": bundle(mark[:9]),

@@ -15,7 +15,7 @@ from lib.writing import (BUNDLES, LAST, bundle, dot, fact, marks, number, sign_o
 
 BAD = b"OTBX\0\0\0\0\0\0"
 EACH_BAD = (
-    BAD, b"OTB6\0\0\0", b"OTV2\0\0\0", bytes(6),
+    BAD, b"OTB7\0\0\0", b"OTV2\0\0\0", bytes(6),
     bundle([fact(11, b"")]), bundle([fact(2, dot(0, 1))]),
     bundle([sign_out(b"ann", 7)]), bundle([dot(1, 1)]),
     bundle([fact(2, dot(1, 1), 2), fact(2, dot(1, 1), 1)]),

@@ -13,8 +13,9 @@ CODE, ACCESS, REFRESH = 1, 2, 3
 SCOPE, REDIRECT = b"read write", b"https://app.example/callback"
 CLIENT_ADDED, SUBJECT_OUT, ACCESS_REFRESHED, LIMITED_ADDED = 1, 10, 12, 13  # kinds of facts
 KEEPING = 3  # the client kind of a client that keeps its refresh token
-MARKED = {b"OTB3", b"OTB5"}  # the versions with marks, and so with a horizon
+MARKED = {b"OTB3", b"OTB5", b"OTB6"}  # the versions with marks, and so with a horizon
 MARK = 10  # the length of the mark of a skipped fact, its dot
+RUN, RUN_BYTES = 14, 19  # where a fact has its kind, the number of a run; the length of a run
 HORIZON = 1000  # a moment that is over
 ELSEWHERE = 60000  # a region number that no site comes to
 CURSOR, EMPTY_VECTOR = bytes(10), b"OTV1\0\0"
@@ -195,6 +196,14 @@ def records(items):
     return b"".join(bundles(items, 1))
 
 
+def items_in(piece):
+    """A fact or a mark, or the marks of a run."""
+    if len(piece) != RUN_BYTES or piece[MARK] != RUN:
+        return [piece]
+    (region, first), last = DOT.unpack_from(piece), int.from_bytes(piece[MARK + 1:], "big")
+    return [dot((region, serial)) for serial in range(first, last + 1)]
+
+
 def facts_of(log):
     """The items of bundles that are one behind the other."""
     found, at = [], 0
@@ -203,7 +212,7 @@ def facts_of(log):
         count, at = int.from_bytes(log[at:at + 2], "big"), at + 2
         for _ in range(count):
             length, at = int.from_bytes(log[at:at + 2], "big"), at + 2
-            found.append(log[at:at + length])
+            found += items_in(log[at:at + length])
             at += length
     return found
 

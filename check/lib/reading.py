@@ -14,7 +14,8 @@ CLIENT_KINDS = ["public", "confidential", "resource", "confidential"]
 KEEPING = 3  # the client kind of a confidential client that keeps its refresh token
 TOKENS = {1: "code", 2: "access_token", 3: "refresh_token"}
 MARK = "mark"
-MARKED = {b"OTB3", b"OTB5"}  # the versions with marks, and so with a horizon
+MARKED = {b"OTB3", b"OTB5", b"OTB6"}  # the versions with marks, and so with a horizon
+RUN = 14  # where a fact has its kind: the number of a run of marks, of OTB6 alone
 # The kinds of facts that may be skipped: each mints a token, or is of a reuse or a revocation.
 PASSING = {"code_issued", "code_redeemed", "refresh_rotated", "token_revoked", "reuse_seen",
            "access_refreshed"}
@@ -127,23 +128,32 @@ def fields_of(kind, item):
     return readers[kind](item)
 
 
-def item_of(item, horizon):
-    """The object of an item of a bundle."""
-    reader = Bytes(item)
+def mark_at(dot, horizon):
+    """The object of a mark."""
+    return {"dot": dot, "kind": MARK, **moment("horizon", horizon)}
+
+
+def items_of(piece, horizon):
+    """The objects of an item of a bundle, or of a run of marks."""
+    reader = Bytes(piece)
     dot = reader.dot()
     if reader.is_empty():
-        return {"dot": dot, "kind": MARK, **moment("horizon", horizon)}
+        return [mark_at(dot, horizon)]
     number = reader.number(1)
+    if number == RUN:
+        region, first = map(int, dot.split(":"))
+        return [mark_at("%d:%d" % (region, serial), horizon)
+                for serial in range(first, reader.number(8) + 1)]
     kind = KINDS[number]
     fields = {"dot": dot, "kind": kind, **fields_of(kind, reader)}
-    return {**fields, **lives(reader)} if number == LIMITED else fields
+    return [{**fields, **lives(reader)} if number == LIMITED else fields]
 
 
 def bundle_of(reader):
     """The objects of the bundle at the front."""
     horizon = reader.number(8) if reader.take(4) in MARKED else None
-    items = [reader.take(reader.number(2)) for _ in range(reader.number(2))]
-    return [item_of(item, horizon) for item in items]
+    pieces = [reader.take(reader.number(2)) for _ in range(reader.number(2))]
+    return [item for piece in pieces for item in items_of(piece, horizon)]
 
 
 def vector_of(reader):

@@ -43,6 +43,11 @@ def marks(horizon, *dots):
     return bundle([dot(*one) for one in dots], b"OTB3", moments(horizon))
 
 
+def run(region, first, last):
+    """A run of marks, from a serial of a region to a later one."""
+    return dot(region, first) + number(14, 1) + number(last, 8)
+
+
 def vector(*entries):
     return b"OTV1" + number(len(entries), 2) + b"".join(dot(*entry) for entry in entries)
 
@@ -102,6 +107,13 @@ BUNDLES = {
         moments(1100)),
     "marks": marks(1100, (1, 3), (1, 4), (2, 1)),
     "a mark and a fact": bundle([dot(1, 3), sign_out(b"ann", 7, 4)], b"OTB3", moments(LAST)),
+    "a run of marks": bundle([run(1, 3, 4)], b"OTB6", moments(1100)),
+    "runs, marks and facts": bundle(
+        [run(1, 3, 5), sign_out(b"ann", 7, 6), dot(1, 7), run(1, 9, 11), dot(2, 12),
+         fact(12, dot(1, 4) + moments(0) + minted(OTHER, 0), 14, 2)], b"OTB6", moments(LAST)),
+    "the most marks": bundle([run(1, 3, 1026)], b"OTB6", moments(0)),
+    "the last marks": bundle(
+        [run(1, 2**63 - 2, 2**63 - 1), run(65534, 2**63 - 3, 2**63 - 1)], b"OTB6", moments(7)),
     "no fact": bundle([]),
     "no entry": vector(),
     "a vector": vector((1, 7), (2, 1), (65535, 2**63 - 1)),

@@ -47,6 +47,7 @@ ENDS = [
 ASKED = """
 req 1 0 POST /admin/client - - kind=public&scope=read&redirects=https://c.example/
 req 1 0 REDEEM {code2}
+req 1 0 POST /admin/logout - - login_id=l2-5
 req 1 0 ROTATE {refresh1}
 req 1 0 REDEEM {code1}
 req 1 0 REVOKE {access1}
@@ -55,6 +56,7 @@ req 1 0 POST /introspect <c2-2:s3cret> - token={refresh1}
 req 1 0 POST /admin/signout - - subject=ann
 req 1 0 POST /admin/retire - - client_id=c2-1
 req 1 0 GET /admin/clients - - -
+req 1 0 GET /admin/subject?subject=ann - - -
 """
 
 # requests that a region with these options decides otherwise than the profile; 9:1 is not known

@@ -2,14 +2,17 @@
 import struct
 
 # bytes before the first item
-HEADS = {b"OTB1": 6, b"OTB2": 6, b"OTB3": 14, b"OTB4": 6, b"OTB5": 14}
-MARKED = {b"OTB3", b"OTB5"}  # the versions with marks, and so with a horizon
+HEADS = {b"OTB1": 6, b"OTB2": 6, b"OTB3": 14, b"OTB4": 6, b"OTB5": 14, b"OTB6": 14}
+MARKED = {b"OTB3", b"OTB5", b"OTB6"}  # the versions with marks, and so with a horizon
 ITEM = struct.Struct(">HHQ")  # an item's length and its dot
+RUN = struct.Struct(">HHQBQ")  # a run's length, its first dot, RUN_KIND, and its last serial
+RUN_KIND = 14  # where a fact has its kind
 DOT = struct.Struct(">HQ")
 HORIZON = struct.Struct(">Q")
 CLIENT_ADDED, SIGN_OUT, ACCESS_REFRESHED, LIMITED_ADDED = 1, 10, 12, 13  # kinds of facts
 KEEPING = 3  # the client kind of a client that keeps its refresh token
 MOST_ITEMS, LEAST_BYTES, MOST_BYTES = 128, 10, 8192
+MOST_RUN_ITEMS = 1024  # of a bundle with runs, whose pieces are at most MOST_ITEMS
 
 
 class NoBundle(Exception):
@@ -77,9 +80,27 @@ def bundle_at(data, at):
         length, region, serial = ITEM.unpack_from(data, end)
         if not LEAST_BYTES <= length <= MOST_BYTES:
             raise no_bundle(at)
+        last = last_serial(data, end)
+        if last is None:
+            return None
         end += 2 + length
-        dots.append((region, serial))
+        if last - serial >= MOST_RUN_ITEMS - len(dots):
+            raise no_bundle(at)
+        dots += ((region, one) for one in range(serial, last + 1))
     return (end, dots) if end <= len(data) else None
+
+
+def is_run(data, at):
+    """Whether the piece at a place is a run of marks."""
+    return (data[at:at + 2] == struct.pack(">H", RUN.size - 2)
+            and data[at + ITEM.size:at + ITEM.size + 1] == bytes((RUN_KIND,)))
+
+
+def last_serial(data, at):
+    """The last serial of the piece at a place; None if the data ends before it does."""
+    if not is_run(data, at):
+        return ITEM.unpack_from(data, at)[2]
+    return RUN.unpack_from(data, at)[4] if len(data) - at >= RUN.size else None
 
 
 def whole_bytes(data, held):
@@ -111,7 +132,7 @@ def facts_alone(page):
     at, facts = HEADS[bytes(page[:4])], []
     while at < len(page):
         (length,) = struct.unpack_from(">H", page, at)
-        if length > DOT.size:
+        if length > DOT.size and not is_run(page, at):
             facts.append(page[at:at + 2 + length])
         at += 2 + length
     return b"".join([version_of(facts), struct.pack(">H", len(facts)), *facts])

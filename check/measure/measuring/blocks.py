@@ -328,7 +328,9 @@ ALL = {
     "uses": sized("uses", "redemptions of a code", ("lowest serials", "highest serials"), "ms"),
     "signouts": signouts, "push": push, "days": days,
     "consents": sized("consents", "consents before", ("withdrawn", "for another scope"), "µs"),
-    "lists": sized("lists", "clients", ("the first page", "one in the middle"), "µs"),
+    "lists": sized("lists", "entries", (
+        "clients, first page", "clients, in the middle", "logins, first page",
+        "logins, in the middle"), "µs"),
     "carried": plain("carried", ["`carry` to an empty server", ""]), "revoked": revoked,
     "fanned": fanned, "scaled": scaled, "spread": spread, "cells": cells, "peers": peers,
     "beside": beside, "ledger": ledger, "pruned": pruned,
