@@ -13,6 +13,8 @@ from typing import Iterator, NamedTuple, Optional
 MOST_ITEMS = 128
 MOST_BYTES = 8192  # of a fact
 MARK = 10  # the bytes of a mark: its dot
+RUN = 14  # where a fact has its kind: a run of marks
+MOST_RUN_ITEMS = 1024  # of a bundle with runs, whose pieces are at most MOST_ITEMS
 CLIENT_ADDED, SUBJECT_OUT, ACCESS_REFRESHED, LIMITED_ADDED = 1, 10, 12, 13
 KINDS = {*range(1, 11), ACCESS_REFRESHED, LIMITED_ADDED}
 KEEPING = 3  # the client kind of a client that keeps its refresh token
@@ -20,11 +22,13 @@ GREATEST_SERIAL = 2**63 - 1
 GREATEST_MOMENT = 253_402_300_799
 # A version: the newest kind that it has, and whether it has marks, and so a horizon.
 VERSIONS = {b"OTB1": (9, False), b"OTB2": (10, False), b"OTB3": (10, True),
-            b"OTB4": (13, False), b"OTB5": (13, True)}
+            b"OTB4": (13, False), b"OTB5": (13, True), b"OTB6": (13, True)}
+RUNS = b"OTB6"  # the version with runs
 VECTOR = b"OTV1"
 FROM_THE_START = bytes(10)  # the cursor of a first page
 
 _COUNT, _DOT, _HORIZON = struct.Struct(">H"), struct.Struct(">HQ"), struct.Struct(">Q")
+_RUN = struct.Struct(">HQBQ")
 
 
 class Malformed(ValueError):
@@ -71,6 +75,43 @@ def _version(items: tuple[bytes, ...]) -> bytes:
                 if newest <= kinds and (marks or not marked))
 
 
+def _follows(last: Optional[Dot], dot: Optional[Dot]) -> bool:
+    return bool(last and dot) and dot == (last.region, last.serial + 1)
+
+
+def _pieces(items: tuple[bytes, ...]) -> list[bytes]:
+    """The items, with marks that follow one another as runs."""
+    pieces: list[bytes] = []
+    first = last = None
+    for item in items:
+        dot = read_dot(item) if len(item) == MARK else None
+        if _follows(last, dot):
+            pieces[-1] = _RUN.pack(*first, RUN, dot.serial)
+        else:
+            first = dot
+            pieces.append(item)
+        last = dot
+    return pieces
+
+
+def _expanded(pieces: tuple[bytes, ...]) -> tuple[bytes, ...]:
+    """The items of pieces, of which one must be a run."""
+    items: list[bytes] = []
+    for number, piece in enumerate(pieces, 1):
+        if len(piece) != _RUN.size or piece[MARK] != RUN:
+            items.append(piece)
+            continue
+        (region, first), last = read_dot(piece), _RUN.unpack(piece)[3]
+        if not first < last <= min(GREATEST_SERIAL, first + MOST_RUN_ITEMS):
+            raise Malformed("the run %d is from %d to %d" % (number, first, last))
+        items += (_DOT.pack(region, serial) for serial in range(first, last + 1))
+    if len(items) > MOST_RUN_ITEMS:
+        raise Malformed("%d items, more than %d" % (len(items), MOST_RUN_ITEMS))
+    if _pieces(tuple(items)) != list(pieces) or len(items) == len(pieces):
+        raise Malformed("marks that follow one another aren't one run")
+    return tuple(items)
+
+
 def has_marks(version: bytes) -> bool:
     """Whether bundles of this version have marks, and so a horizon."""
     return VERSIONS[version][1]
@@ -90,15 +131,17 @@ def _check_item(number: int, item: bytes) -> None:
 class Bundle:
     """Items in the order of their dots: facts, and marks of facts that were skipped.
 
-    `horizon` is the sender's, a moment. It is None exactly if no item is a mark.
+    `horizon` is the sender's, a moment. It is None exactly if no item is a mark. With `runs`, marks
+    that follow one another are written as runs.
     """
 
     items: tuple[bytes, ...] = ()
     horizon: Optional[int] = None
+    runs: bool = False
 
     def __post_init__(self) -> None:
         """Raises Malformed if a bundle has too many items, or items that don't ascend."""
-        if len(self.items) > MOST_ITEMS:
+        if len(self.pieces) > MOST_ITEMS or len(self.items) > MOST_RUN_ITEMS:
             raise Malformed("%d items, more than %d" % (len(self.items), MOST_ITEMS))
         before = FROM_THE_START
         for number, item in enumerate(self.items, 1):
@@ -112,8 +155,13 @@ class Bundle:
             raise Malformed("the horizon %d is no moment" % self.horizon)
 
     @property
+    def pieces(self) -> list[bytes]:
+        """What is written: the items, or the runs of marks among them."""
+        return _pieces(self.items) if self.runs else list(self.items)
+
+    @property
     def version(self) -> bytes:
-        return _version(self.items)
+        return RUNS if len(self.pieces) < len(self.items) else _version(self.items)
 
     @property
     def marks(self) -> int:
@@ -127,7 +175,7 @@ class Bundle:
     @property
     def is_full(self) -> bool:
         """Whether a page of these items may be followed by another."""
-        return len(self.items) == MOST_ITEMS
+        return len(self.pieces) == MOST_ITEMS or len(self.items) == MOST_RUN_ITEMS
 
     @property
     def cursor(self) -> bytes:
@@ -139,15 +187,19 @@ class Bundle:
         head = self.version
         if self.horizon is not None:
             head += _HORIZON.pack(self.horizon)
-        parts = [head, _COUNT.pack(len(self.items))]
-        for item in self.items:
-            parts += _COUNT.pack(len(item)), item
+        pieces = self.pieces
+        parts = [head, _COUNT.pack(len(pieces))]
+        for piece in pieces:
+            parts += _COUNT.pack(len(piece)), piece
         return b"".join(parts)
+
+    def _of(self, items: tuple[bytes, ...]) -> Bundle:
+        """The bundle of some of the items. Marks keep the horizon."""
+        return Bundle(items, self.horizon if has_marks(_version(items)) else None, self.runs)
 
     def part(self, begin: int, end: int) -> Bundle:
         """The bundle of some of the items. Marks keep the horizon."""
-        items = self.items[begin:end]
-        return Bundle(items, self.horizon if has_marks(_version(items)) else None)
+        return self._of(self.items[begin:end])
 
     def facts_alone(self) -> Bundle:
         """The bundle of the facts, without the marks and the horizon."""
@@ -155,8 +207,7 @@ class Bundle:
 
     def without(self, numbers: set[int]) -> Bundle:
         """The bundle of the items that are under none of these region numbers."""
-        items = tuple(it for it in self.items if read_dot(it).region not in numbers)
-        return Bundle(items, self.horizon if has_marks(_version(items)) else None)
+        return self._of(tuple(it for it in self.items if read_dot(it).region not in numbers))
 
     def halves(self) -> tuple[Bundle, Bundle]:
         middle = len(self.items) // 2
@@ -201,6 +252,8 @@ def _walk(data: bytes, at: int) -> tuple[Optional[int], tuple[bytes, ...], int]:
 def read_front(data: bytes, at: int = 0) -> tuple[Bundle, int]:
     """The bundle that begins at a place of these bytes, and the place behind it."""
     horizon, items, end = _walk(data, at)
+    if data[at:at + 4] == RUNS:
+        return Bundle(_expanded(items), horizon, True), end
     if _version(items) != data[at:at + 4]:
         raise Malformed("items of %r in a bundle %r" % (_version(items), data[at:at + 4]))
     return Bundle(items, horizon), end
