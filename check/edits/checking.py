@@ -42,6 +42,11 @@ def library(name):
     return os.path.join(TOP, "crates", name, "out/rlib")
 
 
+def kept_of(name):
+    """What the last `rt check` in the crate's folder kept."""
+    return os.path.join(TOP, "crates", name, "out/incremental")
+
+
 def command(name):
     """The words that check the crate whose copy is the working directory."""
     wanted, home = wanted_by(), kit()
