@@ -7,6 +7,7 @@ use Rattle.std.specs.FinMap as map
 use Rattle.std.proofs.Common.{◌≡◌, ◌≢◌, inl, inr, ℕ, ◌+◌, ◌-◌, ◌≤◌, Bool, true, false, not, cond}
 use Rattle.std.proofs.Common.{Option, None, Some, List, ap, sym, ◌∙◌, refl, arith, subst}
 use Rattle.std.proofs.lemmas.Bool.{true≢false, cases_Bool, cond-true, cond-false}
+use Rattle.std.proofs.Math.Bool.{beq}
 use Rattle.std.specs.List.{IsDistinct}
 use Rattle.tk_handle.specs.declared.dot.Dot.{Dot}
 use Rattle.tk_family.specs.Counts.{IsCount, IsCounted, blamed_as, IsCountedAs}
@@ -86,6 +87,26 @@ recount-none M at was x none c = IsCount-apart (blamed_as M at was) (λ q. blame
     (count_in (M c)) (as_other M at was)
     (λ h. none_either was (code_in (M at)) c none (sym (as_here M at was) ∙ h))
     (none_either (bad_in (M at)) (code_in (M at)) c none) (x c)
+
+same_bools : (a b : Bool) → beq a b ≡ true → a ≡ b
+same_bools true true h = refl
+same_bools true false h = absurd (true≢false (sym h))
+same_bools false true h = absurd (true≢false (sym h))
+same_bools false false h = refl
+
+-- if the dot is as bad as it was, all codes have their counts
+pub recount-same : (M : Rows) (at : Dot) (was : Bool) → IsCountedAs M at was
+    → beq (bad_in (M at)) was ≡ true → IsCounted M
+recount-same M at was x so c =
+    let same = same_bools (bad_in (M at)) was so in
+    let alike : (q : Dot) → blamed_as M at was q ≡ blamed_in (M q) = λ q. elim (cases_dots at q) [
+      | inl here ↦ cond-true _ _ _ (ap (dot_eq at) (sym here) ∙ dot_eq-same at)
+          ∙ (ap (λ (b : Bool). cond b (code_in (M q)) None) (sym same)
+          ∙ ap (λ (y : Dot). cond (bad_in (M y)) (code_in (M q)) None) here)
+      | inr ne ↦ cond-false _ _ _ (dot_eq-apart at q ne)
+    ] in
+    IsCount-alike (blamed_as M at was) (λ q. blamed_in (M q)) c (count_in (M c))
+    (λ q h. sym (alike q) ∙ h) (λ q h. alike q ∙ h) (x c)
 
 -- ---- a list of dots comes under a code, or is under it no more
 

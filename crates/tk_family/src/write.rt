@@ -230,10 +230,14 @@ pub(crate) fn recount(rows: &mut DotMap<PackedRow>, at: Dot, was: bool)
     ensures counted { IsCounted (table rows.new) }
     ensures len { map.len rows.new ≡ map.len rows.old }
 {
+    let bad = is_bad(rows, at);
+    if bad == was {
+        return;
+    }
     countable(rows);
     if let Some(code) = code_at(rows, at) {
         let others = count_at(rows, code) - one_if(was);
-        let count = others + one_if(is_bad(rows, at));
+        let count = others + one_if(bad);
         set_count(rows, code, count);
     }
 }
@@ -254,7 +258,12 @@ pub(crate) fn raise(rows: &mut DotMap<PackedRow>, list: &[Dot], code: Dot)
     ensures rows { (q : the_dot) → table rows.new q ≡ raised (table rows.old) list.now code q }
     ensures len { map.len rows.new ≡ map.len rows.old }
 {
-    let count = count_at(rows, code) + bad_among(rows, list);
+    let bad = bad_among(rows, list);
+    if bad == 0 {
+        settle(rows, list, code);
+        return;
+    }
+    let count = count_at(rows, code) + bad;
     settle(rows, list, code);
     set_count(rows, code, count);
 }
