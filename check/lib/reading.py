@@ -69,11 +69,11 @@ def token(item):
 
 def client_added(item):
     """Returns the fields of a client, of whichever client kind, without its lives."""
-    sort = item.number(1)
-    fields = {"client_kind": CLIENT_KINDS[sort]}
-    if sort == KEEPING:
+    kind = item.number(1)
+    fields = {"client_kind": CLIENT_KINDS[kind]}
+    if kind == KEEPING:
         fields["refresh"] = "kept"
-    if sort:
+    if kind:
         fields["secret_digest"] = item.take(32).hex()
     fields["scope"] = item.text()
     fields["uris"] = [item.text() for _ in range(item.number(1))]

@@ -16,9 +16,7 @@
 //! In reading order: `Refusal`, `Denial`, `challenge`, `Asked`, `Approval`, `Judged`,
 //! `decide_authorize`; then `AdminRefusal`, `lives`, `registration`, `clients`, `consents`,
 //! `sign_outs`, `logins`, `Administered`, `chosen`, `decide_admin`, `decide_clients`,
-//! `decide_subject`. The definitions are in `specs/`, by these names; those of administration are
-//! in `Lives`, `Administered`, `Logouts`, `Chosen`, `Administration`, `Listing` and
-//! `SubjectListing`.
+//! `decide_subject`. `specs/Lib.antt` lists the definitions.
 #![tactic(auto)]
 
 mod admin_refusal;

@@ -13,10 +13,7 @@
 //! - `Bundle::read` reads bytes that may be hostile. `read_front` reads the first bundle of many,
 //!   and has one error for bytes that end too early and another for bytes that are no bundle.
 //!
-//! A bundle with runs is `OTB6`. Any other has the first version that has all of its items: `OTB1`,
-//! `OTB2` if a sign-out is among them, `OTB3` if a mark is, `OTB4` if the registration of a client
-//! that keeps its refresh token or has lives is, or an access token that was refreshed for one that
-//! keeps it, and `OTB5` if a mark is too (`versions_told`).
+//! A bundle has the first version that has all of its items, and runs (`versions_told`).
 //!
 //! In reading order: `Version`, `Item`, `Page`, `make`, `single`, `Bundle`, `read_front`; then
 //! `Piece`, `Run`, `make_with_runs`. Of `specs/`: `BundleFields`, `Versions`, `Items`, `Bundle`,

@@ -17,7 +17,7 @@
 //!    dot its tokens are in a family; `specs/Keeping.antt`, `src/keeping.rt`: for which token such
 //!    a fact is kept. The compiler does not require these rows.
 //! 7. `check/rows/bytes_facts.rows` at the top of the repository: its bytes at its limits, and one
-//!    past each among the bytes of no fact, where the kind 14 becomes 15.
+//!    past each among the bytes of no fact, where the next free number, 15 now, becomes one greater.
 //!    `check/rows/bytes_made.rows`: a region that makes such a fact. `must-fail/`: an edit for what
 //!    the kind means.
 //! 8. tk_bundle: a row in `kind_of` of `src/version.rt` and of `specs/Versions.antt`; two in the
@@ -40,8 +40,12 @@
 //!     in tk_edge; perhaps a line in `src/request_line.rt` of tk_world.
 //! 12. The number of kinds: "eleven" in this file, in `src/lib.rt`, in docs/GLOSSARY.md and in
 //!     docs/ARCHITECTURE.md; the kinds 1 to 13 and their list in docs/FORMATS.md; the row "fact" of
-//!     docs/DEFINITIONS.md. The number 11 is that of marks in bundles, and 13 is a second number of
-//!     `ClientAdded`: that of a client with lives, whose rows show how a kind gets more fields.
+//!     docs/DEFINITIONS.md. No kind has the number 11, or 14, which is that of a run of marks in
+//!     bundles. 13 is a second number of `ClientAdded`: that of a client with lives, whose rows
+//!     show how a kind gets more fields.
+//! 13. tk_listing: `src/lines.rt`, `src/fields.rt`, `specs/FactMembers.antt`. The readers in
+//!     Python: `check/lib/facts.py`, `check/lib/reading.py`, `examples/carry/bundles.py` and
+//!     `starter/starting/bundles.py`.
 
 ghost use Rattle.std.specs.Prelude.{◌≡◌, ◌++◌, ◌∷◌, ◌↔◌, drop, IfOk, IsTrue, OnOk};
 ghost use Rattle.tk_format.specs.Reading.{Gets};

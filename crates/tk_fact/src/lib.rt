@@ -4,8 +4,7 @@
 //!
 //! - `Fact::check` returns which rule a fact breaks, if any.
 //! - `Fact::write` and `Fact::read` convert a fact to and from bytes: the dot, a byte for the kind,
-//!   and the fields in the order of the kind's struct. A fact has exactly one spelling. A client
-//!   with lives has a number of its own.
+//!   and the fields in the order of the kind's struct. A fact has exactly one spelling.
 //! - `Fact::minted` returns the tokens that a fact mints, `Fact::uses` the token that it uses up.
 //! - `Fact::kept_for` returns the token for which a fact is kept. When that token's family is over,
 //!   the fact may be skipped.
@@ -13,9 +12,8 @@
 //! The crates above define what follows from several facts together. tk_scope and tk_match define
 //! scopes, redirection URIs, lists of them, and challenges.
 //!
-//! Each type is copied and compared, by `copy` and `same` or by derives if it is plain. The methods
-//! `known` do nothing at run time: they give a proof the fact that a value has a spelling.
-//! Contracts see a value as the plain value that it stands for.
+//! The methods `known` do nothing at run time: they give a proof the fact that a value has a
+//! spelling.
 //!
 //! In reading order: `Subject`, `ClientKind`, `ClientLives`, `MintedToken`, the eleven kinds from
 //! `ClientAdded` to `AccessRefreshed`, `Body`, `Fact`, `Minted`. `specs/Lib.antt` lists the

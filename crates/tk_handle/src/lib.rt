@@ -17,8 +17,7 @@
 //! time: it gives a proof the fact that the value has a spelling.
 //!
 //! The definitions are in `specs/`, `Ranges` first and then a file for each type. `SortedEntries`
-//! is for the sorted lists of the crates above. The laws of the formats are in
-//! `proofs/FormatLaws.antt`.
+//! is for the sorted lists of the crates above.
 #![tactic(auto)]
 
 mod client_id;

@@ -22,7 +22,7 @@ pub enum ErrorCode {
     UnsupportedResponseType,
     /// No subject has signed in, or the subject gave the client no consent to the scope.
     AccessDenied,
-    /// There is no such client, consent or path (own).
+    /// There is no such client, consent, login or path (own).
     NotFound,
     /// The region can make no fact, or its log failed (the name is from RFC 6749, 4.1.2.1).
     TemporarilyUnavailable,
