@@ -4,10 +4,12 @@ import itertools
 import json
 import os
 import random
+import re
 import subprocess
 import tempfile
 import unittest
 
+from lib import TOP
 from lib.command import GIVEN
 from lib.reading import Region, lines_of, printed
 from lib.writing import (BUNDLES, LAST, bundle, dot, fact, marks, number, sign_out,
@@ -83,6 +85,15 @@ class Kinds(unittest.TestCase):
                 '"horizon_seconds":1100}\n')
         self.assertEqual(run(data), ((line % 3 + line % 4).encode(), "", 0))
 
+    def test_records_of_the_document(self):
+        records = list(records_in_document())
+        self.assertEqual([record[10] for _, record in records], [2, 3, 4, 5, 6, 7, 8])
+        for name, record in records:
+            with self.subTest(name):
+                data = bundle([record])
+                self.assertEqual(run(data), expected(data))
+                self.assertEqual(json.loads(run(data)[0])["kind"], snake(name))
+
     def test_moments_of_all_years(self):
         # Each first and last day of a month of some years, and many moments drawn at random.
         draw = random.Random(7)
@@ -96,6 +107,18 @@ class Kinds(unittest.TestCase):
             some = enumerate(seconds[at:at + 128], at + 1)
             data += bundle([sign_out(b"ann", one, serial) for serial, one in some], b"OTB2")
         self.assertEqual(run(data), expected(data))
+
+
+def records_in_document():
+    """The name and the bytes of each fact in hex that docs/FORMATS.md has under its kind's name."""
+    with open(os.path.join(TOP, "docs/FORMATS.md"), encoding="utf-8") as file:
+        found = re.findall(r"^([A-Z][A-Za-z]+)\n((?:  [0-9a-f ]+\n)+)", file.read(), re.MULTILINE)
+    return ((name, bytes.fromhex(lines)) for name, lines in found)
+
+
+def snake(name):
+    """The kind of a fact as it is printed."""
+    return re.sub("(?<=[a-z])(?=[A-Z])", "_", name).lower()
 
 
 def days_before(year, month):

@@ -1,5 +1,5 @@
 //! Judgements of authorisation requests: the client, where the reply goes, and whether a code is
-//! issued.
+//! issued (RFC 6749, 3.1.2, 4.1.1 and 4.1.2.1; RFC 7636, 4.3).
 
 ghost use Rattle.std.specs.Prelude.{◌≡◌, IfOk, Some, true};
 ghost use Rattle.std.specs.Option.{option_copied};

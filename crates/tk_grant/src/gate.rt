@@ -1,4 +1,5 @@
-//! The gate of both grants: whether the code or refresh token that was sent can be redeemed.
+//! The gate of both grants: whether the code or refresh token that was sent can be redeemed (RFC
+//! 6749, 4.1.3, 5.2 and 6; RFC 9700, 4.14.2).
 
 ghost use Rattle.std.specs.Prelude.{◌≡◌, true};
 ghost use Rattle.std.specs.Option.{option_copied};

@@ -1,4 +1,5 @@
-//! Judgements of token requests, by the facts, the moment and the parameters.
+//! Judgements of token requests, by the facts, the moment and the parameters (RFC 6749, 3.2, 4.1.3
+//! and 6; RFC 7636, 4.6).
 
 use tk_fact::ClientLives;
 use tk_handle::{Dot, Moment, TokenId};

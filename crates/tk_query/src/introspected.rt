@@ -1,4 +1,5 @@
-//! The outcome of introspection, by its cases in their order.
+//! The outcome of introspection, by its cases in their order (RFC 7662, 2.1 and 2.2; who may see
+//! which token is own).
 
 use tk_ledger::Standing;
 

@@ -1,4 +1,4 @@
-//! The outcome of revocation, by its cases in their order.
+//! The outcome of revocation, by its cases in their order (RFC 7009, 2.1 and 2.2).
 
 use tk_fact::TokenRevoked;
 
