@@ -14,15 +14,20 @@ use std::alloc::{AllocError, Global};
 pub fn joined(alloc: Global, pieces: &[&[u8]]) -> Result<Vec<u8>, AllocError>
     ensures { IfOk result (λ bytes. bytes.items ≡ spec.joined_text pieces.now) }
 {
-    let mut room: usize = 0;
-    for piece in pieces {
-        room = room.saturating_add(piece.len());
-    }
-    let mut bytes = Vec::with_capacity(alloc, room)?;
+    let mut bytes = Vec::with_capacity(alloc, length_of(pieces))?;
     for piece in pieces {
         bytes.extend_from_slice(piece)?;
     }
     Ok(bytes)
+}
+
+// Returns the length of the pieces together, at most the greatest number.
+fn length_of(pieces: &[&[u8]]) -> usize {
+    let mut length: usize = 0;
+    for piece in pieces {
+        length = length.saturating_add(piece.len());
+    }
+    length
 }
 
 /// Returns the line of a field with its end, or no bytes without a value (RFC 9112, 5).
