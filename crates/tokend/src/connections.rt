@@ -218,11 +218,7 @@ impl Connections {
 
     /// Lists the connections that have something to do.
     pub(crate) fn list(&mut self) {
-        self.listed.clear();
-        for place in self.again.iter() {
-            let _ = self.listed.push(*place);
-        }
-        self.again.clear();
+        self.list_again();
         for event in self.events.iter() {
             let token = event.token().0;
             if let Some(door) = self.doors.get_mut(token) {
@@ -231,6 +227,15 @@ impl Connections {
                 note(&mut self.sockets, &mut self.listed, token - DOORS, event);
             }
         }
+    }
+
+    // Lists the connections that the last turn left with something to do, and no others.
+    fn list_again(&mut self) {
+        self.listed.clear();
+        for place in self.again.iter() {
+            let _ = self.listed.push(*place);
+        }
+        self.again.clear();
     }
 
     /// Reads what has come over the listed connections, and lists those that may be decided.
@@ -276,11 +281,21 @@ impl Connections {
 
     /// Gives up the connections whose requests may be decided.
     pub(crate) fn give_up(&mut self) {
+        self.give_up_outer();
+        self.give_up_inner();
+    }
+
+    // Gives up those of clients at the outer side.
+    fn give_up_outer(&mut self) {
         for _ in 0..self.places.len() {
             if let Some(place) = self.places.pop() {
                 self.lose(place);
             }
         }
+    }
+
+    // Gives up those at the inner socket.
+    fn give_up_inner(&mut self) {
         for _ in 0..self.inner_places.len() {
             if let Some(place) = self.inner_places.pop() {
                 self.lose(place);
