@@ -18,15 +18,17 @@ use Rattle.tk_ledger.specs.Clients.{added_in, given_in, retires, withdraws, is_w
 use Rattle.tk_ledger.specs.SignOuts.{sign_out_in}
 use Rattle.tk_ledger.specs.Tokens.{link_of, issued_in}
 use Rattle.tk_ledger.specs.Index.{row_added, row_retired, consent_cmp, consent_key, revocation_cmp}
-use Rattle.tk_ledger.specs.Index.{revocation_key, is_revocation_of, is_from, code_cmp, code_key}
-use Rattle.tk_ledger.specs.Index.{is_to, out_cmp, out_key, is_left_by, reuse_cmp, reuse_key}
+use Rattle.tk_ledger.specs.Index.{revocation_key, is_revocation_of, is_from, reuse_cmp, reuse_key}
 use Rattle.tk_ledger.specs.Index.{is_reuse_of, IsIndexed}
+use Rattle.tk_ledger.specs.SubjectTables.{code_cmp, code_key, is_to, login_cmp, login_key}
+use Rattle.tk_ledger.specs.SubjectTables.{begins_under, out_cmp, out_key, is_left_by}
 use Rattle.tk_ledger.specs.declared.client_rows.ClientRow.{ClientRow}
 use Rattle.tk_ledger.specs.declared.consent_keys.ConsentKey.{ConsentKey}
 use Rattle.tk_ledger.specs.declared.index.Index.{Index}
 use Rattle.tk_ledger.specs.declared.reuses.ReuseKey.{ReuseKey}
 use Rattle.tk_ledger.specs.declared.revocations.Revocation.{Revocation}
 use Rattle.tk_ledger.specs.declared.subject_keys.CodeKey.{CodeKey}
+use Rattle.tk_ledger.specs.declared.subject_keys.LoginKey.{LoginKey}
 use Rattle.tk_ledger.specs.declared.subject_keys.OutKey.{OutKey}
 
 none_held : (d : Dot) (b : Body) → ¬ (map.get (map.empty {R = dot_cmp}) d ≡ Some b)
@@ -43,9 +45,9 @@ no_value : {B : Type 0} (f : Body → Option B) (d : Dot) (y : B)
 no_value f d y h = none_is_not_some y (sym (ap (option_and_then f) (map.get-empty dot_cmp d)) ∙ h)
 
 pub empty_indexed : (x : Index) → x.clients.entries ≡ [] → x.consents.keys ≡ []
-    → x.withdrawn.keys ≡ [] → x.revocations.keys ≡ [] → x.codes.keys ≡ [] → x.outs.keys ≡ []
-    → x.reuses.keys ≡ [] → x.forest.links ≡ map.empty → IsIndexed map.empty x
-empty_indexed x te ce we re co ou se le = record {
+    → x.withdrawn.keys ≡ [] → x.revocations.keys ≡ [] → x.codes.keys ≡ [] → x.logins.keys ≡ []
+    → x.outs.keys ≡ [] → x.reuses.keys ≡ [] → x.forest.links ≡ map.empty → IsIndexed map.empty x
+empty_indexed x te ce we re co lo ou se le = record {
   clients_are = record {
     added = λ q. ap (λ (es : List (Dot × ClientRow)). row_added (lookup (is_at (dot_cmp q)) es)) te
         ∙ sym (ap (λ o. is_some (option_and_then added_in o)) (map.get-empty dot_cmp q));
@@ -70,6 +72,11 @@ empty_indexed x te ce we re co ou se le = record {
     listed = λ s n q. no_code s n q
         ∙ sym (ap (λ o. is_to s n (option_and_then issued_in o)) (map.get-empty dot_cmp q));
     ranged = λ s n q h. absurd (true≢false (sym h ∙ no_code s n q));
+  };
+  logins_are = record {
+    listed = λ s q. no_login s q
+        ∙ sym (ap (λ o. begins_under s (option_and_then issued_in o)) (map.get-empty dot_cmp q));
+    ranged = λ s q h. absurd (true≢false (sym h ∙ no_login s q));
   };
   outs_are = record {
     listed = λ s l q. no_out s l q
@@ -98,9 +105,13 @@ empty_indexed x te ce we re co ou se le = record {
     no_revocation k g c q = ap (λ (es : List Revocation).
         list_any (is_at (revocation_cmp (revocation_key k g c q))) es) re
 
-    no_code : (s : List _) (n : ℕ) (q : Dot)
+    no_code : (s n : ℕ) (q : Dot)
         → list_any (is_at (code_cmp (code_key s n q))) x.codes.keys ≡ false
     no_code s n q = ap (λ (es : List CodeKey). list_any (is_at (code_cmp (code_key s n q))) es) co
+
+    no_login : (s : ℕ) (q : Dot)
+        → list_any (is_at (login_cmp (login_key s q))) x.logins.keys ≡ false
+    no_login s q = ap (λ (es : List LoginKey). list_any (is_at (login_cmp (login_key s q))) es) lo
 
     no_out : (s : List _) (l : ℕ) (q : Dot)
         → list_any (is_at (out_cmp (out_key s l q))) x.outs.keys ≡ false

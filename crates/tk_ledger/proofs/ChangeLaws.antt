@@ -26,8 +26,9 @@ use Rattle.tk_store.proofs.PutLaws.{some_injective, none_is_not_some, get_here, 
 use Rattle.tk_store.proofs.OneMoreLaws.{OneMore, more_remove}
 use Rattle.tk_ledger.specs.SignOuts.{IsFirstUnreached, sign_out_at}
 use Rattle.tk_ledger.specs.Tokens.{link_of, links_in}
-use Rattle.tk_ledger.specs.Changes.{change_in, adds, reuses_of}
-use Rattle.tk_ledger.specs.Index.{codes_started, dots_of, IsCodes, IsTied, Wakes}
+use Rattle.tk_ledger.specs.Changes.{digest_prefix, change_in, adds, reuses_of}
+use Rattle.tk_ledger.specs.Index.{IsTied, Wakes}
+use Rattle.tk_ledger.specs.SubjectTables.{codes_started, dots_of, IsCodes}
 use Rattle.tk_ledger.specs.declared.change.Change.{Change}
 use Rattle.tk_ledger.specs.declared.change.Change.TheVariants as change
 use Rattle.tk_ledger.specs.declared.subject_keys.CodeKey.{CodeKey}
@@ -139,7 +140,8 @@ pub out_ties : (G : FactSet) (d : Dot) (subject : List ℕ) (moment first : ℕ)
     → ((f : out.SubjectOut) → sign_out_at (map.get G) d ≡ Some f
     → IsFirstUnreached (map.get (map.remove G d)) f.subject first)
     → Wakes G x
-    (λ q. nat_le first moment && has (dots_of (codes_started codes subject first moment)) q) z
+    (λ q. nat_le first moment && has (dots_of
+    (codes_started codes (digest_prefix subject) first moment)) q) z
     → IsTied G z
 out_ties G d subject moment first codes x z h t listed left woke =
     let c = changed G d (change.SignOut subject moment) h in

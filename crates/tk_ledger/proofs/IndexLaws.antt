@@ -15,8 +15,8 @@ use Rattle.tk_fact.specs.declared.token_revoked.TokenRevoked as revoked
 use Rattle.tk_store.specs.FactSet.{FactSet}
 use Rattle.tk_ledger.specs.Changes.{change_in}
 use Rattle.tk_ledger.specs.Index.{row_at, row_added, row_retired, is_at, consent_cmp, consent_key}
-use Rattle.tk_ledger.specs.Index.{is_key_at, IsRevocations, IsCodes, IsOuts, IsReuses, IsTied}
-use Rattle.tk_ledger.specs.Index.{IsIndexed}
+use Rattle.tk_ledger.specs.Index.{is_key_at, IsRevocations, IsReuses, IsTied, IsIndexed}
+use Rattle.tk_ledger.specs.SubjectTables.{IsCodes, IsLogins, IsOuts}
 use Rattle.tk_ledger.specs.declared.change.Change.TheVariants as change
 use Rattle.tk_ledger.specs.declared.client_rows.ClientRow.{ClientRow}
 use Rattle.tk_ledger.specs.declared.consent_keys.ConsentKey.{ConsentKey}
@@ -24,12 +24,14 @@ use Rattle.tk_ledger.specs.declared.index.Index.{Index}
 use Rattle.tk_ledger.specs.declared.reuses.ReuseKey.{ReuseKey}
 use Rattle.tk_ledger.specs.declared.revocations.Revocation.{Revocation}
 use Rattle.tk_ledger.specs.declared.subject_keys.CodeKey.{CodeKey}
+use Rattle.tk_ledger.specs.declared.subject_keys.LoginKey.{LoginKey}
 use Rattle.tk_ledger.specs.declared.subject_keys.OutKey.{OutKey}
 use Rattle.tk_ledger.proofs.ChangeLaws.{or_cond, quiet_ties}
 use Rattle.tk_ledger.proofs.TableChangeLaws.{clients_by, same_consents, withdrawals_by}
 use Rattle.tk_ledger.proofs.TableChangeLaws.{same_revocations, same_codes, same_outs, same_reuses}
 use Rattle.tk_ledger.proofs.ConsentTableLaws.{give_row, withdraw_row}
 use Rattle.tk_ledger.proofs.KeyLaws.{at_is_same}
+use Rattle.tk_ledger.proofs.LoginTableLaws.{same_logins}
 
 pub index_add : (G : FactSet) (d : Dot) (x : Index) (u : BTreeMap Dot ClientRow)
     → option_map change_in (map.get G d) ≡ Some change.Add → IsIndexed (map.remove G d) x
@@ -42,6 +44,7 @@ pub index_add : (G : FactSet) (d : Dot) (x : Index) (u : BTreeMap Dot ClientRow)
       withdrawn = x.withdrawn;
       revocations = x.revocations;
       codes = x.codes;
+      logins = x.logins;
       outs = x.outs;
       reuses = x.reuses;
       forest = x.forest;
@@ -54,6 +57,7 @@ index_add G d x u h i a e = record {
   revocations_are =
       same_revocations G d change.Add x.revocations h (λ _ _ _. refl) i.revocations_are;
   codes_are = same_codes G d change.Add x.codes h refl i.codes_are;
+  logins_are = same_logins G d change.Add x.logins h refl i.logins_are;
   outs_are = same_outs G d change.Add x.outs h refl i.outs_are;
   reuses_are = same_reuses G d change.Add x.reuses h (λ _. refl) i.reuses_are;
   tied = quiet_ties G d change.Add x.forest h refl refl refl (λ k. refl) i.tied;
@@ -70,6 +74,7 @@ pub index_retire : (G : FactSet) (d c : Dot) (x : Index) (u : BTreeMap Dot Clien
       withdrawn = x.withdrawn;
       revocations = x.revocations;
       codes = x.codes;
+      logins = x.logins;
       outs = x.outs;
       reuses = x.reuses;
       forest = x.forest;
@@ -84,6 +89,7 @@ index_retire G d c x u h i e a = record {
   revocations_are =
       same_revocations G d (change.Retire c) x.revocations h (λ _ _ _. refl) i.revocations_are;
   codes_are = same_codes G d (change.Retire c) x.codes h refl i.codes_are;
+  logins_are = same_logins G d (change.Retire c) x.logins h refl i.logins_are;
   outs_are = same_outs G d (change.Retire c) x.outs h refl i.outs_are;
   reuses_are = same_reuses G d (change.Retire c) x.reuses h (λ _. refl) i.reuses_are;
   tied = quiet_ties G d (change.Retire c) x.forest h refl refl refl (λ k. refl) i.tied;
@@ -106,6 +112,7 @@ pub index_give : (G : FactSet) (d client : Dot) (subject : List ℕ) (x : Index)
       withdrawn = x.withdrawn;
       revocations = x.revocations;
       codes = x.codes;
+      logins = x.logins;
       outs = x.outs;
       reuses = x.reuses;
       forest = x.forest;
@@ -119,6 +126,7 @@ index_give G d client subject x u h i here there r =
       withdrawn_are = withdrawals_by G d y x.withdrawn x.withdrawn h i.withdrawn_are (λ q. refl);
       revocations_are = same_revocations G d y x.revocations h (λ _ _ _. refl) i.revocations_are;
       codes_are = same_codes G d y x.codes h refl i.codes_are;
+      logins_are = same_logins G d y x.logins h refl i.logins_are;
       outs_are = same_outs G d y x.outs h refl i.outs_are;
       reuses_are = same_reuses G d y x.reuses h (λ _. refl) i.reuses_are;
       tied = quiet_ties G d y x.forest h refl refl refl (λ k. refl) i.tied;
@@ -137,6 +145,7 @@ pub index_withdraw : (G : FactSet) (d c : Dot) (x : Index) (u : BTreeSet Consent
       withdrawn = v;
       revocations = x.revocations;
       codes = x.codes;
+      logins = x.logins;
       outs = x.outs;
       reuses = x.reuses;
       forest = x.forest;
@@ -151,6 +160,7 @@ index_withdraw G d c x u v h i e r = record {
   revocations_are =
       same_revocations G d (change.Withdraw c) x.revocations h (λ _ _ _. refl) i.revocations_are;
   codes_are = same_codes G d (change.Withdraw c) x.codes h refl i.codes_are;
+  logins_are = same_logins G d (change.Withdraw c) x.logins h refl i.logins_are;
   outs_are = same_outs G d (change.Withdraw c) x.outs h refl i.outs_are;
   reuses_are = same_reuses G d (change.Withdraw c) x.reuses h (λ _. refl) i.reuses_are;
   tied = quiet_ties G d (change.Withdraw c) x.forest h refl refl refl (λ k. refl) i.tied;
@@ -166,6 +176,7 @@ pub index_put : (G : FactSet) (d : Dot) (l : Link) (x : Index) (z : ForestFacts)
       withdrawn = x.withdrawn;
       revocations = x.revocations;
       codes = x.codes;
+      logins = x.logins;
       outs = x.outs;
       reuses = x.reuses;
       forest = z;
@@ -180,6 +191,7 @@ index_put G d l x z h i tied = record {
   revocations_are =
       same_revocations G d (change.Put l) x.revocations h (λ _ _ _. refl) i.revocations_are;
   codes_are = same_codes G d (change.Put l) x.codes h refl i.codes_are;
+  logins_are = same_logins G d (change.Put l) x.logins h refl i.logins_are;
   outs_are = same_outs G d (change.Put l) x.outs h refl i.outs_are;
   reuses_are = same_reuses G d (change.Put l) x.reuses h (λ _. refl) i.reuses_are;
   tied = tied;
@@ -196,6 +208,7 @@ pub index_revoke : (G : FactSet) (d : Dot) (f : revoked.TokenRevoked) (x : Index
       withdrawn = x.withdrawn;
       revocations = s;
       codes = x.codes;
+      logins = x.logins;
       outs = x.outs;
       reuses = x.reuses;
       forest = z;
@@ -209,6 +222,7 @@ index_revoke G d f x s z h i rows tied = record {
       withdrawals_by G d (change.Revoke f) x.withdrawn x.withdrawn h i.withdrawn_are (λ q. refl);
   revocations_are = rows;
   codes_are = same_codes G d (change.Revoke f) x.codes h refl i.codes_are;
+  logins_are = same_logins G d (change.Revoke f) x.logins h refl i.logins_are;
   outs_are = same_outs G d (change.Revoke f) x.outs h refl i.outs_are;
   reuses_are = same_reuses G d (change.Revoke f) x.reuses h (λ _. refl) i.reuses_are;
   tied = tied;
@@ -225,6 +239,7 @@ pub index_mark : (G : FactSet) (d : Dot) (j : TokenId) (x : Index) (s : BTreeSet
       withdrawn = x.withdrawn;
       revocations = x.revocations;
       codes = x.codes;
+      logins = x.logins;
       outs = x.outs;
       reuses = s;
       forest = z;
@@ -239,15 +254,16 @@ index_mark G d j x s z h i rows tied = record {
   revocations_are =
       same_revocations G d (change.Mark j) x.revocations h (λ _ _ _. refl) i.revocations_are;
   codes_are = same_codes G d (change.Mark j) x.codes h refl i.codes_are;
+  logins_are = same_logins G d (change.Mark j) x.logins h refl i.logins_are;
   outs_are = same_outs G d (change.Mark j) x.outs h refl i.outs_are;
   reuses_are = rows;
   tied = tied;
 }
 
-pub index_issue : (G : FactSet) (d : Dot) (subject : List ℕ) (start : ℕ) (x : Index)
-    (s : BTreeSet CodeKey) (z : ForestFacts)
-    → option_map change_in (map.get G d) ≡ Some (change.Issue subject start)
-    → IsIndexed (map.remove G d) x → IsCodes G s → IsTied G z
+pub index_issue : (G : FactSet) (d : Dot) (prefix start : ℕ) (x : Index)
+    (s : BTreeSet CodeKey) (t : BTreeSet LoginKey) (z : ForestFacts)
+    → option_map change_in (map.get G d) ≡ Some (change.Issue prefix start)
+    → IsIndexed (map.remove G d) x → IsCodes G s → IsLogins G t → IsTied G z
     → IsIndexed G
     (record {
       clients = x.clients;
@@ -255,22 +271,24 @@ pub index_issue : (G : FactSet) (d : Dot) (subject : List ℕ) (start : ℕ) (x 
       withdrawn = x.withdrawn;
       revocations = x.revocations;
       codes = s;
+      logins = t;
       outs = x.outs;
       reuses = x.reuses;
       forest = z;
     })
-index_issue G d subject start x s z h i rows tied = record {
-  clients_are = clients_by G d (change.Issue subject start) x.clients x.clients h i.clients_are
+index_issue G d prefix start x s t z h i rows begun tied = record {
+  clients_are = clients_by G d (change.Issue prefix start) x.clients x.clients h i.clients_are
       (λ q. refl) (λ q. refl);
-  consents_are = same_consents G d (change.Issue subject start) x.consents h (λ _ _. refl)
+  consents_are = same_consents G d (change.Issue prefix start) x.consents h (λ _ _. refl)
       (λ _. refl) i.consents_are;
-  withdrawn_are = withdrawals_by G d (change.Issue subject start) x.withdrawn x.withdrawn h
+  withdrawn_are = withdrawals_by G d (change.Issue prefix start) x.withdrawn x.withdrawn h
       i.withdrawn_are (λ q. refl);
-  revocations_are = same_revocations G d (change.Issue subject start) x.revocations h
+  revocations_are = same_revocations G d (change.Issue prefix start) x.revocations h
       (λ _ _ _. refl) i.revocations_are;
   codes_are = rows;
-  outs_are = same_outs G d (change.Issue subject start) x.outs h refl i.outs_are;
-  reuses_are = same_reuses G d (change.Issue subject start) x.reuses h (λ _. refl) i.reuses_are;
+  logins_are = begun;
+  outs_are = same_outs G d (change.Issue prefix start) x.outs h refl i.outs_are;
+  reuses_are = same_reuses G d (change.Issue prefix start) x.reuses h (λ _. refl) i.reuses_are;
   tied = tied;
 }
 
@@ -285,6 +303,7 @@ pub index_out : (G : FactSet) (d : Dot) (subject : List ℕ) (moment : ℕ) (x :
       withdrawn = x.withdrawn;
       revocations = x.revocations;
       codes = x.codes;
+      logins = x.logins;
       outs = s;
       reuses = x.reuses;
       forest = z;
@@ -299,6 +318,7 @@ index_out G d subject moment x s z h i rows tied = record {
   revocations_are = same_revocations G d (change.SignOut subject moment) x.revocations h
       (λ _ _ _. refl) i.revocations_are;
   codes_are = same_codes G d (change.SignOut subject moment) x.codes h refl i.codes_are;
+  logins_are = same_logins G d (change.SignOut subject moment) x.logins h refl i.logins_are;
   outs_are = rows;
   reuses_are = same_reuses G d (change.SignOut subject moment) x.reuses h (λ _. refl) i.reuses_are;
   tied = tied;
@@ -317,6 +337,7 @@ index_nothing G d x h i = record {
   revocations_are =
       same_revocations G d change.Nothing x.revocations h (λ _ _ _. refl) i.revocations_are;
   codes_are = same_codes G d change.Nothing x.codes h refl i.codes_are;
+  logins_are = same_logins G d change.Nothing x.logins h refl i.logins_are;
   outs_are = same_outs G d change.Nothing x.outs h refl i.outs_are;
   reuses_are = same_reuses G d change.Nothing x.reuses h (λ _. refl) i.reuses_are;
   tied = quiet_ties G d change.Nothing x.forest h refl refl refl (λ k. refl) i.tied;
@@ -324,10 +345,10 @@ index_nothing G d x h i = record {
 
 -- tables of the same set in place of others
 pub index_back : (F : FactSet) (x : Index) (revocations : BTreeSet Revocation)
-    (codes : BTreeSet CodeKey) (outs : BTreeSet OutKey) (reuses : BTreeSet ReuseKey)
-    (z : ForestFacts)
-    → IsIndexed F x → IsRevocations F revocations → IsCodes F codes → IsOuts F outs
-    → IsReuses F reuses → IsTied F z
+    (codes : BTreeSet CodeKey) (logins : BTreeSet LoginKey) (outs : BTreeSet OutKey)
+    (reuses : BTreeSet ReuseKey) (z : ForestFacts)
+    → IsIndexed F x → IsRevocations F revocations → IsCodes F codes → IsLogins F logins
+    → IsOuts F outs → IsReuses F reuses → IsTied F z
     → IsIndexed F
     (record {
       clients = x.clients;
@@ -335,16 +356,18 @@ pub index_back : (F : FactSet) (x : Index) (revocations : BTreeSet Revocation)
       withdrawn = x.withdrawn;
       revocations = revocations;
       codes = codes;
+      logins = logins;
       outs = outs;
       reuses = reuses;
       forest = z;
     })
-index_back F x revocations codes outs reuses z i v c o r tied = record {
+index_back F x revocations codes logins outs reuses z i v c l o r tied = record {
   clients_are = i.clients_are;
   consents_are = i.consents_are;
   withdrawn_are = i.withdrawn_are;
   revocations_are = v;
   codes_are = c;
+  logins_are = l;
   outs_are = o;
   reuses_are = r;
   tied = tied;

@@ -13,7 +13,9 @@ pub mod IndexLaws
 pub mod KeyLaws
 pub mod KeySearchLaws
 pub mod KeyWalkLaws
+pub mod LoginKeyLaws
 pub mod LoginLaws
+pub mod LoginTableLaws
 pub mod LossLaws
 pub mod OutLaws
 pub mod QuietLoss

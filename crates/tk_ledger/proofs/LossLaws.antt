@@ -26,9 +26,10 @@ use Rattle.tk_store.specs.FactSet.{FactSet}
 use Rattle.tk_store.proofs.OneMoreLaws.{OneMore, more_subset, cases_dots, apart_at}
 use Rattle.tk_ledger.specs.Changes.{change_in, adds, retires_of, gives_to, withdraws_of, revokes_of}
 use Rattle.tk_ledger.specs.Changes.{reuses_of}
-use Rattle.tk_ledger.specs.Index.{revocation_cmp, revocation_key, IsRevocations, code_cmp, code_key}
-use Rattle.tk_ledger.specs.Index.{IsOuts, reuse_cmp, reuse_key, IsReuses, IsTied, Wakes, IsIndexed}
+use Rattle.tk_ledger.specs.Index.{revocation_cmp, revocation_key, IsRevocations, reuse_cmp}
+use Rattle.tk_ledger.specs.Index.{reuse_key, IsReuses, IsTied, Wakes, IsIndexed}
 use Rattle.tk_ledger.specs.Losses.{WasIndexed}
+use Rattle.tk_ledger.specs.SubjectTables.{code_cmp, code_key, login_cmp, login_key, IsOuts}
 use Rattle.tk_ledger.specs.Tokens.{link_of, links_in, is_marked}
 use Rattle.tk_ledger.specs.declared.change.Change.{Change}
 use Rattle.tk_ledger.specs.declared.change.Change.TheVariants as change
@@ -36,12 +37,14 @@ use Rattle.tk_ledger.specs.declared.index.Index.{Index}
 use Rattle.tk_ledger.specs.declared.reuses.ReuseKey.{ReuseKey}
 use Rattle.tk_ledger.specs.declared.revocations.Revocation.{Revocation}
 use Rattle.tk_ledger.specs.declared.subject_keys.CodeKey.{CodeKey}
+use Rattle.tk_ledger.specs.declared.subject_keys.LoginKey.{LoginKey}
 use Rattle.tk_ledger.proofs.EndingLaws.{under_none}
 use Rattle.tk_ledger.proofs.ChangeLaws.{Changed, changed}
 use Rattle.tk_ledger.proofs.ForestLaws.{puts, revoking, signs, Touches, same_mark, put_reuses}
 use Rattle.tk_ledger.proofs.ForestLaws.{put_revokes, put_signs, unsigned, unrevoked, revokes_at}
 use Rattle.tk_ledger.proofs.ForestLaws.{links_still}
 use Rattle.tk_ledger.proofs.KeyLaws.{at_itself}
+use Rattle.tk_ledger.proofs.LoginTableLaws.{logins_kept, logins_less}
 use Rattle.tk_ledger.proofs.SameLaws.{same_token-true}
 use Rattle.tk_ledger.proofs.SubjectTableLaws.{issuing}
 use Rattle.tk_ledger.proofs.RootLaws.{links-below}
@@ -167,11 +170,15 @@ loss F d y x w =
       indexed = w.indexed;
     }
 
-pub lost_code : (F : FactSet) (d : Dot) (subject : List ℕ) (start : ℕ) (x : Index)
-    (s : BTreeSet CodeKey) (z : ForestFacts) → WasIndexed F d (change.Issue subject start) x
+pub lost_code : (F : FactSet) (d : Dot) (prefix start : ℕ) (x : Index)
+    (s : BTreeSet CodeKey) (t : BTreeSet LoginKey) (z : ForestFacts)
+    → WasIndexed F d (change.Issue prefix start) x
     → ((k : CodeKey)
     → contains code_cmp s k
-    ≡ cond (eq_by_cmp code_cmp (code_key subject start d) k) false (contains code_cmp x.codes k))
+    ≡ cond (eq_by_cmp code_cmp (code_key prefix start d) k) false (contains code_cmp x.codes k))
+    → ((k : LoginKey)
+    → contains login_cmp t k
+    ≡ cond (eq_by_cmp login_cmp (login_key prefix d) k) false (contains login_cmp x.logins k))
     → z.links ≡ map.remove x.forest.links d
     → ((k : TokenId)
     → set.contains z.marks k ≡ (if dot_eq d k.dot then false else set.contains x.forest.marks k))
@@ -182,12 +189,13 @@ pub lost_code : (F : FactSet) (d : Dot) (subject : List ℕ) (start : ℕ) (x : 
       withdrawn = x.withdrawn;
       revocations = x.revocations;
       codes = s;
+      logins = t;
       outs = x.outs;
       reuses = x.reuses;
       forest = z;
     })
-lost_code F d subject start x s z w r links marks =
-    let o : Loss F d (change.Issue subject start) x = loss F d (change.Issue subject start) x w in
+lost_code F d prefix start x s t z w r e links marks =
+    let o : Loss F d (change.Issue prefix start) x = loss F d (change.Issue prefix start) x w in
     record {
       clients_are = clients_less F o.before d o.body x.clients o.more (ap adds o.is)
           (λ q. ap (retires_of q) o.is) o.indexed.clients_are;
@@ -198,7 +206,9 @@ lost_code F d subject start x s z w r links marks =
       revocations_are = revocations_kept F o.before d o.body x.revocations o.more
           (λ k g c. ap (revokes_of k g c) o.is) o.indexed.revocations_are;
       codes_are =
-          codes_less F o.before d o.body subject start x.codes s o.more o.is o.indexed.codes_are r;
+          codes_less F o.before d o.body prefix start x.codes s o.more o.is o.indexed.codes_are r;
+      logins_are = logins_less F o.before d o.body prefix start x.logins t o.more o.is
+          o.indexed.logins_are e;
       outs_are = outs_less F o.before d o.body x.outs o.more (ap signs o.is) o.indexed.outs_are;
       reuses_are = reuses_kept F o.before d o.body x.reuses o.more (λ k. ap (reuses_of k) o.is)
           o.indexed.reuses_are;
@@ -218,6 +228,7 @@ pub lost_link : (F : FactSet) (d : Dot) (l : Link) (x : Index) (z : ForestFacts)
       withdrawn = x.withdrawn;
       revocations = x.revocations;
       codes = x.codes;
+      logins = x.logins;
       outs = x.outs;
       reuses = x.reuses;
       forest = z;
@@ -235,6 +246,8 @@ lost_link F d l x z w links marks =
           (λ k g c. ap (revokes_of k g c) o.is) o.indexed.revocations_are;
       codes_are =
           codes_kept F o.before d o.body x.codes o.more (ap issuing o.is) o.indexed.codes_are;
+      logins_are =
+          logins_kept F o.before d o.body x.logins o.more (ap issuing o.is) o.indexed.logins_are;
       outs_are = outs_less F o.before d o.body x.outs o.more (ap signs o.is) o.indexed.outs_are;
       reuses_are = reuses_kept F o.before d o.body x.reuses o.more (λ k. ap (reuses_of k) o.is)
           o.indexed.reuses_are;
@@ -304,6 +317,7 @@ pub lost_reuse : (F : FactSet) (d : Dot) (j : TokenId) (x : Index) (s : BTreeSet
       withdrawn = x.withdrawn;
       revocations = x.revocations;
       codes = x.codes;
+      logins = x.logins;
       outs = x.outs;
       reuses = s;
       forest = z;
@@ -320,6 +334,8 @@ lost_reuse F d j x s z w r woke =
       revocations_are = lost_revocations F d j x w;
       codes_are =
           codes_kept F o.before d o.body x.codes o.more (ap issuing o.is) o.indexed.codes_are;
+      logins_are =
+          logins_kept F o.before d o.body x.logins o.more (ap issuing o.is) o.indexed.logins_are;
       outs_are = lost_outs F d (change.Mark j) x w refl;
       reuses_are = lost_reuses F d j x s w r;
       tied = untied_reuse F o.before d o.body j x.forest z o.more o.is o.indexed.tied woke;
@@ -339,6 +355,7 @@ pub lost_revocation : (F : FactSet) (d : Dot) (f : revoked.TokenRevoked) (x : In
       withdrawn = x.withdrawn;
       revocations = s;
       codes = x.codes;
+      logins = x.logins;
       outs = x.outs;
       reuses = x.reuses;
       forest = z;
@@ -355,6 +372,8 @@ lost_revocation F d f x s z w r woke =
       revocations_are = less_revocations F d f x s w r;
       codes_are =
           codes_kept F o.before d o.body x.codes o.more (ap issuing o.is) o.indexed.codes_are;
+      logins_are =
+          logins_kept F o.before d o.body x.logins o.more (ap issuing o.is) o.indexed.logins_are;
       outs_are = lost_outs F d (change.Revoke f) x w refl;
       reuses_are = less_reuses F d f x w;
       tied = untied_revocation F o.before d o.body f x.forest z o.more o.is o.indexed.tied woke;

@@ -18,10 +18,10 @@ use Rattle.tk_fact.specs.declared.subject_out.SubjectOut as out
 use Rattle.tk_store.specs.FactSet.{FactSet}
 use Rattle.tk_store.proofs.PutLaws.{some_injective, none_is_not_some}
 use Rattle.tk_store.proofs.OneMoreLaws.{OneMore}
-use Rattle.tk_ledger.specs.Changes.{change_in, reuses_of}
-use Rattle.tk_ledger.specs.Index.{IsTied, IsCodes, code_cmp, code_key, codes_started, dots_of}
-use Rattle.tk_ledger.specs.Index.{Wakes}
+use Rattle.tk_ledger.specs.Changes.{digest_prefix, change_in, reuses_of}
+use Rattle.tk_ledger.specs.Index.{IsTied, Wakes}
 use Rattle.tk_ledger.specs.SignOuts.{IsSignedOut, IsFirstUnreached, sign_out_in, sign_out_at}
+use Rattle.tk_ledger.specs.SubjectTables.{IsCodes, code_cmp, code_key, codes_started, dots_of}
 use Rattle.tk_ledger.specs.Tokens.{issued_in, IsOut, is_marked}
 use Rattle.tk_ledger.specs.declared.change.Change.{Change}
 use Rattle.tk_ledger.specs.declared.change.Change.TheVariants as change
@@ -69,11 +69,13 @@ pub tied_out : (F G : FactSet) (d : Dot) (b : Body) (subject : List ℕ) (moment
     → ((f : out.SubjectOut) → sign_out_at (map.get G) d ≡ Some f
     → IsFirstUnreached (map.get F) f.subject first)
     → Wakes G x
-    (λ q. nat_le first moment && has (dots_of (codes_started codes subject first moment)) q) z
+    (λ q. nat_le first moment
+    && has (dots_of (codes_started codes (digest_prefix subject) first moment)) q) z
     → IsTied G z
 tied_out F G d b subject moment first codes x z m held is t listed left woke =
     tied_quiet F G d b x z
-    (λ q. nat_le first moment && has (dots_of (codes_started codes subject first moment)) q) m
+    (λ q. nat_le first moment
+    && has (dots_of (codes_started codes (digest_prefix subject) first moment)) q) m
     (ap puts is) t woke
     (λ k h. absurd (true≢false (sym h ∙ ap (reuses_of k) is)))
     (λ k r. unrevoked b k (ap revoking is) r)
@@ -81,7 +83,8 @@ tied_out F G d b subject moment first codes x z m held is t listed left woke =
   where
     by_start : (k : TokenId) (r : SignsOut G b k)
         → (nat_lt r.issued.start first ≡ true) ⊎ (nat_lt r.issued.start first ≡ false)
-        → ((nat_le first moment && has (dots_of (codes_started codes subject first moment)) k.dot)
+        → ((nat_le first moment
+        && has (dots_of (codes_started codes (digest_prefix subject) first moment)) k.dot)
         ≡ true)
         ⊎ (is_marked F k ≡ true)
     by_start k r (inl before) =
@@ -101,8 +104,10 @@ tied_out F G d b subject moment first codes x z m held is t listed left woke =
         let above : first ≤ r.issued.start = ltb-false r.issued.start first from in
         let below : r.issued.start ≤ moment = subst (λ n. r.issued.start ≤ n) last r.not_before in
         let key = code_listed G codes k.dot r.issued listed r.issues in
+        let under = ap digest_prefix same in
         inl (and_from (nat_le first moment)
-        (has (dots_of (codes_started codes subject first moment)) k.dot)
+        (has (dots_of (codes_started codes (digest_prefix subject) first moment)) k.dot)
         (le-leb first moment (omega (arith, above, below)))
-        (in_codes G codes listed subject first moment r.issued.start k.dot above below
-        (sym (ap (λ s. contains code_cmp codes (code_key s r.issued.start k.dot)) same) ∙ key)))
+        (in_codes codes (digest_prefix subject) first moment r.issued.start k.dot above below
+        (sym (ap (λ s. contains code_cmp codes (code_key s r.issued.start k.dot)) under) ∙ key.0)
+        key.1))

@@ -14,6 +14,7 @@ use Rattle.tk_ledger.specs.declared.change.Change.TheVariants as change
 use Rattle.tk_ledger.specs.declared.index.Index.{Index}
 use Rattle.tk_ledger.proofs.ForestLaws.{puts, revoking, signs, unsigned, unrevoked, links_still}
 use Rattle.tk_ledger.proofs.LossLaws.{Loss, loss, tied_less}
+use Rattle.tk_ledger.proofs.LoginTableLaws.{logins_kept}
 use Rattle.tk_ledger.proofs.TableLossLaws.{clients_less, consents_less, withdrawals_less}
 use Rattle.tk_ledger.proofs.TableLossLaws.{revocations_kept, outs_less, codes_kept, reuses_kept}
 use Rattle.tk_ledger.proofs.SubjectTableLaws.{issuing}
@@ -53,6 +54,8 @@ lost_nothing F d x w =
           (λ k g c. ap (revokes_of k g c) o.is) o.indexed.revocations_are;
       codes_are =
           codes_kept F o.before d o.body x.codes o.more (ap issuing o.is) o.indexed.codes_are;
+      logins_are =
+          logins_kept F o.before d o.body x.logins o.more (ap issuing o.is) o.indexed.logins_are;
       outs_are = outs_less F o.before d o.body x.outs o.more (ap signs o.is) o.indexed.outs_are;
       reuses_are = reuses_kept F o.before d o.body x.reuses o.more (λ k. ap (reuses_of k) o.is)
           o.indexed.reuses_are;

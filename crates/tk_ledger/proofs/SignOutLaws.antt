@@ -33,9 +33,10 @@ use Rattle.tk_store.specs.FactSet.{FactSet}
 use Rattle.tk_store.proofs.PutLaws.{some_injective, none_is_not_some}
 use Rattle.tk_store.proofs.OneMoreLaws.{apart_at}
 use Rattle.tk_ledger.specs.Bodies.{is_same_dot}
-use Rattle.tk_ledger.specs.Index.{IsOuts, left_after, out_cmp, out_key, outs_of, tells_by, tells_of}
 use Rattle.tk_ledger.specs.SignOuts.{IsSignedOut, is_signed_out, reaches, IsLastSignOut}
 use Rattle.tk_ledger.specs.SignOuts.{IsFirstUnreached, sign_out_in, sign_out_at}
+use Rattle.tk_ledger.specs.SubjectTables.{IsOuts, left_after, out_cmp, out_key, outs_of, tells_by}
+use Rattle.tk_ledger.specs.SubjectTables.{tells_of}
 use Rattle.tk_ledger.specs.declared.subject_keys.OutKey.{OutKey}
 use Rattle.tk_ledger.proofs.KeyLaws.{same_tests, at_itself}
 use Rattle.tk_ledger.proofs.KeySearchLaws.{among, found_passes, none_passes, first_least}

@@ -1,7 +1,6 @@
 -- The tables of codes and of sign-outs follow the set when that gets one more fact. Key results:
 --   codes_on, outs_on         the tables after any fact, by what it issues or signs out
 --   codes_alike, outs_alike   a table with the same keys
---   codes_back                the table after the key of a code was removed again
 use Rattle.std.proofs.Common.{◌≡◌, inl, inr, ℕ, ◌≤◌, Bool, true, false, cond, ◌&&◌, ◌||◌, ◌==◌}
 use Rattle.std.proofs.Common.{List, Option, Some, None, refl, sym, ap, subst, ◌∙◌}
 use Rattle.std.proofs.lemmas.Bool.{true≢false, or_cases, and_parts}
@@ -12,7 +11,7 @@ use Rattle.std.specs.BTreeSet.{BTreeSet, contains}
 use Rattle.std.specs.FinMap as map
 use Rattle.tk_handle.specs.declared.dot.Dot.{Dot}
 use Rattle.tk_handle.specs.Dot.{IsDot}
-use Rattle.tk_handle.specs.Ranges.{IsMoment, greatest_moment}
+use Rattle.tk_handle.specs.Ranges.{greatest_moment}
 use Rattle.tk_fact.specs.declared.body.Body.{Body}
 use Rattle.tk_fact.specs.declared.body.Body.TheVariants.{CodeIssued, SubjectOut}
 use Rattle.tk_fact.specs.declared.subject_out.SubjectOut as out
@@ -21,9 +20,11 @@ use Rattle.tk_store.proofs.PutLaws.{none_is_not_some, some_injective}
 use Rattle.tk_store.proofs.OneMoreLaws.{OneMore, cases_dots}
 use Rattle.tk_ledger.specs.Bodies.{is_same_dot}
 use Rattle.tk_ledger.specs.Changes.{change_in}
-use Rattle.tk_ledger.specs.Index.{is_at, code_cmp, code_key, is_to, is_listed_code, IsCodes}
-use Rattle.tk_ledger.specs.Index.{out_cmp, out_key, left_after, is_left_by, is_listed_out, IsOuts}
+use Rattle.tk_ledger.specs.Index.{is_at}
 use Rattle.tk_ledger.specs.SignOuts.{sign_out_in, sign_out_at}
+use Rattle.tk_ledger.specs.SubjectTables.{code_cmp, code_key, is_to, is_listed_code, IsCodes}
+use Rattle.tk_ledger.specs.SubjectTables.{out_cmp, out_key, left_after, is_left_by, is_listed_out}
+use Rattle.tk_ledger.specs.SubjectTables.{IsOuts}
 use Rattle.tk_ledger.specs.Tokens.{issued_in, issued_at}
 use Rattle.tk_ledger.specs.declared.change.Change.{Change}
 use Rattle.tk_ledger.specs.declared.change.Change.TheVariants as change
@@ -31,30 +32,29 @@ use Rattle.tk_ledger.specs.declared.subject_keys.CodeKey.{CodeKey}
 use Rattle.tk_ledger.specs.declared.subject_keys.OutKey.{OutKey}
 use Rattle.tk_ledger.proofs.ForestLaws.{signs}
 use Rattle.tk_ledger.proofs.SameLaws.{same_dot-true}
-use Rattle.tk_ledger.proofs.SubjectKeyLaws.{code_tied-dot}
 use Rattle.tk_ledger.proofs.TableLaws.{own_on}
 
 -- ---- a change and its body have the same code and sign-out
 
--- the change issues a code to a subject with the digest, which starts at `start`
-abbrev pub issues_to : List ℕ → ℕ → Change → Bool
-issues_to subject start (change.Issue digest from) = bytes_eq digest subject && (from == start)
-issues_to subject start other = false
+-- the change issues a code under the prefix, which starts at `start`
+abbrev pub issues_to : ℕ → ℕ → Change → Bool
+issues_to prefix start (change.Issue own from) = (own == prefix) && (from == start)
+issues_to prefix start other = false
 
-issues-change : (subject : List ℕ) (start : ℕ) (b : Body)
-    → is_to subject start (issued_in b) ≡ issues_to subject start (change_in b)
-issues-change subject start (CodeIssued x) = refl
-issues-change subject start body = refl
+issues-change : (prefix start : ℕ) (b : Body)
+    → is_to prefix start (issued_in b) ≡ issues_to prefix start (change_in b)
+issues-change prefix start (CodeIssued x) = refl
+issues-change prefix start body = refl
 
--- the digest of the subject of the code that a change issues
-abbrev pub issuing : Change → Option (List ℕ)
-issuing (change.Issue subject start) = Some subject
+-- the prefix of the code that a change issues
+abbrev pub issuing : Change → Option ℕ
+issuing (change.Issue prefix start) = Some prefix
 issuing other = None
 
-pub issues_none : (subject : List ℕ) (start : ℕ) (y : Change) → issuing y ≡ None
-    → issues_to subject start y ≡ false
-issues_none subject start (change.Issue digest from) h = absurd (none_is_not_some digest (sym h))
-issues_none subject start other h = refl
+pub issues_none : (prefix start : ℕ) (y : Change) → issuing y ≡ None
+    → issues_to prefix start y ≡ false
+issues_none prefix start (change.Issue own from) h = absurd (none_is_not_some own (sym h))
+issues_none prefix start other h = refl
 
 -- the change signs out a subject with the digest, with `left` seconds left after the moment
 abbrev pub signs_out_by : List ℕ → ℕ → Change → Bool
@@ -87,94 +87,70 @@ moment-change body f h = absurd (none_is_not_some f h)
 -- each code that is listed is at a dot in range
 abbrev pub RangedCodes : BTreeSet CodeKey → Type 0
 RangedCodes t =
-    (subject : List ℕ) (start : ℕ) (d : Dot) → is_listed_code t subject start d ≡ true
-    → IsDot d × IsMoment start
+    (prefix start : ℕ) (d : Dot) → is_listed_code t prefix start d ≡ true → IsDot d
 
-pub issued_on : (F G : FactSet) (d : Dot) (b : Body) (subject : List ℕ) (start : ℕ) (q : Dot)
+pub issued_on : (F G : FactSet) (d : Dot) (b : Body) (prefix start : ℕ) (q : Dot)
     (x : Bool)
     → OneMore F G d b
-    → x ≡ is_to subject start (issued_at (map.get F) q)
-    → ((issues_to subject start (change_in b) && is_at d q) || x)
-    ≡ is_to subject start (issued_at (map.get G) q)
-issued_on F G d b subject start q x m i =
-    own_on d q (issues_to subject start (change_in b)) x
-    (is_to subject start (issued_at (map.get F) q)) (is_to subject start (issued_at (map.get G) q))
-    (λ same. ap (λ e. is_to subject start (option_and_then issued_in e))
+    → x ≡ is_to prefix start (issued_at (map.get F) q)
+    → ((issues_to prefix start (change_in b) && is_at d q) || x)
+    ≡ is_to prefix start (issued_at (map.get G) q)
+issued_on F G d b prefix start q x m i =
+    own_on d q (issues_to prefix start (change_in b)) x
+    (is_to prefix start (issued_at (map.get F) q)) (is_to prefix start (issued_at (map.get G) q))
+    (λ same. ap (λ e. is_to prefix start (option_and_then issued_in e))
     (ap (map.get F) same ∙ m.free))
-    (λ same. ap (λ e. is_to subject start (option_and_then issued_in e))
+    (λ same. ap (λ e. is_to prefix start (option_and_then issued_in e))
     (ap (map.get G) same ∙ m.here)
-    ∙ issues-change subject start b)
-    (λ ne. ap (λ e. is_to subject start (option_and_then issued_in e)) (m.there q ne))
+    ∙ issues-change prefix start b)
+    (λ ne. ap (λ e. is_to prefix start (option_and_then issued_in e)) (m.there q ne))
     i
 
 pub codes_on : (F G : FactSet) (d : Dot) (b : Body) (t u : BTreeSet CodeKey) → OneMore F G d b
     → IsCodes F t → RangedCodes u
-    → ((subject : List ℕ) (start : ℕ) (q : Dot)
-    → is_listed_code u subject start q
-    ≡ ((issues_to subject start (change_in b) && is_at d q) || is_listed_code t subject start q))
+    → ((prefix start : ℕ) (q : Dot)
+    → is_listed_code u prefix start q
+    ≡ ((issues_to prefix start (change_in b) && is_at d q) || is_listed_code t prefix start q))
     → IsCodes G u
 codes_on F G d b t u m i ranged l = record {
-  listed = λ subject start q. l subject start q
-      ∙ issued_on F G d b subject start q (is_listed_code t subject start q) m
-      (i.listed subject start q);
+  listed = λ prefix start q. l prefix start q
+      ∙ issued_on F G d b prefix start q (is_listed_code t prefix start q) m
+      (i.listed prefix start q);
   ranged = ranged;
 }
 
 -- codes that are newly listed are in range if their dot is
-pub codes_ranged : (t u : BTreeSet CodeKey) (d : Dot) (n : List ℕ → ℕ → Bool) → IsDot d
-    → ((subject : List ℕ) (start : ℕ) → n subject start ≡ true → IsMoment start) → RangedCodes t
-    → ((subject : List ℕ) (start : ℕ) (q : Dot)
-    → is_listed_code u subject start q
-    ≡ ((n subject start && is_same_dot d q) || is_listed_code t subject start q))
+pub codes_ranged : (t u : BTreeSet CodeKey) (d : Dot) (n : ℕ → ℕ → Bool) → IsDot d
+    → RangedCodes t
+    → ((prefix start : ℕ) (q : Dot)
+    → is_listed_code u prefix start q
+    ≡ ((n prefix start && is_same_dot d q) || is_listed_code t prefix start q))
     → RangedCodes u
-codes_ranged t u d n here early before l subject start q h = elim (or_cases
-    (n subject start && is_same_dot d q) (is_listed_code t subject start q)
-    (sym (l subject start q) ∙ h)) [
-      | inl new ↦ let p = and_parts (n subject start) (is_same_dot d q) new in
-          (subst (λ (x : Dot). IsDot x) (same_dot-true d q p.1) here, early subject start p.0)
-      | inr old ↦ before subject start q old
+codes_ranged t u d n here before l prefix start q h = elim (or_cases
+    (n prefix start && is_same_dot d q) (is_listed_code t prefix start q)
+    (sym (l prefix start q) ∙ h)) [
+      | inl new ↦ subst (λ (x : Dot). IsDot x)
+          (same_dot-true d q (and_parts (n prefix start) (is_same_dot d q) new).1) here
+      | inr old ↦ before prefix start q old
     ]
 
 pub codes_alike : (F : FactSet) (t u : BTreeSet CodeKey) → IsCodes F t
     → ((k : CodeKey) → contains code_cmp u k ≡ contains code_cmp t k) → IsCodes F u
 codes_alike F t u i same = record {
-  listed = λ subject start q. same (code_key subject start q) ∙ i.listed subject start q;
+  listed = λ prefix start q. same (code_key prefix start q) ∙ i.listed prefix start q;
   ranged =
-      λ subject start q h. i.ranged subject start q (sym (same (code_key subject start q)) ∙ h);
+      λ prefix start q h. i.ranged prefix start q (sym (same (code_key prefix start q)) ∙ h);
 }
+
+-- a table without a key has only keys that it had
+pub fewer : (a b : Bool) → cond a false b ≡ true → b ≡ true
+fewer true b h = absurd (true≢false (sym h))
+fewer false b h = h
 
 -- a key that was put in and removed again leaves the other keys
 pub without : (a b : Bool) → (a ≡ true → b ≡ false) → cond a false (a || b) ≡ b
 without true b h = sym (h refl)
 without false b h = refl
-
-pub codes_back : (F : FactSet) (d : Dot) (subject : List ℕ) (start : ℕ) (t u v : BTreeSet CodeKey)
-    → map.get F d ≡ None → IsCodes F t
-    → ((k : CodeKey)
-    → contains code_cmp u k
-    ≡ (eq_by_cmp code_cmp (code_key subject start d) k || contains code_cmp t k))
-    → ((k : CodeKey)
-    → contains code_cmp v k
-    ≡ cond (eq_by_cmp code_cmp (code_key subject start d) k) false (contains code_cmp u k))
-    → IsCodes F v
-codes_back F d subject start t u v free i r s = record {
-  listed = λ g n q. back g n q ∙ i.listed g n q;
-  ranged = λ g n q h. i.ranged g n q (sym (back g n q) ∙ h);
-}
-  where
-    unlisted : (g : List ℕ) (n : ℕ) (q : Dot)
-        → eq_by_cmp code_cmp (code_key subject start d) (code_key g n q) ≡ true
-        → is_listed_code t g n q ≡ false
-    unlisted g n q tie =
-        let same : d ≡ q = code_tied-dot subject g start n d q tie in
-        i.listed g n q
-        ∙ ap (λ e. is_to g n (option_and_then issued_in e)) (ap (map.get F) (sym same) ∙ free)
-
-    back : (g : List ℕ) (n : ℕ) (q : Dot) → is_listed_code v g n q ≡ is_listed_code t g n q
-    back g n q =
-        let tie : Bool = eq_by_cmp code_cmp (code_key subject start d) (code_key g n q) in
-        s (code_key g n q) ∙ ap (λ x. cond tie false x) (r (code_key g n q))
-        ∙ without tie (is_listed_code t g n q) (unlisted g n q)
 
 -- ---- sign-outs
 

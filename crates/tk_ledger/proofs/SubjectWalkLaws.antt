@@ -15,9 +15,6 @@ use Rattle.std.specs.Str.{bytes_eq}
 use Rattle.sha2.specs.Sha256.{sha256}
 use Rattle.tk_handle.specs.declared.dot.Dot.{Dot}
 use Rattle.tk_handle.specs.Dot.{dot_cmp, dot_cmp_total, least_dot, greatest_dot}
-use Rattle.tk_handle.specs.Ranges.{greatest_moment}
-use Rattle.std.specs.Cmp.{nat_cmp_total}
-use Rattle.std.specs.Ordering.{nat_cmp}
 use Rattle.tk_fact.specs.declared.body.Body.{Body}
 use Rattle.tk_fact.specs.declared.code_issued.CodeIssued as issued
 use Rattle.tk_fact.specs.declared.consent_given.ConsentGiven as given
@@ -25,23 +22,24 @@ use Rattle.tk_store.specs.FactSet.{FactSet}
 use Rattle.tk_store.specs.Walk.{above}
 use Rattle.tk_store.proofs.PutLaws.{none_is_not_some}
 use Rattle.tk_ledger.specs.Bodies.{is_same_dot}
+use Rattle.tk_ledger.specs.Changes.{digest_prefix}
 use Rattle.tk_ledger.specs.Clients.{given_in, consent_at, is_withdrawn}
-use Rattle.tk_ledger.specs.Index.{consent_cmp, consents_above, IsConsents, code_cmp, codes_above}
-use Rattle.tk_ledger.specs.Index.{code_key, is_from, IsCodes}
+use Rattle.tk_ledger.specs.Index.{consent_cmp, consents_above, IsConsents, is_from}
 use Rattle.tk_ledger.specs.Logins.{login_view}
+use Rattle.tk_ledger.specs.SubjectTables.{login_cmp, login_key, logins_above, IsLogins}
 use Rattle.tk_ledger.specs.SubjectWalk.{seen, live_by, consent_of, consents_of, is_issued_to}
 use Rattle.tk_ledger.specs.SubjectWalk.{login_by, logins_of}
 use Rattle.tk_ledger.specs.Tokens.{issued_in, issued_at}
 use Rattle.tk_ledger.specs.ViewFields.{ConsentFields, LoginFields}
 use Rattle.tk_ledger.specs.declared.consent_keys.ConsentKey.{ConsentKey}
-use Rattle.tk_ledger.specs.declared.subject_keys.CodeKey.{CodeKey}
+use Rattle.tk_ledger.specs.declared.subject_keys.LoginKey.{LoginKey}
 use Rattle.tk_ledger.proofs.DotWalkLaws.{placed, OnFacts, shown_same}
 use Rattle.tk_ledger.proofs.KeySearchLaws.{among}
 use Rattle.tk_ledger.proofs.KeyWalkLaws.{walk_keys}
+use Rattle.tk_ledger.proofs.LoginKeyLaws.{logins_total, login_same, NoTail, tail_cmp, tails_total}
+use Rattle.tk_ledger.proofs.LoginKeyLaws.{login_at, no_tail, login_span, are_logins, login_kept}
 use Rattle.tk_ledger.proofs.SameLaws.{same_dot-itself}
 use Rattle.tk_ledger.proofs.SpanLaws.{consents_total, key_same, key_at, consent_span, are_consents}
-use Rattle.tk_ledger.proofs.SubjectKeyLaws.{codes_total, code_same, code_at, code_span, are_codes}
-use Rattle.tk_ledger.proofs.SubjectKeyLaws.{code_listed}
 
 -- ---- consents
 
@@ -137,18 +135,19 @@ pub logins_same : (F G : FactSet) (now : ℕ) (subject : List ℕ)
 logins_same F G now subject views = shown_same F G (login_by F now subject) (login_by G now subject)
     (login_on F now subject) (login_on G now subject) views
 
--- the codes of the logins of the subject are listed
-login_listed : (F : FactSet) (t : BTreeSet CodeKey) → IsCodes F t → (now : ℕ) (subject : List ℕ)
+-- the logins of the subject are listed
+login_listed : (F : FactSet) (t : BTreeSet LoginKey) → IsLogins F t → (now : ℕ) (subject : List ℕ)
     (q : Dot) (x : LoginFields)
     → login_by F now subject q ≡ Some x
-    → (n : ℕ) × (among code_cmp (code_at (sha256 subject) q n) t.keys ≡ true)
+    → (n : NoTail) × (among login_cmp (login_at (digest_prefix (sha256 subject)) q n) t.keys ≡ true)
 login_listed F t i now subject q x h = by_code (issued_at (map.get F) q) refl
     (cases_Bool (is_issued_to subject (issued_at (map.get F) q)))
   where
     by_code : (o : Option issued.CodeIssued) → issued_at (map.get F) q ≡ o
         → (is_issued_to subject (issued_at (map.get F) q) ≡ true)
         ⊎ (is_issued_to subject (issued_at (map.get F) q) ≡ false)
-        → (n : ℕ) × (among code_cmp (code_at (sha256 subject) q n) t.keys ≡ true)
+        → (n : NoTail)
+        × (among login_cmp (login_at (digest_prefix (sha256 subject)) q n) t.keys ≡ true)
     by_code o at (inr other) = absurd
         (none_is_not_some x
         (sym (cond-false (is_issued_to subject (issued_at (map.get F) q)) (login_view F now q) None
@@ -157,21 +156,22 @@ login_listed F t i now subject q x h = by_code (issued_at (map.get F) q) refl
     by_code None at (inl to) =
         absurd (true≢false (sym to ∙ ap (is_issued_to subject) at))
     by_code (Some code) at (inl to) = (
-      code.start,
-      ap (λ s. among code_cmp (code_key s code.start q) t.keys)
-          (ap sha256 (sym ((bytes_eq-Decides code.subject subject).0
-          (sym (ap (is_issued_to subject) at) ∙ to))))
-          ∙ code_listed F t q code i at,
+      tt,
+      ap (λ s. among login_cmp (login_key (digest_prefix (sha256 s)) q) t.keys)
+          (sym ((bytes_eq-Decides code.subject subject).0
+          (sym (ap (is_issued_to subject) at) ∙ to)))
+          ∙ login_kept F t q code i at,
     )
 
--- the logins of the subject above a dot are those that are shown at the keys of codes above it
-pub walk_logins : (F : FactSet) (t : BTreeSet CodeKey) → IsCodes F t
-    → IsStrictlySortedBy code_cmp t.keys → (now : ℕ) (subject : List ℕ) (a : Option Dot)
+-- the logins of the subject above a dot are those that are shown at the keys above it. Other keys
+-- under the prefix show none
+pub walk_logins : (F : FactSet) (t : BTreeSet LoginKey) → IsLogins F t
+    → IsStrictlySortedBy login_cmp t.keys → (now : ℕ) (subject : List ℕ) (a : Option Dot)
     → filter_map (seen (login_by F now subject))
-    (placed (λ k. k.code) (codes_above t (sha256 subject) a))
+    (placed (λ k. k.code) (logins_above t (digest_prefix (sha256 subject)) a))
     ≡ above (logins_of F now subject) a
 walk_logins F t i sorted now subject a =
-    walk_keys code_cmp codes_total code_same (code_at (sha256 subject)) (λ k. k.code) (λ k. k.start)
-    nat_cmp nat_cmp_total 0 greatest_moment (code_span (sha256 subject)) t.keys
-    (are_codes F t i (sha256 subject)) a F (login_by F now subject) (login_on F now subject)
-    (login_listed F t i now subject) sorted
+    let prefix = digest_prefix (sha256 subject) in
+    walk_keys login_cmp logins_total login_same (login_at prefix) (λ k. k.code) no_tail tail_cmp
+    tails_total tt tt (login_span prefix) t.keys (are_logins F t i prefix) a F
+    (login_by F now subject) (login_on F now subject) (login_listed F t i now subject) sorted

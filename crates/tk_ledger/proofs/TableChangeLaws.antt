@@ -1,11 +1,9 @@
 -- The tables after each kind of change, as the functions that make the change need them. Key
 -- results:
 --   clients_by .. reuses_by, same_consents .. same_reuses    the tables after each kind of change
---   revoke_row, code_row, code_dropped, out_row, reuse_row   a table after one more key
+--   revoke_row, code_row, out_row, reuse_row   a table after one more key
 use Rattle.std.proofs.Common.{◌≡◌, ℕ, ◌≤◌, Bool, true, false, ◌&&◌, ◌||◌, not, ◌==◌, cond, List}
 use Rattle.std.proofs.Common.{Some, None, refl, sym, ap, subst, ◌∙◌}
-use Rattle.std.proofs.lemmas.Bool.{and_parts, eqb-true}
-use Rattle.tk_handle.specs.Ranges.{IsMoment}
 use Rattle.std.specs.Option.{option_map}
 use Rattle.std.specs.Ordering.{eq_by_cmp}
 use Rattle.std.specs.Str.{bytes_eq}
@@ -24,10 +22,10 @@ use Rattle.tk_ledger.specs.Changes.{change_in, adds, retires_of, gives_to, withd
 use Rattle.tk_ledger.specs.Changes.{reuses_of}
 use Rattle.tk_ledger.specs.Index.{row_at, row_added, row_retired, is_at, IsClients, is_listed}
 use Rattle.tk_ledger.specs.Index.{IsConsents, IsWithdrawals, revocation_cmp, revocation_key}
-use Rattle.tk_ledger.specs.Index.{is_listed_revocation, IsRevocations, code_cmp, code_key}
-use Rattle.tk_ledger.specs.Index.{is_listed_code, IsCodes, out_cmp, out_key, left_after}
-use Rattle.tk_ledger.specs.Index.{is_listed_out, IsOuts, reuse_cmp, reuse_key, is_listed_reuse}
-use Rattle.tk_ledger.specs.Index.{IsReuses}
+use Rattle.tk_ledger.specs.Index.{is_listed_revocation, IsRevocations, reuse_cmp, reuse_key}
+use Rattle.tk_ledger.specs.Index.{is_listed_reuse, IsReuses}
+use Rattle.tk_ledger.specs.SubjectTables.{code_cmp, code_key, is_listed_code, IsCodes, out_cmp}
+use Rattle.tk_ledger.specs.SubjectTables.{out_key, left_after, is_listed_out, IsOuts}
 use Rattle.tk_ledger.specs.declared.change.Change.{Change}
 use Rattle.tk_ledger.specs.declared.change.Change.TheVariants as change
 use Rattle.tk_ledger.specs.declared.client_rows.ClientRow.{ClientRow}
@@ -46,7 +44,7 @@ use Rattle.tk_ledger.proofs.SubjectKeyLaws.{code_tied, out_tied}
 use Rattle.tk_ledger.proofs.SubjectTableLaws.{issuing, issues_to, issues_none, signs_out_by}
 use Rattle.tk_ledger.proofs.SubjectTableLaws.{signs_none, unsigned_early, IsEarly, RangedCodes}
 use Rattle.tk_ledger.proofs.SubjectTableLaws.{RangedOuts, codes_on, codes_ranged, codes_alike}
-use Rattle.tk_ledger.proofs.SubjectTableLaws.{codes_back, outs_on, outs_ranged, outs_alike}
+use Rattle.tk_ledger.proofs.SubjectTableLaws.{outs_on, outs_ranged, outs_alike}
 use Rattle.tk_ledger.proofs.ForestLaws.{signs}
 use Rattle.tk_ledger.proofs.ChangeLaws.{changed, or_cond}
 
@@ -156,16 +154,16 @@ same_revocations G d y t h none i = revocations_by G d y t t h i i.ranged
 
 codes_by : (G : FactSet) (d : Dot) (y : Change) (t u : BTreeSet CodeKey)
     → option_map change_in (map.get G d) ≡ Some y → IsCodes (map.remove G d) t → RangedCodes u
-    → ((subject : List ℕ) (start : ℕ) (q : Dot)
-    → is_listed_code u subject start q
-    ≡ ((issues_to subject start y && is_at d q) || is_listed_code t subject start q))
+    → ((prefix start : ℕ) (q : Dot)
+    → is_listed_code u prefix start q
+    ≡ ((issues_to prefix start y && is_at d q) || is_listed_code t prefix start q))
     → IsCodes G u
 codes_by G d y t u h i ranged l =
     let x = changed G d y h in
     codes_on (map.remove G d) G d x.body t u x.more i ranged
-    (λ subject start q.
-    l subject start q
-    ∙ ap (λ z. (issues_to subject start z && is_at d q) || is_listed_code t subject start q)
+    (λ prefix start q.
+    l prefix start q
+    ∙ ap (λ z. (issues_to prefix start z && is_at d q) || is_listed_code t prefix start q)
     (sym x.is))
 
 outs_by : (G : FactSet) (d : Dot) (y : Change) (t u : BTreeSet OutKey)
@@ -188,9 +186,9 @@ pub same_codes : (G : FactSet) (d : Dot) (y : Change) (t : BTreeSet CodeKey)
     → option_map change_in (map.get G d) ≡ Some y → issuing y ≡ None → IsCodes (map.remove G d) t
     → IsCodes G t
 same_codes G d y t h none i = codes_by G d y t t h i i.ranged
-    (λ subject start q.
-    sym (ap (λ b. (b && is_at d q) || is_listed_code t subject start q)
-    (issues_none subject start y none)))
+    (λ prefix start q.
+    sym (ap (λ b. (b && is_at d q) || is_listed_code t prefix start q)
+    (issues_none prefix start y none)))
 
 pub same_outs : (G : FactSet) (d : Dot) (y : Change) (t : BTreeSet OutKey)
     → option_map change_in (map.get G d) ≡ Some y → signs y ≡ false → IsOuts (map.remove G d) t
@@ -216,11 +214,6 @@ pub same_reuses : (G : FactSet) (d : Dot) (y : Change) (t : BTreeSet ReuseKey)
     → IsReuses (map.remove G d) t → IsReuses G t
 same_reuses G d y t h none i = reuses_by G d y t t h i i.ranged
     (λ k q. sym (ap (λ b. (b && is_at d q) || is_listed_reuse t k q) (none k)))
-
--- no fact is at the dot in the set without the fact
-pub change_free : (G : FactSet) (d : Dot) (y : Change) → option_map change_in (map.get G d) ≡ Some y
-    → map.get (map.remove G d) d ≡ None
-change_free G d y h = (changed G d y h).more.free
 
 -- a table of codes with the same keys
 pub codes_same : (G : FactSet) (d : Dot) (t u : BTreeSet CodeKey) → IsCodes (map.remove G d) t
@@ -256,49 +249,33 @@ reuse_row G d j t u h i here r = reuses_by G d (change.Mark j) t u h i
         ∙ ap (λ x. x || is_listed_reuse t k q) (reuse_tied j k d q)
 
 -- the table with the key of a code
-pub code_row : (G : FactSet) (d : Dot) (subject : List ℕ) (start : ℕ) (t u : BTreeSet CodeKey)
-    → option_map change_in (map.get G d) ≡ Some (change.Issue subject start)
-    → IsCodes (map.remove G d) t → IsDot d → IsMoment start
+pub code_row : (G : FactSet) (d : Dot) (prefix start : ℕ) (t u : BTreeSet CodeKey)
+    → option_map change_in (map.get G d) ≡ Some (change.Issue prefix start)
+    → IsCodes (map.remove G d) t → IsDot d
     → ((k : CodeKey)
     → contains code_cmp u k
-    ≡ cond (eq_by_cmp code_cmp (code_key subject start d) k) true (contains code_cmp t k))
+    ≡ cond (eq_by_cmp code_cmp (code_key prefix start d) k) true (contains code_cmp t k))
     → IsCodes G u
-code_row G d subject start t u h i here early r =
-    codes_by G d (change.Issue subject start) t u h i
-    (codes_ranged t u d (λ g n. bytes_eq subject g && (start == n)) here
-    (λ g n new. subst (λ (m : ℕ). IsMoment m)
-    (eqb-true start n (and_parts (bytes_eq subject g) (start == n) new).1) early) i.ranged own)
+code_row G d prefix start t u h i here r =
+    codes_by G d (change.Issue prefix start) t u h i
+    (codes_ranged t u d (λ g n. (prefix == g) && (start == n)) here i.ranged own)
     (λ g n q. own g n q
-    ∙ ap (λ x. ((bytes_eq subject g && (start == n)) && x) || is_listed_code t g n q)
+    ∙ ap (λ x. (((prefix == g) && (start == n)) && x) || is_listed_code t g n q)
     (sym (at_is_same d q)))
   where
     regroup : (a b c : Bool) → (a && (b && c)) ≡ ((a && b) && c)
     regroup true b c = refl
     regroup false b c = refl
 
-    own : (g : List ℕ) (n : ℕ) (q : Dot)
+    own : (g n : ℕ) (q : Dot)
         → is_listed_code u g n q
-        ≡ (((bytes_eq subject g && (start == n)) && is_same_dot d q) || is_listed_code t g n q)
+        ≡ ((((prefix == g) && (start == n)) && is_same_dot d q) || is_listed_code t g n q)
     own g n q = r (code_key g n q)
-        ∙ or_cond (eq_by_cmp code_cmp (code_key subject start d) (code_key g n q))
+        ∙ or_cond (eq_by_cmp code_cmp (code_key prefix start d) (code_key g n q))
         (is_listed_code t g n q)
         ∙ ap (λ x. x || is_listed_code t g n q)
-        (code_tied subject g start n d q
-        ∙ regroup (bytes_eq subject g) (start == n) (is_same_dot d q))
-
--- the table after the key of a code was removed again
-pub code_dropped : (G : FactSet) (d : Dot) (subject : List ℕ) (start : ℕ) (t u v : BTreeSet CodeKey)
-    → IsCodes (map.remove G d) t → map.get (map.remove G d) d ≡ None
-    → ((k : CodeKey)
-    → contains code_cmp u k
-    ≡ cond (eq_by_cmp code_cmp (code_key subject start d) k) true (contains code_cmp t k))
-    → ((k : CodeKey)
-    → contains code_cmp v k
-    ≡ cond (eq_by_cmp code_cmp (code_key subject start d) k) false (contains code_cmp u k))
-    → IsCodes (map.remove G d) v
-code_dropped G d subject start t u v i free r s =
-    codes_back (map.remove G d) d subject start t u v free i
-    (λ k. r k ∙ or_cond (eq_by_cmp code_cmp (code_key subject start d) k) (contains code_cmp t k)) s
+        (code_tied prefix g start n d q
+        ∙ regroup (prefix == g) (start == n) (is_same_dot d q))
 
 -- the table with the key of a sign-out
 pub out_row : (G : FactSet) (d : Dot) (subject : List ℕ) (moment : ℕ) (t u : BTreeSet OutKey)

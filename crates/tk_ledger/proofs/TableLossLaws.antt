@@ -2,10 +2,11 @@
 --   clients_less .. outs_less          tables that have no key of the fact
 --   codes_less, revocations_less, reuses_less
 --                                      a table without the key of the fact
-use Rattle.std.proofs.Common.{◌≡◌, ℕ, Bool, true, false, ◌&&◌, ◌||◌, not, ◌==◌, cond, List, None}
-use Rattle.std.proofs.Common.{is_some, refl, sym, ap, ◌∙◌}
+--   code_dropped                       the codes after a key was removed again
+use Rattle.std.proofs.Common.{◌≡◌, ℕ, Bool, true, false, ◌&&◌, ◌||◌, not, ◌==◌, cond, List, Some}
+use Rattle.std.proofs.Common.{None, is_some, refl, sym, ap, ◌∙◌}
 use Rattle.std.proofs.lemmas.Bool.{true≢false, and_parts}
-use Rattle.std.specs.Option.{option_and_then}
+use Rattle.std.specs.Option.{option_and_then, option_map}
 use Rattle.std.specs.Ordering.{eq_by_cmp}
 use Rattle.std.specs.Str.{bytes_eq}
 use Rattle.std.specs.BTreeMap.{BTreeMap}
@@ -24,10 +25,11 @@ use Rattle.tk_ledger.specs.Changes.{reuses_of}
 use Rattle.tk_ledger.specs.Clients.{client_at, retires, is_retired, consent_at, is_withdrawn}
 use Rattle.tk_ledger.specs.Index.{is_at, IsClients, is_from, IsConsents, IsWithdrawals}
 use Rattle.tk_ledger.specs.Index.{revocation_cmp, revocation_key, is_revocation_of}
-use Rattle.tk_ledger.specs.Index.{is_listed_revocation, IsRevocations, code_cmp, code_key, is_to}
-use Rattle.tk_ledger.specs.Index.{is_listed_code, IsCodes, is_left_by, IsOuts, reuse_cmp, reuse_key}
+use Rattle.tk_ledger.specs.Index.{is_listed_revocation, IsRevocations, reuse_cmp, reuse_key}
 use Rattle.tk_ledger.specs.Index.{is_reuse_of, is_listed_reuse, IsReuses}
 use Rattle.tk_ledger.specs.SignOuts.{sign_out_in, sign_out_at}
+use Rattle.tk_ledger.specs.SubjectTables.{code_cmp, code_key, is_to, is_listed_code, IsCodes}
+use Rattle.tk_ledger.specs.SubjectTables.{is_left_by, IsOuts}
 use Rattle.tk_ledger.specs.Tokens.{issued_in, issued_at}
 use Rattle.tk_ledger.specs.declared.change.Change.TheVariants as change
 use Rattle.tk_ledger.specs.declared.client_rows.ClientRow.{ClientRow}
@@ -36,6 +38,7 @@ use Rattle.tk_ledger.specs.declared.reuses.ReuseKey.{ReuseKey}
 use Rattle.tk_ledger.specs.declared.revocations.Revocation.{Revocation}
 use Rattle.tk_ledger.specs.declared.subject_keys.CodeKey.{CodeKey}
 use Rattle.tk_ledger.specs.declared.subject_keys.OutKey.{OutKey}
+use Rattle.tk_ledger.proofs.ChangeLaws.{changed}
 use Rattle.tk_ledger.proofs.ForestLaws.{signs}
 use Rattle.tk_ledger.proofs.KeyLaws.{at_is_same}
 use Rattle.tk_ledger.proofs.ReuseLaws.{reuse_tied, reused_on}
@@ -43,7 +46,7 @@ use Rattle.tk_ledger.proofs.RevocationLaws.{revocation_tied, revoked_on}
 use Rattle.tk_ledger.proofs.SameLaws.{same_dot-true}
 use Rattle.tk_ledger.proofs.SubjectKeyLaws.{code_tied, code_tied-dot}
 use Rattle.tk_ledger.proofs.SubjectTableLaws.{issuing, issues_to, issues_none, signs_none}
-use Rattle.tk_ledger.proofs.SubjectTableLaws.{issued_on, signed_on, without}
+use Rattle.tk_ledger.proofs.SubjectTableLaws.{issued_on, signed_on, without, fewer}
 use Rattle.tk_ledger.proofs.TableLaws.{retires-change, added_on, given_on, withdrawn_on}
 
 -- ---- tables that have no key of the fact
@@ -123,22 +126,18 @@ reuses_kept F G d b t m none i = record {
 
 -- ---- tables without a key
 
-fewer : (a b : Bool) → cond a false b ≡ true → b ≡ true
-fewer true b h = absurd (true≢false (sym h))
-fewer false b h = h
-
 -- the table without the key of a code
-pub codes_less : (F G : FactSet) (d : Dot) (b : Body) (subject : List ℕ) (start : ℕ)
-    (t u : BTreeSet CodeKey) → OneMore F G d b → change_in b ≡ change.Issue subject start
+pub codes_less : (F G : FactSet) (d : Dot) (b : Body) (prefix start : ℕ)
+    (t u : BTreeSet CodeKey) → OneMore F G d b → change_in b ≡ change.Issue prefix start
     → IsCodes G t
     → ((k : CodeKey)
     → contains code_cmp u k
-    ≡ cond (eq_by_cmp code_cmp (code_key subject start d) k) false (contains code_cmp t k))
+    ≡ cond (eq_by_cmp code_cmp (code_key prefix start d) k) false (contains code_cmp t k))
     → IsCodes F u
-codes_less F G d b subject start t u m is i r = record {
+codes_less F G d b prefix start t u m is i r = record {
   listed = listed;
   ranged = λ g n q h. i.ranged g n q
-      (fewer (eq_by_cmp code_cmp (code_key subject start d) (code_key g n q))
+      (fewer (eq_by_cmp code_cmp (code_key prefix start d) (code_key g n q))
       (is_listed_code t g n q) (sym (r (code_key g n q)) ∙ h));
 }
   where
@@ -146,34 +145,44 @@ codes_less F G d b subject start t u m is i r = record {
     regroup true c e = refl
     regroup false c e = refl
 
-    before : (g : List ℕ) (n : ℕ) (q : Dot)
+    before : (g n : ℕ) (q : Dot)
         → is_listed_code t g n q
-        ≡ (eq_by_cmp code_cmp (code_key subject start d) (code_key g n q)
+        ≡ (eq_by_cmp code_cmp (code_key prefix start d) (code_key g n q)
         || is_to g n (issued_at (map.get F) q))
     before g n q =
         i.listed g n q ∙ sym (issued_on F G d b g n q (is_to g n (issued_at (map.get F) q)) m refl)
         ∙ ap (λ y. (issues_to g n y && is_at d q) || is_to g n (issued_at (map.get F) q)) is
-        ∙ ap (λ a. ((bytes_eq subject g && (start == n)) && a)
+        ∙ ap (λ a. (((prefix == g) && (start == n)) && a)
         || is_to g n (issued_at (map.get F) q)) (at_is_same d q)
         ∙ ap (λ a. a || is_to g n (issued_at (map.get F) q))
-        (regroup (bytes_eq subject g) (start == n) (is_same_dot d q)
-        ∙ sym (code_tied subject g start n d q))
+        (regroup (prefix == g) (start == n) (is_same_dot d q)
+        ∙ sym (code_tied prefix g start n d q))
 
-    gone : (g : List ℕ) (n : ℕ) (q : Dot)
-        → eq_by_cmp code_cmp (code_key subject start d) (code_key g n q) ≡ true
+    gone : (g n : ℕ) (q : Dot)
+        → eq_by_cmp code_cmp (code_key prefix start d) (code_key g n q) ≡ true
         → is_to g n (issued_at (map.get F) q) ≡ false
     gone g n q h =
-        let same : d ≡ q = code_tied-dot subject g start n d q h in
+        let same : d ≡ q = code_tied-dot prefix g start n d q h in
         ap (λ e. is_to g n (option_and_then issued_in e)) (ap (map.get F) (sym same) ∙ m.free)
 
-    listed : (g : List ℕ) (n : ℕ) (q : Dot)
+    listed : (g n : ℕ) (q : Dot)
         → is_listed_code u g n q ≡ is_to g n (issued_at (map.get F) q)
     listed g n q =
         r (code_key g n q)
-        ∙ ap (λ x. cond (eq_by_cmp code_cmp (code_key subject start d) (code_key g n q)) false x)
+        ∙ ap (λ x. cond (eq_by_cmp code_cmp (code_key prefix start d) (code_key g n q)) false x)
         (before g n q)
-        ∙ without (eq_by_cmp code_cmp (code_key subject start d) (code_key g n q))
+        ∙ without (eq_by_cmp code_cmp (code_key prefix start d) (code_key g n q))
         (is_to g n (issued_at (map.get F) q)) (gone g n q)
+
+-- the table after the key of a code was removed again
+pub code_dropped : (G : FactSet) (d : Dot) (prefix start : ℕ) (t u : BTreeSet CodeKey)
+    → option_map change_in (map.get G d) ≡ Some (change.Issue prefix start) → IsCodes G t
+    → ((k : CodeKey)
+    → contains code_cmp u k
+    ≡ cond (eq_by_cmp code_cmp (code_key prefix start d) k) false (contains code_cmp t k))
+    → IsCodes (map.remove G d) u
+code_dropped G d prefix start t u h i r = let x = changed G d (change.Issue prefix start) h in
+    codes_less (map.remove G d) G d x.body prefix start t u x.more x.is i r
 
 -- the table without the key of a revocation
 pub revocations_less : (F G : FactSet) (d : Dot) (b : Body) (f : revoked.TokenRevoked)

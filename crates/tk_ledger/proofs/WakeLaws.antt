@@ -29,7 +29,8 @@ use Rattle.tk_store.specs.FactSet.{FactSet}
 use Rattle.tk_store.proofs.FactSetLaws.{tied}
 use Rattle.tk_ledger.specs.Bodies.{is_same_dot, is_same_token}
 use Rattle.tk_ledger.specs.Tokens.{links_in, is_marked}
-use Rattle.tk_ledger.specs.Index.{Wakes, dots_of}
+use Rattle.tk_ledger.specs.Index.{Wakes}
+use Rattle.tk_ledger.specs.SubjectTables.{dots_of}
 use Rattle.tk_ledger.specs.declared.subject_keys.CodeKey.{CodeKey}
 use Rattle.tk_ledger.proofs.SameLaws.{same_token-true, same_token-itself}
 use Rattle.tk_ledger.proofs.KeyLaws.{at_itself, token_tied}

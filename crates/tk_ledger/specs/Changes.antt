@@ -1,8 +1,10 @@
 -- The change that one fact makes in the tables of a ledger (own).
+--   digest_prefix the beginning of a subject's digest, which is in the keys of its codes
 --   change_in     the change that the fact of a body makes
 --   adds, retires_of, gives_to, withdraws_of, revokes_of, reuses_of
 --                 the change adds a client, retires it, and so on
-use Rattle.std.specs.Prelude.{ℕ, Bool, true, false, ◌&&◌, List}
+use Rattle.std.specs.Prelude.{ℕ, Bool, true, false, ◌&&◌, List, take}
+use Rattle.std.specs.Int.{w64, from_be_bytes}
 use Rattle.std.specs.Str.{bytes_eq}
 use Rattle.sha2.specs.Sha256.{sha256}
 use Rattle.tk_handle.specs.declared.dot.Dot.{Dot}
@@ -26,15 +28,20 @@ use Rattle.tk_ledger.specs.Bodies.{is_same_dot, is_same_token}
 use Rattle.tk_ledger.specs.declared.change.Change.{Change}
 use Rattle.tk_ledger.specs.declared.change.Change.TheVariants as change
 
+-- the first 8 bytes of a digest, as a number (own): the keys of codes and logins have these alone.
+-- Two subjects may have the same, and whoever reads the keys of one passes over those of the other
+unfoldable pub digest_prefix : List ℕ → ℕ
+digest_prefix digest = from_be_bytes w64 (take 8 digest)
+
 -- the change that the fact of a body makes. The key of a consent has its client and the digest of
--- its subject, the key of a code that digest and its start, the key of a sign-out that digest and
--- its moment
+-- its subject, the key of a code the prefix of that digest and its start, the key of a sign-out the
+-- digest and its moment
 abbrev pub change_in : Body → Change
 change_in (ClientAdded f) = change.Add
 change_in (ClientRetired f) = change.Retire f.client
 change_in (ConsentGiven f) = change.Give f.client (sha256 f.subject)
 change_in (ConsentWithdrawn f) = change.Withdraw f.consent
-change_in (CodeIssued f) = change.Issue (sha256 f.subject) f.start
+change_in (CodeIssued f) = change.Issue (digest_prefix (sha256 f.subject)) f.start
 change_in (CodeRedeemed f) = change.Put (link.Redeems f.code)
 change_in (RefreshRotated f) = change.Put (link.Rotates f.parent f.generation)
 change_in (TokenRevoked f) = change.Revoke f

@@ -1,4 +1,5 @@
 -- The tables of a ledger beside its facts (own), which return what the set of facts determines.
+-- `SubjectTables` has those of codes, logins and sign-outs.
 --   row_added, row_retired             a client's row is that of an added, or a retired, client
 --   consent_cmp, consent_key, key_of   the keys of consents, and their order
 --   is_live_from                       a live consent to a client, by the digest of its subject
@@ -8,13 +9,6 @@
 --   revocation_keys, has_revocation    the keys of one token and client, and whether there is one
 --   IsClients, IsConsents, IsWithdrawals, IsRevocations
 --                                      each table has what the set has
---   code_cmp, code_key                 the keys of codes, and their order
---   out_cmp, out_key                   the keys of sign-outs, and their order
---   codes_above                        the keys of the codes of one subject above a dot
---   codes_started, outs_of             the keys of one subject
---   dots_of                            the dots of codes
---   IsCodes, IsOuts                    the tables of codes and of sign-outs have what the set has
---   tells_of                           the sign-out of a key is one of the subject
 --   reuse_cmp, reuse_key               the keys of reuses, and their order
 --   reuse_keys, has_reuse              the keys of one token, and whether there is one
 --   IsReuses                           the table of reuses has what the set has
@@ -22,26 +16,8 @@
 --                                      grants in a family
 --   Wakes                              the marks at some dots are written anew
 --   IsIndexed                          all tables, and the forest, are those of the set
-use Rattle.std.specs.Prelude.{
-  map as map_list,
-  ◌≡◌,
-  ◌≤◌,
-  ◌-◌,
-  ℕ,
-  Bool,
-  true,
-  false,
-  ◌&&◌,
-  not,
-  ◌==◌,
-  nat_le,
-  List,
-  filter,
-  Option,
-  Some,
-  None,
-  is_some,
-}
+use Rattle.std.specs.Prelude.{◌≡◌, ℕ, Bool, true, false, ◌&&◌, not, List, Option, Some, None}
+use Rattle.std.specs.Prelude.{is_some}
 use Rattle.std.specs.List.{list_any}
 use Rattle.std.specs.Ordering.{nat_cmp, ordering_then, eq_by_cmp}
 use Rattle.std.specs.declared.cmp.Ordering.{Ordering}
@@ -60,25 +36,20 @@ use Rattle.tk_handle.specs.declared.dot.Dot.{Dot}
 use Rattle.tk_handle.specs.declared.token_id.TokenId.{TokenId}
 use Rattle.tk_handle.specs.Dot.{IsDot, dot_cmp, least_dot, greatest_dot}
 use Rattle.tk_handle.specs.Kind.{kind_number}
-use Rattle.tk_handle.specs.Ranges.{IsMoment, greatest_moment}
 use Rattle.tk_family.specs.declared.link.Link.{Link}
 use Rattle.tk_family.specs.Families.{IsUnder, grant_at}
 use Rattle.tk_family.specs.ForestFacts.{ForestFacts}
 use Rattle.tk_fact.specs.declared.body.Body.{Body}
-use Rattle.tk_fact.specs.declared.code_issued.CodeIssued as issued
 use Rattle.tk_fact.specs.declared.consent_given.ConsentGiven as given
-use Rattle.tk_fact.specs.declared.subject_out.SubjectOut as out
 use Rattle.tk_store.specs.FactSet.{FactSet}
 use Rattle.tk_ledger.specs.Bodies.{is_same_dot}
 use Rattle.tk_ledger.specs.Clients.{client_at, is_retired, consent_at, is_withdrawn}
-use Rattle.tk_ledger.specs.SignOuts.{sign_out_at}
-use Rattle.tk_ledger.specs.Tokens.{links_in, issued_at, revoked_by, reuse_of, is_marked}
+use Rattle.tk_ledger.specs.SubjectTables.{IsCodes, IsLogins, IsOuts}
+use Rattle.tk_ledger.specs.Tokens.{links_in, revoked_by, reuse_of, is_marked}
 use Rattle.tk_ledger.specs.declared.client_rows.ClientRow.{ClientRow}
 use Rattle.tk_ledger.specs.declared.consent_keys.ConsentKey.{ConsentKey}
 use Rattle.tk_ledger.specs.declared.reuses.ReuseKey.{ReuseKey}
 use Rattle.tk_ledger.specs.declared.revocations.Revocation.{Revocation}
-use Rattle.tk_ledger.specs.declared.subject_keys.CodeKey.{CodeKey}
-use Rattle.tk_ledger.specs.declared.subject_keys.OutKey.{OutKey}
 use Rattle.tk_ledger.specs.declared.index.Index.{Index}
 
 -- ---- clients
@@ -209,108 +180,6 @@ pub record IsRevocations (F : FactSet) (t : BTreeSet Revocation) : Type 0 where
   pub ranged : (k : TokenId) (digest : List ℕ) (client d : Dot)
       → is_listed_revocation t k digest client d ≡ true → IsDot d
 
--- ---- codes and sign-outs
-
--- the order of codes: by the digest of the subject, then by dot, then by start
-abbrev pub code_cmp : CodeKey → CodeKey → Ordering
-code_cmp a b =
-    ordering_then (slice_cmp nat_cmp a.subject b.subject)
-    (ordering_then (dot_cmp a.code b.code) (nat_cmp a.start b.start))
-
--- the key of a code
-abbrev pub code_key : List ℕ → ℕ → Dot → CodeKey
-code_key subject start d = record { subject = subject; code = d; start = start }
-
--- where the keys of the codes of a subject with the digest begin that are above a dot, or above
--- none
-abbrev pub code_start : List ℕ → Option Dot → Bound CodeKey
-code_start subject None = Included (code_key subject 0 least_dot)
-code_start subject (Some d) = Excluded (code_key subject greatest_moment d)
-
--- the keys of the codes of a subject with the digest that are above a dot, or above none
-abbrev pub codes_above : BTreeSet CodeKey → List ℕ → Option Dot → List CodeKey
-codes_above t subject after =
-    keys.keys_between code_cmp (code_start subject after)
-    (Included (code_key subject greatest_moment greatest_dot)) t
-
--- the code starts in the seconds from `first` to `last`
-abbrev pub starts_in : ℕ → ℕ → CodeKey → Bool
-starts_in first last k = nat_le first k.start && nat_le k.start last
-
--- the keys of the codes of a subject with the digest that start from `first` to `last`
-abbrev pub codes_started : BTreeSet CodeKey → List ℕ → ℕ → ℕ → List CodeKey
-codes_started t subject first last = filter (starts_in first last) (codes_above t subject None)
-
--- the order of sign-outs: by the digest of the subject, then by the seconds left after the moment,
--- then by dot. The last sign-out of a subject is first
-abbrev pub out_cmp : OutKey → OutKey → Ordering
-out_cmp a b =
-    ordering_then (slice_cmp nat_cmp a.subject b.subject)
-    (ordering_then (nat_cmp a.left b.left) (dot_cmp a.place b.place))
-
--- the seconds from the moment to the greatest moment
-abbrev pub left_after : ℕ → ℕ
-left_after moment = greatest_moment - moment
-
--- the key of a sign-out
-abbrev pub out_key : List ℕ → ℕ → Dot → OutKey
-out_key subject left d = record { subject = subject; left = left; place = d }
-
--- the keys of the sign-outs of a subject with the digest
-abbrev pub outs_of : BTreeSet OutKey → List ℕ → List OutKey
-outs_of t subject =
-    keys.keys_between out_cmp (Included (out_key subject 0 least_dot))
-    (Included (out_key subject greatest_moment greatest_dot)) t
-
--- the dots of the codes
-abbrev pub dots_of : List CodeKey → List Dot
-dots_of ks = map_list (λ k. k.code) ks
-
--- the code was issued to a subject with the digest, and starts at `start`
-abbrev pub is_to : List ℕ → ℕ → Option issued.CodeIssued → Bool
-is_to subject start None = false
-is_to subject start (Some code) = bytes_eq (sha256 code.subject) subject && (code.start == start)
-
--- the table has the code of the dot under the digest and the start
-abbrev pub is_listed_code : BTreeSet CodeKey → List ℕ → ℕ → Dot → Bool
-is_listed_code t subject start d = keys.contains code_cmp t (code_key subject start d)
-
--- the table has each code that was issued, under the digest of its subject and its start, and no
--- other
-pub record IsCodes (F : FactSet) (t : BTreeSet CodeKey) : Type 0 where
-  pub listed : (subject : List ℕ) (start : ℕ) (d : Dot)
-      → is_listed_code t subject start d ≡ is_to subject start (issued_at (map.get F) d)
-  pub ranged : (subject : List ℕ) (start : ℕ) (d : Dot)
-      → is_listed_code t subject start d ≡ true → IsDot d × IsMoment start
-
--- a subject with the digest signed out, with `left` seconds left after the moment
-abbrev pub is_left_by : List ℕ → ℕ → Option out.SubjectOut → Bool
-is_left_by subject left None = false
-is_left_by subject left (Some f) =
-    bytes_eq (sha256 f.subject) subject && (left_after f.moment == left)
-
--- the table has the sign-out of the dot under the digest and the seconds left
-abbrev pub is_listed_out : BTreeSet OutKey → List ℕ → ℕ → Dot → Bool
-is_listed_out t subject left d = keys.contains out_cmp t (out_key subject left d)
-
--- the table has each sign-out, under the digest of its subject and its moment, and no other
-pub record IsOuts (F : FactSet) (t : BTreeSet OutKey) : Type 0 where
-  pub listed : (subject : List ℕ) (left : ℕ) (d : Dot)
-      → is_listed_out t subject left d ≡ is_left_by subject left (sign_out_at (map.get F) d)
-  pub ranged : (subject : List ℕ) (left : ℕ) (d : Dot) → is_listed_out t subject left d ≡ true
-      → IsDot d
-  pub early : (d : Dot) (f : out.SubjectOut) → sign_out_at (map.get F) d ≡ Some f
-      → f.moment ≤ greatest_moment
-
--- the sign-out, if there is one, is by the subject, with `left` seconds left after its moment
-abbrev pub tells_by : List ℕ → ℕ → Option out.SubjectOut → Bool
-tells_by subject left None = false
-tells_by subject left (Some f) = bytes_eq f.subject subject && left_after f.moment == left
-
--- the sign-out at the key's dot is one of the subject, at the key's moment
-abbrev pub tells_of : FactSet → List ℕ → OutKey → Bool
-tells_of F subject k = tells_by subject k.left (sign_out_at (map.get F) k.place)
-
 -- ---- reuses
 
 -- the order of reuses: by token, then by the dot of the fact that saw the reuse
@@ -377,6 +246,7 @@ pub record IsIndexed (F : FactSet) (x : Index) : Type 0 where
   pub withdrawn_are : IsWithdrawals F x.withdrawn
   pub revocations_are : IsRevocations F x.revocations
   pub codes_are : IsCodes F x.codes
+  pub logins_are : IsLogins F x.logins
   pub outs_are : IsOuts F x.outs
   pub reuses_are : IsReuses F x.reuses
   pub tied : IsTied F x.forest

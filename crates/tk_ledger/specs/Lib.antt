@@ -16,6 +16,7 @@
 --   Laws             the laws, which hold of all sets of facts
 --   Changes          change_in, the change that one fact makes in the tables
 --   Index            IsIndexed, the tables beside the facts
+--   SubjectTables    IsCodes, IsLogins, IsOuts, the tables of what subjects have
 --   Losses           WasIndexed, the tables after the loss of a fact
 --   Retention        MaySkip, the facts of families that are over
 --   Slices           PrunesSome, the store after a slice of a prune
@@ -37,6 +38,7 @@ pub mod Slices
 pub mod StandingFields
 pub mod Standings
 pub mod Status
+pub mod SubjectTables
 pub mod SubjectWalk
 pub mod Tokens
 pub mod ViewFields

@@ -21,8 +21,8 @@ pub(crate) enum Change {
     Withdraw(Dot),
     // A code is issued to a subject.
     Issue {
-        // The SHA-256 digest of the subject.
-        subject: [u8; 32],
+        // The first 8 bytes of the SHA-256 digest of the subject, as a number.
+        prefix: u64,
         start: Moment,
     },
     // A code is redeemed, or a refresh token rotated: the fact gets the link.
@@ -43,17 +43,26 @@ pub(crate) enum Change {
 
 ghost use Rattle.std.specs.Prelude.{◌≡◌};
 ghost use Rattle.sha2.specs.Sha256.{sha256};
-ghost use Rattle.tk_ledger.specs.Changes.{change_in};
+ghost use Rattle.tk_ledger.specs.Changes.{change_in, digest_prefix};
 
 use sha2::{Digest, Sha256};
 use tk_fact::{Body, Subject};
 
-// Returns the SHA-256 digest of a subject, which is in the keys of its consents, codes and
-// sign-outs.
+// Returns the SHA-256 digest of a subject, which is in the keys of its consents and sign-outs.
 pub(crate) fn subject_digest(subject: &Subject) -> [u8; 32]
     ensures { result ≡ sha256 subject.now }
 {
     Sha256::digest(subject.as_bytes())
+}
+
+// Returns the first 8 bytes of a digest, as a number. That of a subject's digest is in the keys of
+// its codes and logins.
+#[tactic(auto, unfolding(crate::specs::Changes::digest_prefix))]
+pub(crate) fn digest_prefix(digest: &[u8; 32]) -> u64
+    ensures { result ≡ digest_prefix digest.now }
+{
+    let (prefix, _) = digest.split_first_chunk::<8>().unwrap();
+    u64::from_be_bytes(*prefix)
 }
 
 // Returns the change that the fact of a body makes.
@@ -69,7 +78,7 @@ pub(crate) fn change_of(body: &Body) -> Change
         },
         Body::ConsentWithdrawn(fact) => Change::Withdraw(fact.consent),
         Body::CodeIssued(fact) => Change::Issue {
-            subject: subject_digest(&fact.subject),
+            prefix: digest_prefix(&subject_digest(&fact.subject)),
             start: fact.start,
         },
         Body::CodeRedeemed(fact) => Change::Put(Link::Redeems(fact.code)),

@@ -1,8 +1,8 @@
 //! The tables of a ledger beside its facts, and the change that one more fact makes in them.
 //!
 //! - Tables by key: clients (`client_rows`), live consents and withdrawals (`consent_keys`),
-//!   revocations (`revocations`), the codes and sign-outs of subjects (`subject_keys`), and reuses
-//!   (`reuses`).
+//!   revocations (`revocations`), the codes, logins and sign-outs of subjects (`subject_keys`), and
+//!   reuses (`reuses`).
 //! - A forest of families, with the marks of all codes and refresh tokens in a family.
 //!
 //! `change` has the change that a fact makes in the index, and `unfollow` undoes it for a fact that
@@ -13,7 +13,7 @@ use crate::client_rows::ClientRow;
 use crate::consent_keys::ConsentKey;
 use crate::reuses::ReuseKey;
 use crate::revocations::Revocation;
-use crate::subject_keys::{CodeKey, OutKey};
+use crate::subject_keys::{CodeKey, LoginKey, OutKey};
 use std::collections::{BTreeMap, BTreeSet};
 use tk_family::Forest;
 use tk_handle::Dot;
@@ -29,8 +29,10 @@ pub(crate) struct Index {
     pub(crate) withdrawn: BTreeSet<Dot>,
     // Each revocation, whether or not there is such a token.
     pub(crate) revocations: BTreeSet<Revocation>,
-    // Each code that was issued.
+    // Each code that was issued, by its start: for sign-outs.
     pub(crate) codes: BTreeSet<CodeKey>,
+    // The login that each code began, by the dot of the code: for lists.
+    pub(crate) logins: BTreeSet<LoginKey>,
     // Each sign-out.
     pub(crate) outs: BTreeSet<OutKey>,
     // Each reuse that was seen.
@@ -45,22 +47,17 @@ ghost use Rattle.std.specs.FinMap as map;
 ghost use Rattle.tk_store.specs.StoreFields.{held_facts};
 ghost use Rattle.tk_ledger.specs.declared.change.Change.TheVariants as change_as;
 ghost use Rattle.tk_ledger.specs.Changes.{change_in};
-ghost use Rattle.tk_ledger.specs.Index.{
-  IsRevocations,
-  IsOuts,
-  IsReuses,
-  IsTied,
-  IsIndexed,
-};
+ghost use Rattle.tk_ledger.specs.Index.{IsRevocations, IsReuses, IsTied, IsIndexed};
+ghost use Rattle.tk_ledger.specs.SubjectTables.{IsOuts};
 ghost use Rattle.tk_ledger.specs.Tokens.{links_in};
 
-use crate::change::Change;
+use crate::change::{Change, digest_prefix};
 use crate::client_rows::{add_client, retire_client};
 use crate::consent_keys::{give, withdraw};
 use crate::reuses::list_reuse;
 use crate::revocations::revoke;
 use crate::sign_outs::first_left;
-use crate::subject_keys::{drop_code, list_code, list_out};
+use crate::subject_keys::{drop_code, drop_login, list_code, list_login, list_out};
 use crate::wake::{wake, wake_all, wake_started};
 use std::alloc::{AllocError, Global};
 use tk_fact::TokenRevoked;
@@ -79,6 +76,7 @@ impl Index {
             withdrawn: BTreeSet::new(alloc),
             revocations: BTreeSet::new(alloc),
             codes: BTreeSet::new(alloc),
+            logins: BTreeSet::new(alloc),
             outs: BTreeSet::new(alloc),
             reuses: BTreeSet::new(alloc),
             forest: Forest::new(alloc),
@@ -114,21 +112,26 @@ fn put_link(
     }
 }
 
-// Adds the key of a code, and its link. If memory runs out at the link, the key is removed again.
+// Adds the keys of a code and of its login, and its link. If memory runs out at one of them, those
+// added before it are removed again.
 fn issue_code(
     facts: &FactStore,
     index: &mut Index,
     dot: Dot,
-    subject: &[u8; 32],
+    prefix: u64,
     start: Moment,
 ) -> Result<(), AllocError>
     requires change { option_map change_in (map.get (held_facts facts.now) dot)
-        ≡ Some (change_as.Issue subject.now start) }
+        ≡ Some (change_as.Issue prefix start) }
     requires indexed { IsIndexed (map.remove (held_facts facts.now) dot) index.old }
     ensures ok { OnOk result (IsIndexed (held_facts facts.now) index.new) }
     ensures err { OnErr result (IsIndexed (map.remove (held_facts facts.now) dot) index.new) }
 {
-    if let Err(error) = list_code(&mut index.codes, subject, start, dot) {
+    if let Err(error) = list_code(&mut index.codes, prefix, start, dot) {
+        return Err(error);
+    }
+    if let Err(error) = list_login(&mut index.logins, prefix, dot) {
+        drop_code(&mut index.codes, prefix, start, dot);
         return Err(error);
     }
     match put_link(
@@ -142,7 +145,8 @@ fn issue_code(
     ) {
         Ok(()) => Ok(()),
         Err(error) => {
-            drop_code(&mut index.codes, subject, start, dot);
+            drop_code(&mut index.codes, prefix, start, dot);
+            drop_login(&mut index.logins, prefix, dot);
             Err(error)
         }
     }
@@ -251,6 +255,7 @@ fn sign_out(
     match list_out(&mut index.outs, subject, moment, dot) {
         Ok(()) => {
             let last = moment.seconds();
+            let prefix = digest_prefix(subject);
             wake_started(
                 facts,
                 &index.revocations,
@@ -258,7 +263,7 @@ fn sign_out(
                 &index.outs,
                 &index.reuses,
                 &mut index.forest,
-                subject,
+                prefix,
                 first,
                 last,
             );
@@ -297,7 +302,7 @@ pub(crate) fn follow(
             &mut index.withdrawn,
             *consent,
         ),
-        Change::Issue { subject, start } => issue_code(facts, index, dot, subject, *start),
+        Change::Issue { prefix, start } => issue_code(facts, index, dot, *prefix, *start),
         Change::Put(link) => use_grant(facts, index, dot, *link),
         Change::Revoke(fact) => revoke_token(facts, index, dot, fact),
         Change::Mark(token) => mark_token(facts, index, dot, *token),

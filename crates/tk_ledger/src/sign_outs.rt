@@ -8,8 +8,8 @@ ghost use Rattle.std.specs.Option.{option_copied};
 ghost use Rattle.sha2.specs.Sha256.{sha256};
 ghost use Rattle.tk_fact.specs.declared.subject_out.SubjectOut as out;
 ghost use Rattle.tk_store.specs.StoreFields.{held_facts};
-ghost use Rattle.tk_ledger.specs.Index.{IsOuts, out_cmp, outs_of, tells_by, tells_of};
 ghost use Rattle.tk_ledger.specs.SignOuts as spec;
+ghost use Rattle.tk_ledger.specs.SubjectTables.{IsOuts, out_cmp, outs_of, tells_by, tells_of};
 ghost use Rattle.tk_ledger.specs.Tokens as tokens_of;
 
 use crate::change::subject_digest;

@@ -7,14 +7,14 @@ ghost use Rattle.tk_store.specs.StoreFields.{held_facts};
 ghost use Rattle.tk_ledger.specs.SubjectWalk as spec;
 ghost use Rattle.tk_ledger.specs.SubjectWalk.{consents_of, logins_of, Walks};
 
-use crate::change::subject_digest;
+use crate::change::{digest_prefix, subject_digest};
 use crate::compare::same_bytes;
 use crate::consent_keys::{consents_from, last_consent};
 use crate::consent_view::ConsentView;
 use crate::ledger::Ledger;
 use crate::login_view::LoginView;
 use crate::looks::issued_at;
-use crate::subject_keys::{codes_from, last_code};
+use crate::subject_keys::{last_login, logins_from};
 use std::ops::Bound;
 use tk_fact::{CodeIssued, Subject};
 use tk_handle::{Dot, Moment};
@@ -84,9 +84,9 @@ impl Ledger {
     ) -> Option<(Dot, LoginView<'_>)>
         ensures { Walks (logins_of (held_facts self.now) now subject.now) after result }
     {
-        let digest = subject_digest(subject);
-        let (first, last) = (codes_from(&digest, after), last_code(&digest));
-        for key in self.index.codes.range((first, Bound::Included(last))) {
+        let prefix = digest_prefix(&subject_digest(subject));
+        let (first, last) = (logins_from(prefix, after), last_login(prefix));
+        for key in self.index.logins.range((first, Bound::Included(last))) {
             if let Some(view) = self.login_by(subject, now, key.code) {
                 return Some((key.code, view));
             }

@@ -9,7 +9,7 @@ use crate::change::Change;
 use crate::index::Index;
 use crate::reuses::drop_reuse;
 use crate::revocations::drop_revocation;
-use crate::subject_keys::drop_code;
+use crate::subject_keys::{drop_code, drop_login};
 use crate::wake::wake;
 use tk_handle::Dot;
 use tk_store::FactStore;
@@ -22,8 +22,9 @@ pub(crate) fn unfollow(facts: &FactStore, index: &mut Index, dot: Dot, change: &
     ensures { IsIndexed (held_facts facts.now) index.new }
 {
     match change {
-        Change::Issue { subject, start } => {
-            drop_code(&mut index.codes, subject, *start, dot);
+        Change::Issue { prefix, start } => {
+            drop_code(&mut index.codes, *prefix, *start, dot);
+            drop_login(&mut index.logins, *prefix, dot);
             index.forest.take(dot);
         }
         Change::Put(_) => index.forest.take(dot),

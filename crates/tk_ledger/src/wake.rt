@@ -1,7 +1,7 @@
 //! The marks of codes and refresh tokens in a family: tokens whose reuse was seen, refresh tokens
 //! that their client revoked, and codes whose subject signed out, whichever fact arrives first.
 
-ghost use Rattle.std.specs.Prelude.{◌≡◌, ◌&&◌, nat_le, IsSome, cond};
+ghost use Rattle.std.specs.Prelude.{◌≡◌, ◌≤◌, ◌&&◌, nat_le, IsSome, cond};
 ghost use Rattle.std.specs.Option.{option_map};
 ghost use Rattle.std.specs.FinMap as map;
 ghost use Rattle.std.specs.FinSet as set;
@@ -12,15 +12,8 @@ ghost use Rattle.tk_fact.specs.Tokens.{shown_minted};
 ghost use Rattle.tk_store.specs.StoreFields.{held_facts};
 ghost use Rattle.tk_ledger.specs.Bodies.{is_same_token};
 ghost use Rattle.tk_ledger.specs.ByTop.{ended_in};
-ghost use Rattle.tk_ledger.specs.Index.{
-  IsRevocations,
-  IsOuts,
-  IsReuses,
-  Wakes,
-  starts_in,
-  codes_started,
-  dots_of,
-};
+ghost use Rattle.tk_ledger.specs.Index.{IsRevocations, IsReuses, Wakes};
+ghost use Rattle.tk_ledger.specs.SubjectTables.{IsOuts, codes_started, dots_of};
 ghost use Rattle.tk_ledger.specs.Tokens as spec;
 
 use crate::looks::{code_above, minted_at, root_above};
@@ -28,7 +21,7 @@ use crate::reuses::{ReuseKey, is_reused};
 use crate::revocations::{Revocation, is_revoked};
 use crate::root::Root;
 use crate::sign_outs::is_out;
-use crate::subject_keys::{CodeKey, OutKey, codes_from, last_code};
+use crate::subject_keys::{CodeKey, OutKey, code_span};
 use std::alloc::AllocError;
 use std::collections::BTreeSet;
 use std::ops::Bound;
@@ -207,15 +200,8 @@ pub(crate) fn wake_all(
     }
 }
 
-// Returns whether the code of the key starts in the seconds from `first` to `last`.
-fn starts_in(key: &CodeKey, first: u64, last: u64) -> bool
-    ensures { result ≡ starts_in first last key.now }
-{
-    first <= key.start && key.start <= last
-}
-
-// Writes the marks at the codes of a subject that start in the seconds from `first` to `last`, by
-// the digest of the subject. Keys of other codes are passed over without a look-up.
+// Writes the marks at the codes under the prefix of a subject's digest that start in the seconds
+// from `first` to `last`, and looks at no other key.
 fn wake_codes(
     facts: &FactStore,
     revocations: &BTreeSet<Revocation>,
@@ -223,28 +209,27 @@ fn wake_codes(
     outs: &BTreeSet<OutKey>,
     reuses: &BTreeSet<ReuseKey>,
     forest: &mut Forest,
-    subject: &[u8; 32],
+    prefix: u64,
     first: u64,
     last: u64,
 )
+    requires forward { first ≤ last }
     requires revocations { IsRevocations (held_facts facts.now) revocations.now }
     requires outs { IsOuts (held_facts facts.now) outs.now }
     requires reuses { IsReuses (held_facts facts.now) reuses.now }
     requires links { (q : the_dot)
         → map.get forest.old.links q ≡ spec.links_in (map.get (held_facts facts.now)) q }
     ensures { Wakes (held_facts facts.now) forest.old
-        (has (dots_of (codes_started codes.now subject.now first last))) forest.new }
+        (has (dots_of (codes_started codes.now prefix first last))) forest.new }
 {
-    let (least, greatest) = (codes_from(subject, None), last_code(subject));
-    for key in codes.range((least, Bound::Included(greatest))) {
-        if starts_in(key, first, last) {
-            wake(facts, revocations, outs, reuses, forest, key.code);
-        }
+    let (first, last) = code_span(prefix, first, last);
+    for key in codes.range((Bound::Included(first), Bound::Included(last))) {
+        wake(facts, revocations, outs, reuses, forest, key.code);
     }
 }
 
-// Writes the marks at the codes of a subject that start in the seconds from `first` to `last`. If
-// `first` is later than `last`, no code is looked at.
+// Writes the marks at the codes under the prefix of a subject's digest that start in the seconds
+// from `first` to `last`. If `first` is later than `last`, no code is looked at.
 pub(crate) fn wake_started(
     facts: &FactStore,
     revocations: &BTreeSet<Revocation>,
@@ -252,7 +237,7 @@ pub(crate) fn wake_started(
     outs: &BTreeSet<OutKey>,
     reuses: &BTreeSet<ReuseKey>,
     forest: &mut Forest,
-    subject: &[u8; 32],
+    prefix: u64,
     first: u64,
     last: u64,
 )
@@ -262,7 +247,7 @@ pub(crate) fn wake_started(
     requires links { (q : the_dot)
         → map.get forest.old.links q ≡ spec.links_in (map.get (held_facts facts.now)) q }
     ensures { Wakes (held_facts facts.now) forest.old
-        (λ q. nat_le first last && has (dots_of (codes_started codes.now subject.now first last)) q)
+        (λ q. nat_le first last && has (dots_of (codes_started codes.now prefix first last)) q)
         forest.new }
 {
     if first <= last {
@@ -273,7 +258,7 @@ pub(crate) fn wake_started(
             outs,
             reuses,
             forest,
-            subject,
+            prefix,
             first,
             last,
         );

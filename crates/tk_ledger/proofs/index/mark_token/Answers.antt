@@ -37,9 +37,9 @@ returns-in-Ok-clause-ok c = index_mark (held_facts c.args.facts.now) c.args.dot 
 
 pub returns-in-Err-clause-err : goal.returns-in-Err-clause-err
 returns-in-Err-clause-err c = index_back _ c.args.index.now c.args.index.now.revocations
-    c.args.index.now.codes c.args.index.now.outs c.list_reuse.new.reuses c.args.index.now.forest
-    c.requires.indexed c.requires.indexed.revocations_are
-    c.requires.indexed.codes_are c.requires.indexed.outs_are
+    c.args.index.now.codes c.args.index.now.logins c.args.index.now.outs c.list_reuse.new.reuses
+    c.args.index.now.forest c.requires.indexed c.requires.indexed.revocations_are
+    c.requires.indexed.codes_are c.requires.indexed.logins_are c.requires.indexed.outs_are
     (reuses_same (held_facts c.args.facts.now) c.args.dot c.args.index.now.reuses
     c.list_reuse.new.reuses c.requires.indexed.reuses_are c.in-Err.ensures.err)
     c.requires.indexed.tied

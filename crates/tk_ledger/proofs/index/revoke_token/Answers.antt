@@ -37,9 +37,9 @@ returns-in-Ok-clause-ok c = index_revoke (held_facts c.args.facts.now) c.args.do
 
 pub returns-in-Err-clause-err : goal.returns-in-Err-clause-err
 returns-in-Err-clause-err c = index_back _ c.args.index.now c.revoke.new.revocations
-    c.args.index.now.codes c.args.index.now.outs c.args.index.now.reuses c.args.index.now.forest
-    c.requires.indexed
+    c.args.index.now.codes c.args.index.now.logins c.args.index.now.outs c.args.index.now.reuses
+    c.args.index.now.forest c.requires.indexed
     (revocations_same (held_facts c.args.facts.now) c.args.dot c.args.index.now.revocations
     c.revoke.new.revocations c.requires.indexed.revocations_are c.in-Err.ensures.err)
-    c.requires.indexed.codes_are c.requires.indexed.outs_are c.requires.indexed.reuses_are
-    c.requires.indexed.tied
+    c.requires.indexed.codes_are c.requires.indexed.logins_are c.requires.indexed.outs_are
+    c.requires.indexed.reuses_are c.requires.indexed.tied

@@ -35,11 +35,11 @@ wake-requires-in-Mark-clause-links c = lost_links (held_facts c.args.facts.now) 
 
 pub returns-in-Issue : goal.returns-in-Issue
 returns-in-Issue c =
-    lost_code (held_facts c.args.facts.now) c.args.dot c.in-Issue.subject c.in-Issue.start
-    c.args.index.now c.drop_code.new.codes c.take.new.self
+    lost_code (held_facts c.args.facts.now) c.args.dot c.in-Issue.prefix c.in-Issue.start
+    c.args.index.now c.drop_code.new.codes c.drop_login.new.logins c.take.new.self
     (subst (λ (y : Change). WasIndexed (held_facts c.args.facts.now) c.args.dot y c.args.index.now)
     c.in-Issue.is c.requires.lost)
-    c.drop_code.ensures c.take.ensures.links c.take.ensures.marks
+    c.drop_code.ensures c.drop_login.ensures c.take.ensures.links c.take.ensures.marks
 
 pub returns-in-Put : goal.returns-in-Put
 returns-in-Put c =

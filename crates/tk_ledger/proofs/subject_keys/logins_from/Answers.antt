@@ -2,7 +2,7 @@ use Rattle.std.proofs.Common.{sym, subst, ◌∙◌}
 use Rattle.tk_handle.specs.declared.dot.Dot.{Dot}
 use Rattle.tk_handle.specs.Dot.{IsDot}
 use Rattle.tk_store.proofs.PutLaws.{some_injective, none_is_not_some}
-use Rattle.tk_ledger.proofs.subject_keys.codes_from.Goals as goal
+use Rattle.tk_ledger.proofs.subject_keys.logins_from.Goals as goal
 
 pub returns-in-Some-clause-ranged : goal.returns-in-Some-clause-ranged
 returns-in-Some-clause-ranged c = λ d h. subst (λ (x : Dot). IsDot x)
