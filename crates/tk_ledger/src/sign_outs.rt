@@ -80,7 +80,8 @@ fn tells_of(facts: &FactStore, but: Option<Dot>, subject: &Subject, key: &OutKey
     tells_by(sign_out_at(facts, but, key.place), subject, key.left)
 }
 
-// Returns the key of the last sign-out of the subject, but for the one that is left out.
+// Returns the key of the last sign-out of the subject, but for the one that is left out. If no
+// sign-out is held, no digest is computed.
 fn last_key<'a>(
     facts: &FactStore,
     outs: &'a BTreeSet<OutKey>,
@@ -92,6 +93,9 @@ fn last_key<'a>(
         (outs_of outs.now (sha256 subject.now)) }
     ensures sorted { IsOrdered out_cmp outs.now }
 {
+    if outs.is_empty() {
+        return None;
+    }
     let (first, last) = out_span(&subject_digest(subject));
     outs.range((Bound::Included(first), Bound::Included(last)))
         .find(|key| tells_of(facts, but, subject, key))
