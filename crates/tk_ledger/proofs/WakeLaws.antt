@@ -1,19 +1,20 @@
 -- The marks at dots are written anew. Key results:
 --   mark_set, mark_cleared     the marks after one more, and after one less
---   wakes_both, wakes_apart    the marks at one dot
+--   wakes_one, wakes_apart     the mark at one dot
 --   wakes_none, wakes_then     the marks at no dot, and at more dots
 --   wakes_more, wakes_whole    the loop over dots
 --   wakes_rest                 the loop over codes
 use Rattle.std.proofs.Common.{◌≡◌, ◌⊎◌, inl, inr, ℕ, ◌+◌, ◌<◌, ◌≤◌, Bool, true, false, ◌&&◌, ◌||◌}
-use Rattle.std.proofs.Common.{not, cond, List, [], ◌∷◌, ◌++◌, get_or, take, length, Some, is_some}
-use Rattle.std.proofs.Common.{Result, Ok, OnOk, refl, sym, ap, subst, ◌∙◌}
+use Rattle.std.proofs.Common.{not, cond, List, [], ◌∷◌, ◌++◌, get_or, take, length, Option, Some}
+use Rattle.std.proofs.Common.{None, is_some, Result, Ok, OnOk, refl, sym, ap, subst, ◌∙◌}
 use Rattle.std.proofs.lemmas.Bool.{true≢false, cases_Bool, false_from_ne_true, cond-true}
 use Rattle.std.proofs.lemmas.Bool.{cond-false}
 use Rattle.std.proofs.lemmas.List.{take_more, take_all}
 use Rattle.std.specs.FinMap as map
 use Rattle.std.specs.FinSet as set
+use Rattle.std.specs.Option.{option_and_then}
 use Rattle.tk_handle.specs.declared.dot.Dot.{Dot}
-use Rattle.tk_handle.specs.declared.kind.Kind.TheVariants as kind
+use Rattle.tk_handle.specs.declared.kind.Kind.{Kind}
 use Rattle.tk_handle.specs.declared.token_id.TokenId.{TokenId}
 use Rattle.tk_handle.specs.TokenId.{token_cmp}
 use Rattle.tk_family.specs.declared.link.Link.{Link}
@@ -25,11 +26,14 @@ use Rattle.tk_family.specs.Walks.{code_of}
 use Rattle.tk_family.proofs.LookUps.{mark_put}
 use Rattle.tk_family.proofs.Viewing.{tokens_total}
 use Rattle.tk_family.proofs.WalkLaws.{code_of-complete}
+use Rattle.tk_fact.specs.declared.body.Body.{Body}
+use Rattle.tk_fact.specs.declared.body.Body.TheVariants.{CodeIssued, CodeRedeemed, RefreshRotated}
 use Rattle.tk_store.specs.FactSet.{FactSet}
 use Rattle.tk_store.proofs.FactSetLaws.{tied}
+use Rattle.tk_store.proofs.PutLaws.{none_is_not_some, some_injective}
 use Rattle.tk_ledger.specs.Bodies.{is_same_dot, is_same_token}
-use Rattle.tk_ledger.specs.Tokens.{links_in, is_marked}
-use Rattle.tk_ledger.specs.Index.{Wakes}
+use Rattle.tk_ledger.specs.Tokens.{link_of, links_in, issued_in, issued_at, is_marked}
+use Rattle.tk_ledger.specs.Index.{grant_kind, Wakes}
 use Rattle.tk_ledger.specs.SubjectTables.{dots_of}
 use Rattle.tk_ledger.specs.declared.subject_keys.CodeKey.{CodeKey}
 use Rattle.tk_ledger.proofs.SameLaws.{same_token-true, same_token-itself}
@@ -72,15 +76,8 @@ mark_cleared x y j m is new k =
     ∙ less_cond (is_same_token j k) (set.contains x.marks k)
     ∙ ap (λ b. cond (is_same_token j k) b (set.contains x.marks k)) (sym is)
 
-abbrev code_at : Dot → TokenId
-code_at d = record { dot = d; kind = kind.Code }
-
-abbrev refresh_at : Dot → TokenId
-refresh_at d = record { dot = d; kind = kind.Refresh }
-
-never : (a : Bool) → (a && false) ≡ false
-never true = refl
-never false = refl
+abbrev pub token_at : Dot → Kind → TokenId
+token_at d n = record { dot = d; kind = n }
 
 elsewhere : (j k : TokenId) → dot_eq k.dot j.dot ≡ false → is_same_token j k ≡ false
 elsewhere j k apart = false_from_ne_true (is_same_token j k)
@@ -88,35 +85,38 @@ elsewhere j k apart = false_from_ne_true (is_same_token j k)
     (sym (at_itself k.dot) ∙ ap (λ (t : TokenId). dot_eq k.dot t.dot) (sym (same_token-true j k h))
     ∙ apart))
 
--- the marks of the code and the refresh token of a dot were written
-pub wakes_both : (F : FactSet) (x y z : ForestFacts) (d : Dot) → y.links ≡ x.links
-    → z.links ≡ y.links
+-- the grant at a dot with a link, by the code that was issued there, if one was
+grant_here : (F : FactSet) (q : Dot) (l : Link) → links_in (map.get F) q ≡ Some l
+    → grant_at q l ≡ token_at q (grant_kind (issued_at (map.get F) q))
+grant_here F q l h = by_body (map.get F q) h
+  where
+    by_body : (o : Option Body) → option_and_then link_of o ≡ Some l
+        → grant_at q l ≡ token_at q (grant_kind (option_and_then issued_in o))
+    by_body None h = absurd (none_is_not_some l h)
+    by_body (Some (CodeIssued f)) h = ap (grant_at q) (sym (some_injective Code l h))
+    by_body (Some (CodeRedeemed f)) h =
+        ap (grant_at q) (sym (some_injective (Redeems f.code) l h))
+    by_body (Some (RefreshRotated f)) h =
+        ap (grant_at q) (sym (some_injective (Rotates f.parent f.generation) l h))
+    by_body (Some body) h = absurd (none_is_not_some l h)
+
+-- the mark of the grant at a dot was written
+pub wakes_one : (F : FactSet) (x y : ForestFacts) (d : Dot) (n : Kind)
+    → n ≡ grant_kind (issued_at (map.get F) d)
+    → y.links ≡ x.links
     → ((k : TokenId)
     → set.contains y.marks k
-    ≡ cond (is_same_token (record { dot = d; kind = kind.Code }) k)
-    (is_marked F (record { dot = d; kind = kind.Code })) (set.contains x.marks k))
-    → ((k : TokenId)
-    → set.contains z.marks k
-    ≡ cond (is_same_token (record { dot = d; kind = kind.Refresh }) k)
-    (is_marked F (record { dot = d; kind = kind.Refresh })) (set.contains y.marks k))
-    → Wakes F x (λ q. dot_eq q d) z
-wakes_both F x y z d first second code refresh = record {
-  links = second ∙ first;
-  here = λ q c l at _ _. subst (λ (p : Dot).
-      set.contains z.marks (grant_at p l) ≡ is_marked F (grant_at p l)) (sym (tied q d at))
-      (written l);
-  there = λ k apart. refresh k ∙ cond-false _ _ _ (elsewhere (refresh_at d) k apart) ∙ code k
-      ∙ cond-false _ _ _ (elsewhere (code_at d) k apart);
+    ≡ cond (is_same_token (token_at d n) k) (is_marked F (token_at d n)) (set.contains x.marks k))
+    → Wakes F x (λ q. dot_eq q d) y
+wakes_one F x y d n is links marks = record {
+  links = links;
+  here = λ q c l at link _. subst (λ (k : TokenId). set.contains y.marks k ≡ is_marked F k)
+      (sym (grant_here F q l link
+      ∙ ap (λ (p : Dot). token_at p (grant_kind (issued_at (map.get F) p))) (tied q d at)
+      ∙ ap (token_at d) (sym is)))
+      (marks (token_at d n) ∙ cond-true _ _ _ (same_token-itself (token_at d n)));
+  there = λ k apart. marks k ∙ cond-false _ _ _ (elsewhere (token_at d n) k apart);
 }
-  where
-    written_refresh : set.contains z.marks (refresh_at d) ≡ is_marked F (refresh_at d)
-    written_refresh = refresh (refresh_at d) ∙ cond-true _ _ _ (same_token-itself (refresh_at d))
-
-    written : (l : Link) → set.contains z.marks (grant_at d l) ≡ is_marked F (grant_at d l)
-    written Code = refresh (code_at d) ∙ cond-false _ _ _ (never (is_same_dot d d))
-        ∙ code (code_at d) ∙ cond-true _ _ _ (same_token-itself (code_at d))
-    written (Redeems c) = written_refresh
-    written (Rotates p g) = written_refresh
 
 -- the links of a forest, as a whole
 pub links_path : (F : FactSet) (x : ForestFacts)

@@ -14,6 +14,7 @@
 --   IsReuses                           the table of reuses has what the set has
 --   IsTied                             a forest's links are those of the set, and its marks of all
 --                                      grants in a family
+--   grant_kind                         the kind of the grant at a dot
 --   Wakes                              the marks at some dots are written anew
 --   IsIndexed                          all tables, and the forest, are those of the set
 use Rattle.std.specs.Prelude.{◌≡◌, ℕ, Bool, true, false, ◌&&◌, not, List, Option, Some, None}
@@ -33,6 +34,8 @@ use Rattle.std.specs.FinMap as map
 use Rattle.std.specs.FinSet as set
 use Rattle.sha2.specs.Sha256.{sha256}
 use Rattle.tk_handle.specs.declared.dot.Dot.{Dot}
+use Rattle.tk_handle.specs.declared.kind.Kind.{Kind}
+use Rattle.tk_handle.specs.declared.kind.Kind.TheVariants as kind
 use Rattle.tk_handle.specs.declared.token_id.TokenId.{TokenId}
 use Rattle.tk_handle.specs.Dot.{IsDot, dot_cmp, least_dot, greatest_dot}
 use Rattle.tk_handle.specs.Kind.{kind_number}
@@ -40,6 +43,7 @@ use Rattle.tk_family.specs.declared.link.Link.{Link}
 use Rattle.tk_family.specs.Families.{IsUnder, grant_at}
 use Rattle.tk_family.specs.ForestFacts.{ForestFacts}
 use Rattle.tk_fact.specs.declared.body.Body.{Body}
+use Rattle.tk_fact.specs.declared.code_issued.CodeIssued as issued
 use Rattle.tk_fact.specs.declared.consent_given.ConsentGiven as given
 use Rattle.tk_store.specs.FactSet.{FactSet}
 use Rattle.tk_ledger.specs.Bodies.{is_same_dot}
@@ -225,6 +229,11 @@ pub record IsTied (F : FactSet) (x : ForestFacts) : Type 0 where
   pub marks : (q c : Dot) (l : Link) → links_in (map.get F) q ≡ Some l
       → IsUnder (links_in (map.get F)) q c
       → set.contains x.marks (grant_at q l) ≡ is_marked F (grant_at q l)
+
+-- the kind of the grant at a dot in a family: a code, if one was issued there, or a refresh token
+abbrev pub grant_kind : Option issued.CodeIssued → Kind
+grant_kind None = kind.Refresh
+grant_kind (Some code) = kind.Code
 
 -- the grants at the dots of `at` that are in a family are marked as in the set. Links, and marks at
 -- other dots, are as before

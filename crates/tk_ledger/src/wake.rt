@@ -2,7 +2,7 @@
 //! that their client revoked, and codes whose subject signed out, whichever fact arrives first.
 
 ghost use Rattle.std.specs.Prelude.{◌≡◌, ◌≤◌, ◌&&◌, nat_le, IsSome, cond};
-ghost use Rattle.std.specs.Option.{option_map};
+ghost use Rattle.std.specs.Option.{option_copied, option_map};
 ghost use Rattle.std.specs.FinMap as map;
 ghost use Rattle.std.specs.FinSet as set;
 ghost use Rattle.tk_handle.specs.declared.dot.Dot.{Dot as the_dot};
@@ -12,11 +12,11 @@ ghost use Rattle.tk_fact.specs.Tokens.{shown_minted};
 ghost use Rattle.tk_store.specs.StoreFields.{held_facts};
 ghost use Rattle.tk_ledger.specs.Bodies.{is_same_token};
 ghost use Rattle.tk_ledger.specs.ByTop.{ended_in};
-ghost use Rattle.tk_ledger.specs.Index.{IsRevocations, IsReuses, Wakes};
+ghost use Rattle.tk_ledger.specs.Index.{IsRevocations, IsReuses, Wakes, grant_kind};
 ghost use Rattle.tk_ledger.specs.SubjectTables.{IsOuts, codes_started, dots_of};
 ghost use Rattle.tk_ledger.specs.Tokens as spec;
 
-use crate::looks::{code_above, minted_at, root_above};
+use crate::looks::{code_above, issued_at, minted_at, root_above};
 use crate::reuses::{ReuseKey, is_reused};
 use crate::revocations::{Revocation, is_revoked};
 use crate::root::Root;
@@ -25,7 +25,7 @@ use crate::subject_keys::{CodeKey, OutKey, code_span};
 use std::alloc::AllocError;
 use std::collections::BTreeSet;
 use std::ops::Bound;
-use tk_fact::Minted;
+use tk_fact::{CodeIssued, Minted};
 use tk_family::Forest;
 use tk_handle::{Dot, Kind, TokenId};
 use tk_store::FactStore;
@@ -148,8 +148,18 @@ fn write_mark(
     set_mark(forest, token, marked);
 }
 
-// Writes the marks of the code and the refresh token of a dot, if the dot is under a code. This
-// allocates no memory.
+// Returns the kind of the grant at a dot in a family, by the code that was issued there, if any.
+fn grant_kind(code: Option<&CodeIssued>) -> Kind
+    ensures { result ≡ grant_kind (option_copied code.entry) }
+{
+    match code {
+        Some(_) => Kind::Code,
+        None => Kind::Refresh,
+    }
+}
+
+// Writes the mark of the grant of a dot, which is a code or a refresh token, if the dot is under a
+// code. This allocates no memory.
 pub(crate) fn wake(
     facts: &FactStore,
     revocations: &BTreeSet<Revocation>,
@@ -166,16 +176,11 @@ pub(crate) fn wake(
     ensures { Wakes (held_facts facts.now) forest.old (λ q. dot_eq q at) forest.new }
 {
     if code_above(forest, at).is_some() {
-        let code = TokenId {
+        let grant = TokenId {
             dot: at,
-            kind: Kind::Code,
+            kind: grant_kind(issued_at(facts, at)),
         };
-        let refresh = TokenId {
-            dot: at,
-            kind: Kind::Refresh,
-        };
-        write_mark(facts, revocations, outs, reuses, forest, code);
-        write_mark(facts, revocations, outs, reuses, forest, refresh);
+        write_mark(facts, revocations, outs, reuses, forest, grant);
     }
 }
 
