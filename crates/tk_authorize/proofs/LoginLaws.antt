@@ -11,7 +11,7 @@ use Rattle.tk_fact.specs.Tokens.{MintedFields}
 use Rattle.tk_fact.specs.declared.code_issued.CodeIssued as issued
 use Rattle.tk_fact.specs.declared.token_revoked.TokenRevoked as revoked
 use Rattle.tk_store.specs.FactSet.{FactSet}
-use Rattle.tk_ledger.specs.Logins.{code_token, ending_of, login_by, login_of, login_view}
+use Rattle.tk_ledger.specs.Logins.{code_token, ending_of, login_by_code, login_of, login_view}
 use Rattle.tk_ledger.specs.Logins.{minted_code}
 use Rattle.tk_ledger.specs.Status.{state_in}
 use Rattle.tk_ledger.specs.Tokens.{Root, is_dead, issued_at}
@@ -30,7 +30,7 @@ used_in : (F : FactSet) (now : ℕ) (k : TokenId) (minted : MintedFields) (root 
 used_in F now k minted root is = first_is (is_dead F root.code) _ is
 
 by_code : (F : FactSet) (now : ℕ) (d : Dot) (o : Option issued.CodeIssued) (l : LoginFields)
-    → login_by F now d o ≡ Some l → l.state ≡ state.Used → is_dead F d ≡ false
+    → login_by_code F now d o ≡ Some l → l.state ≡ state.Used → is_dead F d ≡ false
 by_code F now d None l is used = absurd (cc)
 by_code F now d (Some code) l is used = over (nat_le code.family_end now) is
   where

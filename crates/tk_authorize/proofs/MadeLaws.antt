@@ -69,7 +69,7 @@ carried_out_alone place (administered.Withdraws consent true) = tt
 carried_out_alone place (administered.Withdraws consent false) = tt
 carried_out_alone place (administered.AlreadyOut subject) = tt
 carried_out_alone place (administered.SignsOut sign_out) = tt
-carried_out_alone place (administered.EndsLogin login revocation) = tt
+carried_out_alone place (administered.LogsOut login revocation) = tt
 carried_out_alone place (administered.AlreadyEnded login) = tt
 
 pub administers_alone : (F : FactSet) (place : Place) (now : ℕ) (request : RequestFields)

@@ -208,7 +208,7 @@ module _ (F G : FactSet) (now : ℕ) (views : (d : Dot) → client_view F d ≡ 
         cond (has_twice sign_out_names params) (administered.Refused DuplicateParameter) x)
         (signed_out_same (value_of (codes "subject") params))
     administered_same endpoint.ShowSubject params = refl
-    administered_same endpoint.EndLogin params =
+    administered_same endpoint.Logout params =
         ap (λ (x : Administered).
         cond (has_twice logout_names params) (administered.Refused DuplicateParameter) x)
         (logged_out_same (value_of (codes "login_id") params))
@@ -233,7 +233,7 @@ module _ (F G : FactSet)
   chosen_same choices (administered.Withdraws consent live) = refl
   chosen_same choices (administered.AlreadyOut subject) = refl
   chosen_same choices (administered.SignsOut sign_out) = refl
-  chosen_same choices (administered.EndsLogin login revocation) = refl
+  chosen_same choices (administered.LogsOut login revocation) = refl
   chosen_same choices (administered.AlreadyEnded login) = refl
 
 pub administrations_same : (F G : FactSet) (place : Place) (now : ℕ) (request : RequestFields)

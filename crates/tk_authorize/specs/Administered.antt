@@ -386,7 +386,7 @@ administered_at endpoint.Consent F now params = consented_of F params
 administered_at endpoint.Withdraw F now params = withdrawn_of F params
 administered_at endpoint.SignOut F now params = signed_out_of F now params
 administered_at endpoint.ShowSubject F now params = Refused UnknownEndpoint
-administered_at endpoint.EndLogin F now params = logged_out_of F now params
+administered_at endpoint.Logout F now params = logged_out_of F now params
 
 -- the judgement of an administration request (own)
 abbrev pub administered_of : FactSet → ℕ → RequestFields → Administered

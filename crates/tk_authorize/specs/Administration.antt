@@ -48,7 +48,7 @@ use Rattle.tk_authorize.specs.declared.administered.Administered.TheVariants.{
   Withdraws,
   AlreadyOut,
   SignsOut,
-  EndsLogin,
+  LogsOut,
   AlreadyEnded,
 }
 use Rattle.tk_authorize.specs.Administered.{administered_of}
@@ -139,7 +139,7 @@ administered_by place (HasConsent consent) = decided_held consent
 administered_by place (Withdraws consent live) = decided_withdrawn consent live
 administered_by place (AlreadyOut subject) = answered (json_reply status.Ok (subject_body subject))
 administered_by place (SignsOut sign_out) = decided_out sign_out
-administered_by place (EndsLogin login revocation) = decided_ended login revocation
+administered_by place (LogsOut login revocation) = decided_ended login revocation
 administered_by place (AlreadyEnded login) = answered (json_reply status.Ok (login_body login))
 
 -- the decision of an administration request (own)

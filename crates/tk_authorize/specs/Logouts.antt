@@ -23,14 +23,14 @@ use Rattle.tk_authorize.specs.declared.admin_refusal.AdminRefusal.TheVariants.{
 use Rattle.tk_authorize.specs.declared.administered.Administered.{Administered}
 use Rattle.tk_authorize.specs.declared.administered.Administered.TheVariants.{
   Refused,
-  EndsLogin,
+  LogsOut,
   AlreadyEnded,
 }
 
 -- the judgement of a login whose code was redeemed, by the revocation that ends it (RFC 7009, 2.1)
 abbrev pub ended_by : Dot → Option revoked.TokenRevoked → Administered
 ended_by d None = Refused UnredeemedCode
-ended_by d (Some revocation) = EndsLogin d revocation
+ended_by d (Some revocation) = LogsOut d revocation
 
 -- the judgement by the login's state: one whose code was redeemed is ended; of one that is dead or
 -- withdrawn nothing is left to end; another one's code wasn't redeemed here (own)

@@ -15,7 +15,7 @@ use Rattle.tk_authorize.specs.declared.administered.Administered.TheVariants.{
   Withdraws,
   AlreadyOut,
   SignsOut,
-  EndsLogin,
+  LogsOut,
   AlreadyEnded,
 }
 
@@ -30,5 +30,5 @@ IsSoundAdministered (HasConsent consent) = Unit {0}
 IsSoundAdministered (Withdraws consent live) = Unit {0}
 IsSoundAdministered (AlreadyOut subject) = Unit {0}
 IsSoundAdministered (SignsOut sign_out) = refusal_of (SubjectOut sign_out) ≡ None
-IsSoundAdministered (EndsLogin login revocation) = refusal_of (TokenRevoked revocation) ≡ None
+IsSoundAdministered (LogsOut login revocation) = refusal_of (TokenRevoked revocation) ≡ None
 IsSoundAdministered (AlreadyEnded login) = Unit {0}

@@ -33,24 +33,24 @@ abbrev pub subject_names : List (List ℕ)
 subject_names = codes "subject" ∷ codes "consents_after" ∷ codes "logins_after" ∷ []
 
 -- the dot of a consent id, whether or not a consent has it, or a refusal if the text is none (own)
-abbrev pub consent_by : Option Dot → Result (Option Dot) AdminRefusal
-consent_by None = Err UnknownConsent
-consent_by (Some consent) = Ok (Some consent)
+abbrev pub consent_cursor : Option Dot → Result (Option Dot) AdminRefusal
+consent_cursor None = Err UnknownConsent
+consent_cursor (Some consent) = Ok (Some consent)
 
 -- the dot of the consent id that may be sent (own)
 abbrev pub consents_after : Option (List ℕ) → Result (Option Dot) AdminRefusal
 consents_after None = Ok None
-consents_after (Some id) = consent_by (consent_in id)
+consents_after (Some id) = consent_cursor (consent_in id)
 
 -- the dot of a login id, whether or not a login has it, or a refusal if the text is none (own)
-abbrev pub login_by : Option Dot → Result (Option Dot) AdminRefusal
-login_by None = Err UnknownLogin
-login_by (Some login) = Ok (Some login)
+abbrev pub login_cursor : Option Dot → Result (Option Dot) AdminRefusal
+login_cursor None = Err UnknownLogin
+login_cursor (Some login) = Ok (Some login)
 
 -- the dot of the login id that may be sent (own)
 abbrev pub logins_after : Option (List ℕ) → Result (Option Dot) AdminRefusal
 logins_after None = Ok None
-logins_after (Some id) = login_by (login_in id)
+logins_after (Some id) = login_cursor (login_in id)
 
 -- what is requested of the subject, by the two dots; the consent is judged first (own)
 abbrev pub asked_behind : List ℕ → Result (Option Dot) AdminRefusal

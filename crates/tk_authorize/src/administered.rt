@@ -25,7 +25,7 @@ pub(crate) enum Administered {
     AlreadyOut(Subject),
     SignsOut(SubjectOut),
     // Ends the login that the code of the dot began, by this revocation.
-    EndsLogin(Dot, TokenRevoked),
+    LogsOut(Dot, TokenRevoked),
     // The login is dead already, or its client or consent isn't live.
     AlreadyEnded(Dot),
 }
@@ -79,6 +79,6 @@ pub(crate) fn administer(
         Endpoint::Consent => consent(alloc, ledger, &request.params),
         Endpoint::Withdraw => Ok(withdraw(ledger, &request.params)),
         Endpoint::SignOut => sign_out(alloc, ledger, now, &request.params),
-        Endpoint::EndLogin => Ok(log_out(ledger, now, &request.params)),
+        Endpoint::Logout => Ok(log_out(ledger, now, &request.params)),
     }
 }

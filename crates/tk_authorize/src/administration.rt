@@ -65,7 +65,7 @@ fn decide_by(
         Administered::Withdraws(consent, live) => decide_withdrawn(alloc, consent, live),
         Administered::AlreadyOut(subject) => decide_already_out(alloc, &subject),
         Administered::SignsOut(sign_out) => decide_out(alloc, sign_out),
-        Administered::EndsLogin(login, revocation) => decide_ended(alloc, login, revocation),
+        Administered::LogsOut(login, revocation) => decide_ended(alloc, login, revocation),
         Administered::AlreadyEnded(login) => decide_already_ended(alloc, login),
     }
 }
@@ -179,7 +179,7 @@ fn decide_out(alloc: Global, sign_out: SubjectOut) -> Result<Decision, AllocErro
 
 // Ends a login, by the revocation of its refresh token.
 fn decide_ended(alloc: Global, login: Dot, revocation: TokenRevoked) -> Result<Decision, AllocError>
-    requires { IsSoundAdministered (Administered.EndsLogin login revocation) }
+    requires { IsSoundAdministered (Administered.LogsOut login revocation) }
     ensures value { IfOk result (λ d. d ≡ spec.decided_ended login revocation) }
     ensures passes { IfOk result (λ d. Passes d.made) }
 {

@@ -35,7 +35,7 @@ pub(crate) fn choose(
         | Administered::Withdraws(_, _)
         | Administered::AlreadyOut(_)
         | Administered::SignsOut(_)
-        | Administered::EndsLogin(_, _)
+        | Administered::LogsOut(_, _)
         | Administered::AlreadyEnded(_) => Ok(judged),
     }
 }

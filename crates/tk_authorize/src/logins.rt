@@ -74,7 +74,7 @@ fn end_by(code: Dot, ending: Option<TokenRevoked>) -> Administered
     ensures sound { IsSoundAdministered result }
 {
     match ending {
-        Some(revocation) => Administered::EndsLogin(code, revocation),
+        Some(revocation) => Administered::LogsOut(code, revocation),
         None => Administered::Refused(AdminRefusal::UnredeemedCode),
     }
 }

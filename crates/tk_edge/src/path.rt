@@ -304,7 +304,7 @@ impl Path {
             Path::Consent => form_for(Endpoint::Consent),
             Path::Withdraw => form_for(Endpoint::Withdraw),
             Path::SignOut => form_for(Endpoint::SignOut),
-            Path::Logout => form_for(Endpoint::EndLogin),
+            Path::Logout => form_for(Endpoint::Logout),
             Path::Pull => Some(Service::Body(Posted::Pull)),
             Path::Push => Some(Service::Body(Posted::Push)),
         }

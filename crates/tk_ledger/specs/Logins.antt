@@ -50,15 +50,15 @@ login_of F now d code = record {
 }
 
 -- the login that the code, if there is one, began, unless its family is over at the moment (own)
-abbrev pub login_by : FactSet → ℕ → Dot → Option issued.CodeIssued → Option LoginFields
-login_by F now d None = None
-login_by F now d (Some code) =
+abbrev pub login_by_code : FactSet → ℕ → Dot → Option issued.CodeIssued → Option LoginFields
+login_by_code F now d None = None
+login_by_code F now d (Some code) =
     if nat_le code.family_end now then None else Some (login_of F now d code)
 
 -- the login that the code of the dot began, if one was issued there, unless its family is over at
 -- the moment (own)
 abbrev pub login_view : FactSet → ℕ → Dot → Option LoginFields
-login_view F now d = login_by F now d (issued_at (map.get F) d)
+login_view F now d = login_by_code F now d (issued_at (map.get F) d)
 
 -- ---- the end of a login
 

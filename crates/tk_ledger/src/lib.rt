@@ -3,8 +3,7 @@
 //! A `Ledger` holds the facts of one region, in a `FactStore`, and tables beside it, the `Index`,
 //! which no crate above sees. Facts may be from anyone and arrive in any order, and be skipped in
 //! any order: each look-up returns what the facts that are held determine, without memory. At a
-//! skipped dot each status is wrong. The ledger decides no request, reads no bytes and has no
-//! clock.
+//! skipped dot each status is wrong. The ledger decides no request, and has no bytes and no clock.
 //!
 //! - `add` adds a fact or refuses it. `Join` joins two ledgers, as their stores are.
 //! - `skip` drops a fact for good and keeps its dot known. `prune` skips all facts of families that
@@ -17,9 +16,7 @@
 //!
 //! In reading order: `Ledger`, `ClientView`, `ConsentView`, `Status`, `Standing`, `State`,
 //! `LoginView`; `index` for the tables and the change that a fact makes in them, `wake` for the
-//! marks of a dot.
-//! `specs/Lib.antt` lists the definitions. The functions of `laws` have empty bodies: they state
-//! the laws in `specs/Laws.antt`.
+//! marks of a dot. `specs/Lib.antt` lists the definitions; `laws` states the laws.
 #![tactic(auto)]
 
 mod change;

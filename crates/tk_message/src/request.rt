@@ -31,7 +31,7 @@ pub enum Endpoint {
     /// GET `/admin/subject`: list the consents and the logins of a subject.
     ShowSubject,
     /// POST `/admin/logout`: end a login.
-    EndLogin,
+    Logout,
 }
 
 /// A request, read from its head and body. Contracts see the bytes of its parts.

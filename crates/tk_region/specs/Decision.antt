@@ -11,7 +11,7 @@ use Rattle.tk_message.specs.declared.request.Endpoint.TheVariants.{Authorize, To
 use Rattle.tk_message.specs.declared.request.Endpoint.TheVariants.{Revoke, AddClient, ShowClient}
 use Rattle.tk_message.specs.declared.request.Endpoint.TheVariants.{Retire, Consent, Withdraw}
 use Rattle.tk_message.specs.declared.request.Endpoint.TheVariants.{ListClients, SignOut}
-use Rattle.tk_message.specs.declared.request.Endpoint.TheVariants.{ShowSubject, EndLogin}
+use Rattle.tk_message.specs.declared.request.Endpoint.TheVariants.{ShowSubject, Logout}
 use Rattle.tk_message.specs.RequestFields.{RequestFields}
 use Rattle.tk_message.specs.Decision.{answered, refused}
 use Rattle.tk_authorize.specs.Administration.{administration_of}
@@ -39,7 +39,7 @@ decision_by Consent P place now words request = administration_of (held_facts P)
 decision_by Withdraw P place now words request = administration_of (held_facts P) place now request
 decision_by SignOut P place now words request = administration_of (held_facts P) place now request
 decision_by ShowSubject P place now words request = subject_of (held_facts P) now request.params
-decision_by EndLogin P place now words request = administration_of (held_facts P) place now request
+decision_by Logout P place now words request = administration_of (held_facts P) place now request
 
 -- the decision of a request, without regard to the cap
 abbrev pub decision_of : StoreFields → Place → ℕ → List ℕ → RequestFields → Decision

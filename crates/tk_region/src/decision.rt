@@ -40,7 +40,7 @@ pub(crate) fn decide_endpoint(
         | Endpoint::Consent
         | Endpoint::Withdraw
         | Endpoint::SignOut
-        | Endpoint::EndLogin => decide_admin(alloc, ledger, place, now, request),
+        | Endpoint::Logout => decide_admin(alloc, ledger, place, now, request),
     }
 }
 

@@ -124,7 +124,7 @@ module _ (P : StoreFields) (U F : FactSet) (S : StandsFor P U F) (sound : AreSou
       subjects_same H F now request.params (subject_consents_same P U F S)
       (subject_logins_same P U F S sound now soon) (signed_out_same P U F S)
       ∙ ap (λ (G : FactSet). subject_of G now request.params) (sym back))
-  by_endpoint endpoint.EndLogin request = inl (administered request)
+  by_endpoint endpoint.Logout request = inl (administered request)
 
 pub decision_stands : (P : StoreFields) (U F : FactSet) → StandsFor P U F → AreSound U
     → (place : Place) (now : ℕ) → P.horizon ≤ now → (words : List ℕ) (request : RequestFields)

@@ -20,7 +20,7 @@ use Rattle.tk_store.specs.FactSet.{FactSet}
 use Rattle.tk_store.specs.StoreFields.{StoreFields, held_facts}
 use Rattle.tk_store.proofs.EntryLaws.{AllIn-entries}
 use Rattle.tk_store.proofs.PutLaws.{some_injective}
-use Rattle.tk_ledger.specs.Logins.{code_token, minted_code, login_of, login_by, login_view}
+use Rattle.tk_ledger.specs.Logins.{code_token, minted_code, login_of, login_by_code, login_view}
 use Rattle.tk_ledger.specs.Logins.{revocation_by, redemption_of, ending_by, ending_of}
 use Rattle.tk_ledger.specs.Status.{state_in}
 use Rattle.tk_ledger.specs.SubjectWalk.{live_by, consents_of, is_issued_to, logins_of}
@@ -168,10 +168,11 @@ module _ (P : StoreFields) (U F : FactSet) (S : StandsFor P U F) where
 
     -- a login of a family that is over isn't there
     gone : (G : FactSet) (code : issued.CodeIssued) → code.family_end ≤ now
-        → (o : Option issued.CodeIssued) → (o ≡ None) ⊎ (o ≡ Some code) → login_by G now d o ≡ None
-    gone G code over o (inl none) = ap (login_by G now d) none
+        → (o : Option issued.CodeIssued) → (o ≡ None) ⊎ (o ≡ Some code)
+        → login_by_code G now d o ≡ None
+    gone G code over o (inl none) = ap (login_by_code G now d) none
     gone G code over o (inr some) =
-        ap (login_by G now d) some
+        ap (login_by_code G now d) some
         ∙ cond-true (nat_le code.family_end now) None (Some (login_of G now d code))
         (le-leb code.family_end now over)
 
@@ -190,13 +191,13 @@ module _ (P : StoreFields) (U F : FactSet) (S : StandsFor P U F) where
         by_code : (o : Option issued.CodeIssued) → issued_at (map.get F) d ≡ o
             → login_view H now d ≡ login_view F now d
         by_code None at =
-            ap (login_by H now d) (none_held d at) ∙ sym (ap (login_by F now d) at)
+            ap (login_by_code H now d) (none_held d at) ∙ sym (ap (login_by_code F now d) at)
         by_code (Some code) at = elim (cases_lt now code.family_end) [
           | inl early ↦
-              ap (login_by H now d) (issued_same code at early)
+              ap (login_by_code H now d) (issued_same code at early)
               ∙ ap (λ (l : LoginFields).
               cond (nat_le code.family_end now) None (Some l)) (login_same code at early)
-              ∙ sym (ap (login_by F now d) at)
+              ∙ sym (ap (login_by_code F now d) at)
           | inr over ↦
               gone H code over (issued_at (map.get H) d) (none_or code at)
               ∙ sym (gone F code over (issued_at (map.get F) d) (inr at))
@@ -234,7 +235,7 @@ module _ (P : StoreFields) (U F : FactSet) (S : StandsFor P U F) where
     pub ending_same : (login : LoginFields) → login_view F now d ≡ Some login
         → login.state ≡ state.Used → ending_of H d ≡ ending_of F d
     ending_same login there used = by_code (issued_at (map.get F) d) refl
-        (sym (ap (login_by F now d) refl) ∙ there)
+        (sym (ap (login_by_code F now d) refl) ∙ there)
       where
         not_used : ¬ (state.Dead ≡ state.Used)
         not_used h = cc
@@ -245,17 +246,17 @@ module _ (P : StoreFields) (U F : FactSet) (S : StandsFor P U F) where
             ∙ ap (λ (l : LoginFields). l.state) same ∙ used))
 
         by_code : (o : Option issued.CodeIssued) → issued_at (map.get F) d ≡ o
-            → login_by F now d (issued_at (map.get F) d) ≡ Some login
+            → login_by_code F now d (issued_at (map.get F) d) ≡ Some login
             → ending_of H d ≡ ending_of F d
         by_code None at shown =
-            absurd (none_some (login_by F now d (issued_at (map.get F) d)) login
-            (ap (login_by F now d) at) shown)
+            absurd (none_some (login_by_code F now d (issued_at (map.get F) d)) login
+            (ap (login_by_code F now d) at) shown)
         by_code (Some code) at shown = elim (cases_lt now code.family_end) [
           | inl early ↦ ends_same code at early
               (alive code (some_injective (login_of F now d code) login
               (sym (cond-false (nat_le code.family_end now) None (Some (login_of F now d code))
-              (not_yet now code.family_end early)) ∙ sym (ap (login_by F now d) at) ∙ shown)))
-          | inr over ↦ absurd (none_some (login_by F now d (issued_at (map.get F) d)) login
+              (not_yet now code.family_end early)) ∙ sym (ap (login_by_code F now d) at) ∙ shown)))
+          | inr over ↦ absurd (none_some (login_by_code F now d (issued_at (map.get F) d)) login
               (gone F code over (issued_at (map.get F) d) (inr at)) shown)
         ]
 

@@ -82,7 +82,7 @@ module _ (P : StoreFields) (place : Place) (now : ℕ) (words : List ℕ)
   made_within endpoint.SignOut = administered
   made_within endpoint.ShowSubject = subst (λ (o : Option Body). IfSome o (IsWithin (held_facts P)))
       (sym (shows_alone (held_facts P) now request.params)) tt
-  made_within endpoint.EndLogin = administered
+  made_within endpoint.Logout = administered
 
   prepares_at : (d : Decision) → MakesWithin (held_facts P) d
       → IfSome (prepared_at (next_in place) d).fact (λ f. IsWithin (held_facts P) f.1)

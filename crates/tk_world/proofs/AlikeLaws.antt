@@ -77,7 +77,7 @@ kept_decides k place now words request = by request.endpoint
     by endpoint.Withdraw = refl
     by endpoint.SignOut = refl
     by endpoint.ShowSubject = refl
-    by endpoint.EndLogin = refl
+    by endpoint.Logout = refl
 
 module _ (n : ℕ) (settings : SettingsFields) (U : FactSet) (P : StoreFields) (k : Kept)
     (SP : StandsFor P U k.facts) (within : IsSubset k.facts U) (sound : AreSound U) where
