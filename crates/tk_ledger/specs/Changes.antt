@@ -1,8 +1,8 @@
 -- The change that one fact makes in the tables of a ledger (own).
---   digest_prefix the beginning of a subject's digest, which is in the keys of its codes
---   change_in     the change that the fact of a body makes
+--   digest_prefix   the beginning of a subject's digest, which is in the keys of its codes
+--   change_in       the change that the fact of a body makes
 --   adds, retires_of, gives_to, withdraws_of, revokes_of, reuses_of
---                 the change adds a client, retires it, and so on
+--                   the change adds a client, retires it, and so on
 use Rattle.std.specs.Prelude.{ℕ, Bool, true, false, ◌&&◌, List, take}
 use Rattle.std.specs.Int.{w64, from_be_bytes}
 use Rattle.std.specs.Str.{bytes_eq}

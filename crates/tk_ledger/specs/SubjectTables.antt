@@ -1,14 +1,14 @@
 -- The tables of what subjects have, beside the facts (own): codes by their starts, logins by the
 -- dots of their codes, and sign-outs.
---   code_cmp, code_key        the keys of codes, and their order
---   codes_started             the keys of the codes that start in some seconds
---   dots_of                   the dots of codes
---   login_cmp, login_key      the keys of logins, and their order
---   logins_above              the keys of logins above a dot
---   out_cmp, out_key          the keys of sign-outs, and their order
---   outs_of                   the keys of the sign-outs of one subject
---   IsCodes, IsLogins, IsOuts each table has what the set has
---   tells_of                  the sign-out of a key is one of the subject
+--   code_cmp, code_key          the keys of codes, and their order
+--   codes_started               the keys of the codes that start in some seconds
+--   dots_of                     the dots of codes
+--   login_cmp, login_key        the keys of logins, and their order
+--   logins_above                the keys of logins above a dot
+--   out_cmp, out_key            the keys of sign-outs, and their order
+--   outs_of                     the keys of the sign-outs of one subject
+--   IsCodes, IsLogins, IsOuts   each table has what the set has
+--   tells_of                    the sign-out of a key is one of the subject
 use Rattle.std.specs.Prelude.{
   map as map_list,
   ◌≡◌,
