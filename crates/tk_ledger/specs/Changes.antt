@@ -29,7 +29,7 @@ use Rattle.tk_ledger.specs.declared.change.Change.{Change}
 use Rattle.tk_ledger.specs.declared.change.Change.TheVariants as change
 
 -- the first 8 bytes of a digest, as a number (own): the keys of codes and logins have these alone.
--- Two subjects may have the same, and whoever reads the keys of one passes over those of the other
+-- The keys of subjects whose digests begin alike are mixed
 unfoldable pub digest_prefix : List ℕ → ℕ
 digest_prefix digest = from_be_bytes w64 (take 8 digest)
 
