@@ -41,6 +41,7 @@ use Rattle.tk_edge.specs.declared.exchange.Exchange.TheVariants.{Vector, Pull, P
 use Rattle.tk_edge.specs.declared.hear.Arrival.{Arrival}
 use Rattle.tk_edge.specs.declared.hear.Arrival.TheVariants.{Silence, Refused, Request, Exchange}
 use Rattle.tk_edge.specs.declared.hear.Arrival.TheVariants.{Notice}
+use Rattle.tk_edge.specs.declared.pull.Pages.{Pages}
 use Rattle.tk_edge.specs.declared.reach.Reach.{Reach}
 use Rattle.tk_edge.specs.declared.reach.PathSet.TheVariants.{Admin, All}
 use Rattle.tk_edge.specs.declared.refusal.Refusal.{Refusal}
@@ -97,7 +98,7 @@ pub short_of : (reach : Reach) (terms : TermsFields) (known : Option (List ℕ))
     → Arrives reach known came
     → Answers terms old now words came (Err e) new → IsShort reach terms now known old new
 short_of reach terms known now words (Exchange Vector) old new e arrives told = inl told
-short_of reach terms known now words (Exchange (Pull sent)) old new e arrives told = inl told
+short_of reach terms known now words (Exchange (Pull pages sent)) old new e arrives told = inl told
 short_of reach terms known now words (Exchange (Push sent)) old new e arrives told =
     inr (sent, arrives, told.0, told.1)
 short_of reach terms known now words came old new e arrives told = inl told
@@ -127,12 +128,12 @@ short_answer reach terms bytes now words came old new (Err e) is may told =
     some_is b same = cc
 
 -- replying to a pull with a page changes nothing
-pub pulls : (terms : TermsFields) (now : ℕ) (r : RegionFields) (sent : List ℕ)
+pub pulls : (terms : TermsFields) (now : ℕ) (r : RegionFields) (pages : Pages) (sent : List ℕ)
     (result : Result AnswerFields AllocError)
-    → IfOk result (λ a. a ≡ rendered (page_reply r.facts (whole wanted sent)) None None)
-    → Exchanges terms now r (Pull sent) result r
-pulls terms now r sent (Ok a) h = (h, refl)
-pulls terms now r sent (Err e) h = refl
+    → IfOk result (λ a. a ≡ rendered (page_reply pages r.facts (whole wanted sent)) None None)
+    → Exchanges terms now r (Pull pages sent) result r
+pulls terms now r pages sent (Ok a) h = (h, refl)
+pulls terms now r pages sent (Err e) h = refl
 
 -- a fault as the result of a connection
 abbrev fails : Fault → Result Served Fault
@@ -176,7 +177,7 @@ module _ (asked : Asked) (came : Arrival) (old new : RegionFields) (log : Change
         told.2,
       )
       by (Exchange (Push sent)) true arrives told = inr (sent, arrives, told)
-      by (Exchange (Pull sent)) true arrives told = inl (told.1, told.2)
+      by (Exchange (Pull pages sent)) true arrives told = inl (told.1, told.2)
       by (Exchange Vector) true arrives told = inl (told.1, told.2)
       by Silence true arrives told = inl (told.1, told.2)
       by (Refused why) true arrives told = inl (told.1, told.2)

@@ -17,5 +17,5 @@ form_within Admin size le = le
 pub size_within : (reach : Reach) (posted : Posted) (size : ℕ) → MayPost reach posted
     → size ≤ limit_of posted → size ≤ body_limit reach.paths
 size_within reach (Form endpoint) size h le = form_within reach.paths size le
-size_within reach Pull size h le = subst (λ (s : PathSet). size ≤ body_limit s) (sym h) le
+size_within reach (Pull pages) size h le = subst (λ (s : PathSet). size ≤ body_limit s) (sym h) le
 size_within reach Push size h le = subst (λ (s : PathSet). size ≤ body_limit s) (sym h) le

@@ -309,7 +309,7 @@ posted_takes reach bytes taken posted body pairs (Ok came) one e =
   where
     of : (p : Posted) → Takes reach bytes (posted_to p body pairs) taken
     of (Form endpoint) = one
-    of Pull = one
+    of (Pull pages) = one
     of Push = one
 posted_takes reach bytes taken posted body pairs (Err error) one e = tt
 

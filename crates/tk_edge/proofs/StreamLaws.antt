@@ -24,10 +24,10 @@ use Rattle.tk_edge.specs.declared.field.Fields.{Fields}
 use Rattle.tk_edge.specs.Heard.{posted_to, arrival_by, arrival_of, headless, IsArrival, MayArrive}
 use Rattle.tk_edge.specs.Heard.{Arrives}
 use Rattle.tk_edge.specs.Judged.{judged_of, at_path, at_service, asked, with_body, sized, fits_type}
-use Rattle.tk_edge.specs.Judged.{limit_of, MayPost, MayTell, MayAsk}
+use Rattle.tk_edge.specs.Judged.{limit_of, by_query, MayPost, MayTell, MayAsk}
 use Rattle.tk_edge.specs.Laws.{HasOneMeaning, HearsAll}
-use Rattle.tk_edge.specs.Paths.{path_of, path_named, client_named, admin_named, sync_named}
-use Rattle.tk_edge.specs.Paths.{logins_named}
+use Rattle.tk_edge.specs.Paths.{path_of, query_of, path_named, client_named, admin_named}
+use Rattle.tk_edge.specs.Paths.{logins_named, sync_named}
 use Rattle.tk_edge.specs.Paths.{has_metrics, notice_named, beside_clients, inner_named}
 use Rattle.tk_edge.specs.Paths.{method_named, service_at}
 use Rattle.tk_format.specs.Numerals.{is_numeral, numeral_up_to}
@@ -83,7 +83,7 @@ has_one_meaning reach bytes a b (inr (h, rest, reads, has, p)) (inr (k, more, re
 speaks_to : (posted : Posted) (body : List ℕ) (pairs : Pairs)
     → Silence ≡ posted_to posted body pairs → ⊥
 speaks_to (Form endpoint) body pairs e = absurd (cc)
-speaks_to Pull body pairs e = absurd (cc)
+speaks_to (Pull pages) body pairs e = absurd (cc)
 speaks_to Push body pairs e = absurd (cc)
 
 speaks : (target : List ℕ) (pairs : Pairs) (rest : List ℕ) (judged : Judged)
@@ -273,10 +273,21 @@ may_at_path : (reach : Reach) (o : Option Path) (m : Option Method) (pairs : Pai
 may_at_path reach None m pairs h = tt
 may_at_path reach (Some p) m pairs h = may_at reach p (service_at p m) pairs (may_do reach p m h)
 
+may_by : (reach : Reach) (query : List ℕ) (judged : Judged) → MayAsk reach judged
+    → MayAsk reach (by_query query judged)
+may_by reach query (Refused why) h = h
+may_by reach query (Query e) h = h
+may_by reach query Vector h = h
+may_by reach query (Notice notice) h = h
+may_by reach query (Body (Form e) n) h = h
+may_by reach query (Body (Pull pages) n) h = h
+may_by reach query (Body Push n) h = h
+
 may_ask : (reach : Reach) (method target : List ℕ) (pairs : Pairs)
     → MayAsk reach (judged_of reach method target pairs)
 may_ask reach method target pairs =
-    may_at_path reach _ (method_named method) pairs (may_serve reach (path_of target))
+    may_by reach (query_of target) _
+    (may_at_path reach _ (method_named method) pairs (may_serve reach (path_of target)))
 
 -- a judgement requests an exchange only if all paths are served, whatever fields were read
 pub judged_may : (reach : Reach) (method target : List ℕ) (fields : Fields) (pairs : Pairs)
@@ -290,7 +301,7 @@ judged_may reach method target fields pairs judged are told =
 by_posted : (reach : Reach) (posted : Posted) (body : List ℕ) (pairs : Pairs) → MayPost reach posted
     → MayArrive reach (posted_to posted body pairs)
 by_posted reach (Form e) body pairs h = tt
-by_posted reach Pull body pairs h = h
+by_posted reach (Pull pages) body pairs h = h
 by_posted reach Push body pairs h = h
 
 by_judged : (reach : Reach) (target : List ℕ) (pairs : Pairs) (rest : List ℕ) (judged : Judged)

@@ -1,5 +1,6 @@
 -- The reply to another region, and what its request does to this one (own).
 --   TellsVector     the answer has the bytes of the front
+--   page_for        the page that a pull requests, plain or with runs
 --   page_reply      the reply to a pull: the bundle of a page
 --   unread_code     the name of the error for bytes that can't be read
 --   refusal_code    the name of the error for a bundle that isn't taken in
@@ -19,7 +20,8 @@ use Rattle.tk_store.specs.Front.{IsFront}
 use Rattle.tk_store.specs.Slots.{Slots}
 use Rattle.tk_store.specs.StoreFields.{StoreFields}
 use Rattle.tk_bundle.specs.Bundle.{bundle, bundle_bytes}
-use Rattle.tk_bundle.specs.Page.{page_of}
+use Rattle.tk_bundle.specs.Page.{PageFields, page_of}
+use Rattle.tk_bundle.specs.RunPage.{run_page_of}
 use Rattle.tk_message.specs.Place.{next_in}
 use Rattle.tk_message.specs.Bodies.{taken_body}
 use Rattle.tk_message.specs.Reply.{bytes_reply, error_reply, json_reply}
@@ -41,6 +43,8 @@ use Rattle.tk_edge.specs.declared.ahead.PushError.{PushError}
 use Rattle.tk_edge.specs.declared.ahead.PushError.TheVariants.{HorizonAhead, OutOfRange, Take}
 use Rattle.tk_edge.specs.declared.exchange.Exchange.{Exchange}
 use Rattle.tk_edge.specs.declared.exchange.Exchange.TheVariants.{Vector, Pull, Push}
+use Rattle.tk_edge.specs.declared.pull.Pages.{Pages}
+use Rattle.tk_edge.specs.declared.pull.Pages.TheVariants.{Plain, WithRuns}
 use Rattle.tk_edge.specs.declared.pull.Wanted.{Wanted}
 
 -- the answer has the bytes of the front of the dots known, which fits into bytes
@@ -49,10 +53,15 @@ TellsVector S answer =
     (v : AnyVector) × IsFront S v × vector.Fits v
     × (answer ≡ rendered (bytes_reply (vector_bytes v)) None None)
 
+-- the page of a store that a pull requests
+abbrev pub page_for : Pages → StoreFields → Wanted → PageFields
+page_for Plain P w = page_of P w.vector w.after
+page_for WithRuns P w = run_page_of P w.vector w.after
+
 -- the reply to a pull: the bundle of a page, or the error for bytes that are no pull
-abbrev pub page_reply : StoreFields → Option Wanted → ReplyFields
-page_reply P None = error_reply code.Malformed
-page_reply P (Some w) = bytes_reply (bundle_bytes (page_of P w.vector w.after).bundle)
+abbrev pub page_reply : Pages → StoreFields → Option Wanted → ReplyFields
+page_reply pages P None = error_reply code.Malformed
+page_reply pages P (Some w) = bytes_reply (bundle_bytes (page_for pages P w).bundle)
 
 -- The bundle that the bytes spell is taken in or refused. If memory runs out, the first of its
 -- facts are in.
@@ -121,8 +130,8 @@ abbrev pub Exchanges : TermsFields → ℕ → RegionFields → Exchange → Res
 Exchanges terms now old Vector (Ok answer) new =
     TellsVector old.facts.slots answer × (new ≡ old)
 Exchanges terms now old Vector (Err e) new = new ≡ old
-Exchanges terms now old (Pull bytes) (Ok answer) new =
-    (answer ≡ rendered (page_reply old.facts (whole wanted bytes)) None None)
+Exchanges terms now old (Pull pages bytes) (Ok answer) new =
+    (answer ≡ rendered (page_reply pages old.facts (whole wanted bytes)) None None)
     × (new ≡ old)
-Exchanges terms now old (Pull bytes) (Err e) new = new ≡ old
+Exchanges terms now old (Pull pages bytes) (Err e) new = new ≡ old
 Exchanges terms now old (Push bytes) result new = TakesAndTells terms now old bytes result new

@@ -41,7 +41,7 @@ request_at endpoint form pairs = record {
 -- the meaning of a whole body, by its use (own)
 abbrev pub posted_to : Posted → List ℕ → Pairs → Arrival
 posted_to (Form endpoint) body pairs = Request (request_at endpoint body pairs)
-posted_to Pull body pairs = Exchange (exchange.Pull body)
+posted_to (Pull pages) body pairs = Exchange (exchange.Pull pages body)
 posted_to Push body pairs = Exchange (exchange.Push body)
 
 -- the meaning of a head that was judged: the query of a GET, or the body of a POST (own)

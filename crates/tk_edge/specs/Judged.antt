@@ -18,8 +18,9 @@ use Rattle.tk_message.specs.declared.error_code.ErrorCode.{ErrorCode}
 use Rattle.tk_message.specs.declared.error_code.ErrorCode.TheVariants as code
 use Rattle.tk_edge.specs.HeadFields.{length_in, type_in, coding_in, has_repeats}
 use Rattle.tk_edge.specs.MediaType.{is_form}
-use Rattle.tk_edge.specs.Paths.{path_of, path_named, method_named, service_at, allowed_at}
-use Rattle.tk_edge.specs.Paths.{has_metrics}
+use Rattle.tk_edge.specs.Paths.{path_of, query_of, path_named, method_named, service_at}
+use Rattle.tk_edge.specs.Paths.{allowed_at, has_metrics}
+use Rattle.tk_edge.specs.Pulls.{pages_by}
 use Rattle.tk_edge.specs.declared.path.Path.{Path}
 use Rattle.tk_edge.specs.declared.path.Method.{Method}
 use Rattle.tk_edge.specs.declared.path.Posted.{Posted}
@@ -56,7 +57,7 @@ allowed_by why = None
 -- the 128 largest facts
 abbrev pub limit_of : Posted → ℕ
 limit_of (Form endpoint) = 16384
-limit_of Pull = 1049600
+limit_of (Pull pages) = 1049600
 limit_of Push = 1049600
 
 -- the type fits: a form's type may be absent, and an exchange may have any type (RFC 6749, 4.1.3;
@@ -64,7 +65,7 @@ limit_of Push = 1049600
 abbrev pub fits_type : Posted → List (List ℕ) → Bool
 fits_type (Form endpoint) [] = true
 fits_type (Form endpoint) (value ∷ more) = is_form value
-fits_type Pull kinds = true
+fits_type (Pull pages) kinds = true
 fits_type Push kinds = true
 
 -- the judgement of a body by its length, then its type (RFC 9110, 8.6 and 15.5.14)
@@ -98,15 +99,21 @@ abbrev pub at_path : Option Path → Option Method → Pairs → Judged
 at_path None method pairs = Refused UnknownPath
 at_path (Some path) method pairs = at_service path (service_at path method) pairs
 
+-- the judgement by a query: it names the pages of a pull, and changes nothing else (own)
+abbrev pub by_query : List ℕ → Judged → Judged
+by_query query (Body (Pull pages) n) = Body (Pull (pages_by query)) n
+by_query query judged = judged
+
 -- the judgement of a head, by which paths are served (RFC 9110, 15.5)
 abbrev pub judged_of : Reach → List ℕ → List ℕ → Pairs → Judged
 judged_of reach method target pairs =
-    at_path (path_named reach (path_of target)) (method_named method) pairs
+    by_query (query_of target)
+    (at_path (path_named reach (path_of target)) (method_named method) pairs)
 
 -- an exchange is a use of a body only if all paths are served (own)
 abbrev pub MayPost : Reach → Posted → Type 0
 MayPost reach (Form endpoint) = ⊤
-MayPost reach Pull = reach.paths ≡ All
+MayPost reach (Pull pages) = reach.paths ≡ All
 MayPost reach Push = reach.paths ≡ All
 
 -- a notice is given only over a connection where it is served (own)

@@ -33,6 +33,7 @@ use Rattle.tk_edge.specs.declared.path.Posted.TheVariants as posted
 use Rattle.tk_edge.specs.declared.path.Service.{Service}
 use Rattle.tk_edge.specs.declared.path.Service.TheVariants as service
 use Rattle.tk_edge.specs.declared.notice.Notice.TheVariants.{Discovery, Health, Metrics}
+use Rattle.tk_edge.specs.declared.pull.Pages.TheVariants.{Plain}
 use Rattle.tk_edge.specs.declared.reach.Reach.{Reach}
 use Rattle.tk_edge.specs.declared.reach.PathSet.{PathSet}
 use Rattle.tk_edge.specs.declared.reach.PathSet.TheVariants.{Clients, Admin, All}
@@ -138,7 +139,7 @@ get_service path = None
 abbrev pub form_for : Endpoint → Option Service
 form_for e = Some (service.Body (posted.Form e))
 
--- what a path serves under POST (RFC 6749, 3.2; RFC 7662, 2.1; RFC 7009, 2.1; own)
+-- what a path serves under POST without a query (RFC 6749, 3.2; RFC 7662, 2.1; RFC 7009, 2.1; own)
 abbrev pub post_service : Path → Option Service
 post_service Authorize = None
 post_service Token = form_for endpoint.Token
@@ -153,7 +154,7 @@ post_service SignOut = form_for endpoint.SignOut
 post_service Subject = None
 post_service Logout = form_for endpoint.Logout
 post_service Vector = None
-post_service Pull = Some (service.Body posted.Pull)
+post_service Pull = Some (service.Body (posted.Pull Plain))
 post_service Push = Some (service.Body posted.Push)
 post_service (paths.Notice notice) = None
 

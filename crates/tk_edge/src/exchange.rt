@@ -3,6 +3,7 @@
 //!
 //! `answer_exchange` replies to an exchange.
 
+use crate::pull::Pages;
 use std::marker::Model;
 
 /// A request of another region (own).
@@ -10,8 +11,8 @@ use std::marker::Model;
 pub enum Exchange {
     /// For the region's vector.
     Vector,
-    /// For the page above a cursor of the facts that a vector does not cover.
-    Pull(Sent),
+    /// For the page above a cursor of the facts that a vector does not cover, plain or with runs.
+    Pull(Pages, Sent),
     /// To take a bundle in.
     Push(Sent),
 }
@@ -32,16 +33,18 @@ impl Model for Sent {
 
 ghost use Rattle.std.specs.Prelude.{◌≡◌, IfOk, None};
 ghost use Rattle.tk_format.specs.Format.{whole};
+ghost use Rattle.tk_bundle.specs.Page.{IsPageOf};
 ghost use Rattle.tk_edge.specs.Answers.{rendered};
 ghost use Rattle.tk_edge.specs.Exchanges as spec;
 ghost use Rattle.tk_edge.specs.Pulls.{wanted};
 
 use crate::ahead::PushError;
 use crate::answer::{Answer, answer_with};
-use crate::pull::read_wanted;
+use crate::pull::{Wanted, read_wanted};
 use crate::push::take_pushed;
 use crate::terms::Terms;
 use std::alloc::{AllocError, Global};
+use tk_bundle::Page;
 use tk_format::ReadError;
 use tk_handle::Moment;
 use tk_message::{ErrorCode, JsonReply, Reply, bytes_reply};
@@ -75,7 +78,7 @@ pub(crate) fn answer_exchange(
 {
     match exchange {
         Exchange::Vector => tell_vector(alloc, region),
-        Exchange::Pull(sent) => send_page(alloc, region, sent.bytes()),
+        Exchange::Pull(pages, sent) => send_page(alloc, region, *pages, sent.bytes()),
         Exchange::Push(sent) => take_bundle(alloc, region, terms, now, sent.bytes()),
     }
 }
@@ -90,26 +93,52 @@ fn tell_vector(alloc: Global, region: &Region) -> Result<Answer, AllocError>
 }
 
 // Replies with the page that a pull requests.
-fn send_page(alloc: Global, region: &Region, bytes: &[u8]) -> Result<Answer, AllocError>
+fn send_page(
+    alloc: Global,
+    region: &Region,
+    pages: Pages,
+    bytes: &[u8],
+) -> Result<Answer, AllocError>
     ensures { IfOk result (λ answer. answer
-        ≡ rendered (spec.page_reply region.now.facts (whole wanted bytes.now)) None
+        ≡ rendered (spec.page_reply pages region.now.facts (whole wanted bytes.now)) None
         None) }
 {
-    let reply = page_reply(alloc, region, bytes)?;
+    let reply = page_reply(alloc, region, pages, bytes)?;
     answer_with(alloc, &reply, None)
 }
 
 // Returns the page that a pull requests, or the error for bytes that are no pull.
-fn page_reply(alloc: Global, region: &Region, bytes: &[u8]) -> Result<Reply, AllocError>
+fn page_reply(
+    alloc: Global,
+    region: &Region,
+    pages: Pages,
+    bytes: &[u8],
+) -> Result<Reply, AllocError>
     ensures { IfOk result (λ reply. reply
-        ≡ spec.page_reply region.now.facts (whole wanted bytes.now)) }
+        ≡ spec.page_reply pages region.now.facts (whole wanted bytes.now)) }
 {
     match read_wanted(alloc, bytes) {
         Ok(wanted) => {
-            let page = region.page(alloc, &wanted.vector, wanted.after)?;
+            let page = page_for(alloc, region, pages, &wanted)?;
             Ok(bytes_reply(page.bytes))
         }
         Err(error) => refuse_by(alloc, unread_code(error)),
+    }
+}
+
+// Makes the page that a pull requests.
+fn page_for(
+    alloc: Global,
+    region: &Region,
+    pages: Pages,
+    wanted: &Wanted,
+) -> Result<Page, AllocError>
+    ensures { IfOk result (λ page. IsPageOf page
+        (spec.page_for pages region.now.facts wanted.now)) }
+{
+    match pages {
+        Pages::Plain => region.page(alloc, &wanted.vector, wanted.after),
+        Pages::WithRuns => region.page_with_runs(alloc, &wanted.vector, wanted.after),
     }
 }
 

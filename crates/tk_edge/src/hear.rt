@@ -48,7 +48,7 @@ pub(crate) fn posted_to(
 {
     match posted {
         Posted::Form(endpoint) => asked(alloc, endpoint, body, fields),
-        Posted::Pull => Ok(Arrival::Exchange(Exchange::Pull(sent(alloc, body)?))),
+        Posted::Pull(pages) => { Ok(Arrival::Exchange(Exchange::Pull(pages, sent(alloc, body)?))) }
         Posted::Push => Ok(Arrival::Exchange(Exchange::Push(sent(alloc, body)?))),
     }
 }

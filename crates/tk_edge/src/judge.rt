@@ -11,6 +11,7 @@ use crate::field::{Field, Fields, any_repeats};
 use crate::media_type::is_form_type;
 use crate::notice::Notice;
 use crate::path::{Method, Path, Posted, Service, method_named, path_named, split_target};
+use crate::pull::pages_by;
 use crate::reach::Reach;
 use crate::refusal::Refusal;
 use tk_format::{Numeral, read_numeral};
@@ -32,11 +33,19 @@ pub(crate) fn judge(reach: Reach, method: &[u8], target: &[u8], fields: &Fields<
     ensures { (pairs : Pairs) → AreFields fields.now pairs
         → result ≡ spec.judged_of reach method.now target.now pairs }
 {
-    at_path(
-        path_named(reach, split_target(target).0),
-        method_named(method),
-        fields,
-    )
+    let (path, query) = split_target(target);
+    let judged = at_path(path_named(reach, path), method_named(method), fields);
+    by_query(query, judged)
+}
+
+// Judges a head by its query, of which a pull alone depends: its query names the pages.
+fn by_query(query: &[u8], judged: Judged) -> Judged
+    ensures { result ≡ spec.by_query query.now judged }
+{
+    match judged {
+        Judged::Body(Posted::Pull(_), size) => Judged::Body(Posted::Pull(pages_by(query)), size),
+        _ => judged,
+    }
 }
 
 // Judges a head from the path on.
@@ -98,7 +107,7 @@ fn limit_of(posted: Posted) -> u32
 {
     match posted {
         Posted::Form(_) => 16_384,
-        Posted::Pull | Posted::Push => 1_049_600,
+        Posted::Pull(_) | Posted::Push => 1_049_600,
     }
 }
 

@@ -10,7 +10,7 @@
 //! - [`Sink`], [`Counted`], [`Discard`]: devices that take bytes, and count their failures.
 //! - [`Reach`], [`Path`], `field`, `judge`: what a head requests, or its [`Refusal`].
 //! - [`hear_front`], [`Front`]: an [`Arrival`], or more bytes are needed. An [`Exchange`] is with
-//!   another region, and a [`Notice`] is of the server itself.
+//!   another region, and a [`Notice`] is of the server itself. A pull requests [`Pages`].
 //! - [`Terms`] say which pushes are refused, and which notices are given. An [`Issuer`] is the
 //!   server's name in them.
 //! - `answer`, `ahead`, `exchange`, `notice`: the reply to an arrival. `render` makes its bytes.
@@ -62,6 +62,7 @@ pub use laws::{
 pub use notice::Notice;
 pub use open_reply::keep_open;
 pub use path::Path;
+pub use pull::Pages;
 pub use put::{Discard, put_whole};
 pub use reach::{PathSet, Reach};
 pub use refusal::Refusal;

@@ -8,6 +8,7 @@ ghost use Rattle.std.specs.Str.{bytes_eq};
 ghost use Rattle.tk_edge.specs.Paths as spec;
 
 use crate::notice::Notice;
+use crate::pull::Pages;
 use crate::reach::{PathSet, Reach};
 use tk_message::Endpoint;
 
@@ -75,7 +76,7 @@ pub(crate) enum Posted {
     // The form holds the parameters of an endpoint.
     Form(Endpoint),
     // The body is a cursor and a vector.
-    Pull,
+    Pull(Pages),
     // The body is a bundle.
     Push,
 }
@@ -289,7 +290,7 @@ impl Path {
         }
     }
 
-    // Returns what the path serves under POST.
+    // Returns what the path serves under POST, without a query.
     fn post_service(self) -> Option<Service>
         ensures { result ≡ spec.post_service self }
     {
@@ -305,7 +306,7 @@ impl Path {
             Path::Withdraw => form_for(Endpoint::Withdraw),
             Path::SignOut => form_for(Endpoint::SignOut),
             Path::Logout => form_for(Endpoint::Logout),
-            Path::Pull => Some(Service::Body(Posted::Pull)),
+            Path::Pull => Some(Service::Body(Posted::Pull(Pages::Plain))),
             Path::Push => Some(Service::Body(Posted::Push)),
         }
     }

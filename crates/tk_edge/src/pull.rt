@@ -1,7 +1,17 @@
-//! The body of a pull: `Wanted` is a cursor and a vector, and `read_wanted` reads one.
+//! What a pull requests. `Wanted` is its body, a cursor and a vector, which `read_wanted` reads.
+//! `Pages` is named by its query, which `pages_by` reads.
 
 use tk_handle::Dot;
 use tk_vector::VersionVector;
+
+/// The pages that a pull requests (own).
+#[derive(Clone, Copy)]
+pub enum Pages {
+    /// With each mark by itself. Every build of tokend reads them.
+    Plain,
+    /// With marks that follow one another as one run.
+    WithRuns,
+}
 
 // A pull: the cursor above which the page begins, and the vector of what the puller holds.
 #[derive(Drop)]
@@ -12,11 +22,22 @@ pub(crate) struct Wanted {
 
 ghost use Rattle.std.specs.Prelude.{◌≡◌};
 ghost use Rattle.tk_format.specs.Reading.{GetsAll, Reads};
-ghost use Rattle.tk_edge.specs.Pulls.{cursor, cursor_at, wanted};
+ghost use Rattle.tk_edge.specs.Pulls.{cursor, cursor_at, pages_by, wanted};
 
+use crate::path::is_named;
 use std::alloc::Global;
 use tk_format::{ReadError, Reader, Spelled, read_all};
 use tk_handle::RegionNumber;
+
+// Returns the pages that a query names: with runs, if it is `runs=1` and nothing more.
+pub(crate) fn pages_by(query: &[u8]) -> Pages
+    ensures { result ≡ pages_by query.now }
+{
+    if is_named(query, b"runs=1") {
+        return Pages::WithRuns;
+    }
+    Pages::Plain
+}
 
 // Reads a pull from all of the bytes.
 pub(crate) fn read_wanted(alloc: Global, bytes: &[u8]) -> Result<Wanted, ReadError>

@@ -12,7 +12,8 @@
 //! - `prune` skips the facts of families that are over, and `prune_some` some of them at a time.
 //!   These two and `take_in` raise the `horizon`, before which each request gets the reply 503
 //!   `temporarily_unavailable`.
-//! - `page` makes a bundle for another region, by the `vector` of that region.
+//! - `page` makes a bundle for another region, by the `vector` of that region, and
+//!   `page_with_runs` one with runs of marks.
 //!
 //! In reading order: `Settings`, `Region`, `Prepared`, `Handled`, `TakeError`. `specs/Lib.antt`
 //! lists the definitions. The crate reads no clock and draws no random words: both come with each

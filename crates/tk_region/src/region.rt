@@ -45,6 +45,7 @@ ghost use Rattle.tk_ledger.specs.Slices.{PrunesSome};
 ghost use Rattle.tk_bundle.specs.Bundle.{bundle};
 ghost use Rattle.tk_bundle.specs.News.{news_of, record_of};
 ghost use Rattle.tk_bundle.specs.Page as pages;
+ghost use Rattle.tk_bundle.specs.RunPage.{run_page_of};
 ghost use Rattle.tk_message.specs.Place.{next_in};
 ghost use Rattle.tk_region.specs.RegionFields.{place_in};
 ghost use Rattle.tk_region.specs.Repeating.{minted_refresh, repeat_in};
@@ -55,7 +56,7 @@ use crate::decision::decide_endpoint;
 use crate::step::{Handled, Prepared, prepare, refuse_early};
 use crate::take::{TakeError, take_bundle, unread};
 use std::alloc::{AllocError, Global};
-use tk_bundle::{Bundle, Page, make, news};
+use tk_bundle::{Bundle, Page, make, make_with_runs, news};
 use tk_fact::Fact;
 use tk_grant::repeat_of;
 use tk_handle::{Dot, Kind, Moment};
@@ -127,6 +128,28 @@ impl Region {
             (bundle.Fits (pages.page_of self.now.facts vector.now after).bundle) }
     {
         make(alloc, self.ledger.store(), vector, after)
+    }
+
+    /// Makes a page with runs for another region, which must read runs. Marks that follow one
+    /// another are one piece of the page.
+    ///
+    /// The page has the first facts and marks above the cursor `after` that the vector does not
+    /// cover: at most 128 pieces, and at most 1,024 items. A bundle with a mark has the horizon
+    /// too. Returns an error, and no part of a page, if memory runs out.
+    pub fn page_with_runs(
+        &self,
+        alloc: Global,
+        vector: &VersionVector,
+        after: Option<Dot>,
+    ) -> Result<Page, AllocError>
+        ensures page { IfOk result (λ page.
+            pages.IsPageOf page (run_page_of self.now.facts vector.now after)) }
+
+        // A page can be read.
+        ensures fits { OnOk result
+            (bundle.Fits (run_page_of self.now.facts vector.now after).bundle) }
+    {
+        make_with_runs(alloc, self.ledger.store(), vector, after)
     }
 
     /// Returns the dot of the region's next fact.

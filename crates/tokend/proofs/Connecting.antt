@@ -27,7 +27,8 @@ answered_grows : (terms : TermsFields) (now : ℕ) (words : List ℕ) (came : Ar
     (answer : AnswerFields) (old new : RegionFields)
     → Answers terms old now words came (Ok answer) new → Grows old new
 answered_grows terms now words (Exchange Vector) answer old new h = grows_same old new h.1
-answered_grows terms now words (Exchange (Pull sent)) answer old new h = grows_same old new h.1
+answered_grows terms now words (Exchange (Pull pages sent)) answer old new h =
+    grows_same old new h.1
 answered_grows terms now words (Exchange (Push sent)) answer old new h =
     pushed_grows terms now old new sent h.0 h.1
 answered_grows terms now words came answer old new h =

@@ -153,7 +153,7 @@ module _ (end : Result Served Fault) (before after : Option (List ℕ)) (old new
       → bundle_to_log true came ≡ None → Answers terms old now words came (Ok answer) new
       → Appends before after (record_in answer.logged) → IfSome (fact_by old now words came) IsRecorded → Grows end before after F G
   answered terms now words (Exchange Vector) answer none h more fits = still (logged_as answer _ h.0.3 more) h.1
-  answered terms now words (Exchange (Pull sent)) answer none h more fits = still (logged_as answer _ h.0 more) h.1
+  answered terms now words (Exchange (Pull pages sent)) answer none h more fits = still (logged_as answer _ h.0 more) h.1
   answered terms now words (Exchange (Push sent)) answer none h more fits = absurd (cc)
   answered terms now words Silence answer none h more fits = gains_none (logged_as answer _ h.0 more) h.1
   answered terms now words (Refused why) answer none h more fits = gains_none (logged_as answer _ h.0 more) h.1
