@@ -94,17 +94,21 @@ def _pieces(items: tuple[bytes, ...]) -> list[bytes]:
     return pieces
 
 
+def items_of(piece: bytes) -> list[bytes]:
+    """The marks of a run; any other piece is one item."""
+    if len(piece) != _RUN.size or piece[MARK] != RUN:
+        return [piece]
+    (region, first), last = read_dot(piece), _RUN.unpack(piece)[3]
+    if not first < last <= min(GREATEST_SERIAL, first + MOST_RUN_ITEMS):
+        raise Malformed("a run from %d to %d" % (first, last))
+    return [_DOT.pack(region, serial) for serial in range(first, last + 1)]
+
+
 def _expanded(pieces: tuple[bytes, ...]) -> tuple[bytes, ...]:
     """The items of pieces, of which one must be a run."""
     items: list[bytes] = []
-    for number, piece in enumerate(pieces, 1):
-        if len(piece) != _RUN.size or piece[MARK] != RUN:
-            items.append(piece)
-            continue
-        (region, first), last = read_dot(piece), _RUN.unpack(piece)[3]
-        if not first < last <= min(GREATEST_SERIAL, first + MOST_RUN_ITEMS):
-            raise Malformed("the run %d is from %d to %d" % (number, first, last))
-        items += (_DOT.pack(region, serial) for serial in range(first, last + 1))
+    for piece in pieces:
+        items += items_of(piece)
     if len(items) > MOST_RUN_ITEMS:
         raise Malformed("%d items, more than %d" % (len(items), MOST_RUN_ITEMS))
     if _pieces(tuple(items)) != list(pieces) or len(items) == len(pieces):
@@ -193,13 +197,18 @@ class Bundle:
             parts += _COUNT.pack(len(piece)), piece
         return b"".join(parts)
 
-    def _of(self, items: tuple[bytes, ...]) -> Bundle:
+    @property
+    def has_runs(self) -> bool:
+        """Whether marks that follow one another are written as runs."""
+        return self.version == RUNS
+
+    def _of(self, items: tuple[bytes, ...], runs: bool) -> Bundle:
         """The bundle of some of the items. Marks keep the horizon."""
-        return Bundle(items, self.horizon if has_marks(_version(items)) else None, self.runs)
+        return Bundle(items, self.horizon if has_marks(_version(items)) else None, runs)
 
     def part(self, begin: int, end: int) -> Bundle:
         """The bundle of some of the items. Marks keep the horizon."""
-        return self._of(self.items[begin:end])
+        return self._of(self.items[begin:end], self.runs)
 
     def facts_alone(self) -> Bundle:
         """The bundle of the facts, without the marks and the horizon."""
@@ -207,7 +216,13 @@ class Bundle:
 
     def without(self, numbers: set[int]) -> Bundle:
         """The bundle of the items that are under none of these region numbers."""
-        return self._of(tuple(it for it in self.items if read_dot(it).region not in numbers))
+        return self._of(tuple(it for it in self.items if read_dot(it).region not in numbers),
+                        self.runs)
+
+    def plain(self) -> Iterator[Bundle]:
+        """Yields bundles without runs that have all the items."""
+        for begin in range(0, len(self.items), MOST_ITEMS):
+            yield self._of(self.items[begin:begin + MOST_ITEMS], False)
 
     def halves(self) -> tuple[Bundle, Bundle]:
         middle = len(self.items) // 2

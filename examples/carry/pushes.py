@@ -5,7 +5,7 @@ from dataclasses import dataclass, field
 from typing import Callable
 
 from bundles import Bundle, read_dot
-from servers import Ahead, OutOfRange, Refused, Server
+from servers import Ahead, OutOfRange, Refused, Server, Unread
 
 
 @dataclass
@@ -17,6 +17,7 @@ class Pushed:
     waiting: int = 0  # marks whose horizon is later than the server's clock
     left_out: int = 0  # items under numbers that the server doesn't take
     numbers: set[int] = field(default_factory=set)  # those numbers
+    is_plain: bool = False  # the server reads no runs: marks are sent one by one
 
 
 @dataclass
@@ -33,12 +34,20 @@ class Pushing:
         self.pushed.left_out += len(bundle.items) - len(taken.items)
         if not taken.items:
             return
+        if taken.has_runs and self.pushed.is_plain:
+            self._push_plain(taken)
+            return
         try:
             self.pushed.new += self.target.push(taken)
         except Ahead as refusal:
             self._push_facts(taken, str(refusal))
         except Refused as refusal:
-            if len(taken.items) > 1:
+            if taken.has_runs and isinstance(refusal, Unread):
+                self.complain("%s refuses a bundle with runs: %s; it gets marks one by one"
+                              % (self.target.url, refusal))
+                self.pushed.is_plain = True
+                self._push_plain(taken)
+            elif len(taken.items) > 1:
                 self._push_halves(taken, str(refusal))
             elif isinstance(refusal, OutOfRange):
                 self._leave_out(taken, str(refusal))
@@ -52,6 +61,11 @@ class Pushing:
         self.pushed.waiting += bundle.marks
         if bundle.facts:
             self.push(bundle.facts_alone())
+
+    def _push_plain(self, bundle: Bundle) -> None:
+        """Pushes the items of a bundle with runs in bundles without."""
+        for part in bundle.plain():
+            self.push(part)
 
     def _push_halves(self, bundle: Bundle, why: str) -> None:
         """Pushes both halves of a refused bundle. Complains if the server takes all of them."""
@@ -82,6 +96,7 @@ def push_all(target: Server, bundle: Bundle, pushed: Pushed,
 
     So a refused item holds no other back. If the bundle's horizon is later than the server's clock,
     its facts are pushed alone: its marks wait for a later run. A number that the server doesn't
-    take is named once, and its other items are left out.
+    take is named once, and its other items are left out. A server that can't read a bundle with runs
+    gets its marks one by one, and those of later bundles.
     """
     Pushing(target, pushed, complain).push(bundle)

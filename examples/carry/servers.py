@@ -58,6 +58,10 @@ class Refused(Exception):
     """A bundle that a server doesn't take: the status, and the error if the reply has one."""
 
 
+class Unread(Refused):
+    """A bundle that a server can't read."""
+
+
 class Ahead(Refused):
     """A bundle whose horizon is later than the server's clock."""
 
@@ -206,8 +210,11 @@ class Server:
         return self._read(path, self._ask(path), "vector", read_vector)
 
     def page(self, cursor: bytes, vector: Vector) -> Bundle:
-        """The items above the cursor that the vector doesn't cover, 128 at most."""
-        path = "/sync/pull"
+        """The first items above the cursor that the vector doesn't cover, with runs of marks.
+
+        An older build takes no notice of the query, and sends a page without runs.
+        """
+        path = "/sync/pull?runs=1"
         reply = self._ask(path, write_pull(cursor, vector))
         page = self._read(path, reply, "bundle", read_bundle)
         if page.items and page.items[0][:MARK] <= cursor:
@@ -222,9 +229,11 @@ class Server:
             raise Ahead("409 horizon_ahead")
         if reply.status == 409 and reply.error == "out_of_range":
             raise OutOfRange("409 out_of_range")
+        if reply.status == 400 and reply.error == "malformed":
+            raise Unread("400 malformed")
         if reply.status == 413 or (reply.status in (400, 409) and reply.error):
             raise Refused(("%d %s" % (reply.status, reply.error)).rstrip())
-        took = re.fullmatch(rb'\{"took":(\d{1,3})\}\s*', reply.body)
+        took = re.fullmatch(rb'\{"took":(\d{1,4})\}\s*', reply.body)
         if reply.status != 200:
             raise self._lost(path, str(reply))
         if not took or int(took[1]) > len(bundle.items):
@@ -241,7 +250,7 @@ class Server:
             raise self._lost(path, "not a %s: %s" % (name, why)) from why
 
     def _lost(self, path: str, why: str) -> Lost:
-        return Lost(self.url, path, why)
+        return Lost(self.url, path.partition("?")[0], why)
 
     def _ask(self, path: str, body: Optional[bytes] = None) -> Reply:
         """The first reply that isn't passing.

@@ -58,7 +58,8 @@ def some_of(page: Bundle, numbers: range) -> Optional[Bundle]:
     items = tuple(it for it in page.items if read_dot(it).region in numbers)
     if not items:
         return None
-    return Bundle(items, page.horizon if any(len(it) == MARK for it in items) else None)
+    return Bundle(items, page.horizon if any(len(it) == MARK for it in items) else None,
+                  page.runs)
 
 
 def take(way: Way, complain: Callable[[str], None] = complain) -> int:

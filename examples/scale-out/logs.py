@@ -11,7 +11,7 @@ from pathlib import Path
 from typing import Iterator, NamedTuple, Optional
 
 sys.path.insert(1, str(Path(__file__).resolve().parent.parent / "carry"))
-from bundles import MARK, Dot, Malformed, Records, read_dot
+from bundles import MARK, Dot, Malformed, Records, items_of, read_dot
 
 PIECE = 1 << 20  # bytes that are read at once
 FOLDERS = "log", "old"
@@ -23,7 +23,7 @@ class Item(NamedTuple):
     dot: Dot
     data: bytes
     horizon: Optional[int]
-    place: int  # of its first byte in the log
+    place: int  # of its first byte in the log; of a mark of a run that of the run
 
 
 def stamp(folder: Path) -> list[int]:
@@ -57,11 +57,12 @@ class Reader:
         self._read += len(piece)
         try:
             for bundle, end in self._records.feed(piece):
-                place = end - sum(2 + len(it) for it in bundle.items)
-                for data in bundle.items:
-                    horizon = bundle.horizon if len(data) == MARK else None
-                    yield Item(read_dot(data), data, horizon, place + 2)
-                    place += 2 + len(data)
+                place = end - sum(2 + len(it) for it in bundle.pieces)
+                for piece in bundle.pieces:
+                    for data in items_of(piece):
+                        horizon = bundle.horizon if len(data) == MARK else None
+                        yield Item(read_dot(data), data, horizon, place + 2)
+                    place += 2 + len(piece)
                 self.end = end
         except Malformed as why:
             self.why = "no record at byte %d: %s" % (self.end, why)

@@ -84,7 +84,7 @@ def bundle_at(data, at):
         if last is None:
             return None
         end += 2 + length
-        if last - serial >= MOST_RUN_ITEMS - len(dots):
+        if not 0 <= last - serial < MOST_RUN_ITEMS - len(dots):
             raise no_bundle(at)
         dots += ((region, one) for one in range(serial, last + 1))
     return (end, dots) if end <= len(data) else None
@@ -120,6 +120,12 @@ def page_dots(page):
     if not found or found[0] != len(page):
         raise NoBundle("a page is no bundle")
     return found[1]
+
+
+def is_full(page, dots):
+    """Whether a page with these dots may be followed by another."""
+    (pieces,) = struct.unpack_from(">H", page, HEADS[bytes(page[:4])] - 2)
+    return pieces == MOST_ITEMS or len(dots) == MOST_RUN_ITEMS
 
 
 def horizon_of(data, at=0):

@@ -10,7 +10,7 @@ import signal
 import time
 
 from bases import connection_to, read_base
-from starting.bundles import DOT, MOST_ITEMS, NoBundle, page_dots, vector_regions
+from starting.bundles import DOT, NoBundle, is_full, page_dots, vector_regions
 
 SILENCE, LONGEST = 6, 15  # seconds without a byte, and of one request
 MOST_BYTES = 1_100_000  # of a reply: above the longest page and the longest vector
@@ -85,14 +85,17 @@ class Peer:
         return vector_regions(self.ask("GET", "/sync/vector"))
 
     def pages(self, vector):
-        """Each page of what a vector lacks, with its dots."""
+        """Each page of what a vector lacks, with its dots.
+
+        Pages with runs are asked for. A peer of an older build takes no notice of that.
+        """
         cursor = bytes(DOT.size)
         while True:
-            page = self.ask("POST", "/sync/pull", cursor + vector)
+            page = self.ask("POST", "/sync/pull?runs=1", cursor + vector)
             dots = page_dots(page)
             if dots:
                 yield page, dots
-            if len(dots) < MOST_ITEMS:
+            if not dots or not is_full(page, dots):
                 return
             if DOT.pack(*dots[-1]) <= cursor:
                 raise NoBundle("pages go round")
