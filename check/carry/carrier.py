@@ -12,7 +12,7 @@ import unittest
 
 from lib.cases import Case
 from lib.facts import EMPTY_VECTOR, bundle, client, clients, mark
-from lib.peer import proxy
+from lib.peer import proxy, without_query
 from lib.tls import OPENSSL, make_certificate
 from lib.waiting import until
 
@@ -22,13 +22,14 @@ TOOK, NO_BUNDLE = b'{"took":%d}', b"OTB1\0\0"
 def empty(path, body):
     """A peer that holds nothing and takes in anything."""
     said = {"/sync/vector": EMPTY_VECTOR, "/sync/pull": NO_BUNDLE, "/sync/push": TOOK % 0}
-    return 200, {}, said[path]
+    return 200, {}, said[without_query(path)]
 
 
 def saying(**replies):
     """Such a peer, with other replies to some of the requests."""
     def reply(path, body):
-        return replies.get(path.rpartition("/")[2]) or empty(path, body)
+        name = without_query(path).rpartition("/")[2]
+        return replies.get(name) or empty(path, body)
     return reply
 
 
@@ -285,7 +286,7 @@ class Runs(Case):
         self.assertEqual(len(peer.asked), 1)
         go.set()
         self.assertEqual([it.wait(60) for it in (first, second)], [0, 0])
-        self.assertEqual(peer.asked, ["/sync/pull", "/sync/vector", "/sync/push"] * 2)
+        self.assertEqual(peer.asked, ["/sync/pull?runs=1", "/sync/vector", "/sync/push"] * 2)
 
     def test_a_second_run_waits_no_longer_than_it_may(self):
         go, one, peer = self.slow()

@@ -82,6 +82,11 @@ def mark(region, serial):
     return dot((region, serial))
 
 
+def run(region, first, last):
+    """A piece of a bundle with runs: the marks of serials from the first to the last."""
+    return dot((region, first)) + bytes((RUN,)) + struct.pack(">Q", last)
+
+
 def code(at, end, subject):
     """A code of a family that ends then. Its client and its consent needn't be known."""
     times = struct.pack(">QQQ", 1000, 1060, end)
@@ -167,6 +172,12 @@ def bundle(items, horizon=None):
     if head in MARKED:
         head += struct.pack(">Q", HORIZON if horizon is None else horizon)
     return head + struct.pack(">H", len(items)) + b"".join(map(text, items))
+
+
+def bundle_with_runs(pieces, horizon=HORIZON):
+    """The bundle of pieces, of which one must be a run."""
+    return (b"OTB6" + struct.pack(">QH", horizon, len(pieces))
+            + b"".join(map(text, pieces)))
 
 
 def version_of(items):

@@ -80,9 +80,23 @@ class Peer:
         return self.drops or int(fields.get("Content-Length", 0)) > len(said)
 
 
+def without_query(path):
+    """The path of a request, as a server takes it that knows no query there."""
+    return path.partition("?")[0]
+
+
 def proxy(server):
     """The replies of a server, for a Peer before it."""
     def reply(path, body):
         status, said = server.ask(path, body)
         return status, {}, said
+    return reply
+
+
+def older(server):
+    """The replies that a server of a build without runs would give in the place of this one."""
+    def reply(path, body):
+        if body.startswith(b"OTB6"):
+            return 400, {"Content-Type": "application/json"}, b'{"error":"malformed"}'
+        return proxy(server)(without_query(path), body)
     return reply
