@@ -27,6 +27,7 @@ def request_of(text):
 
 VECTOR = http("GET", "/sync/vector")
 PULL = http("POST", "/sync/pull", body=CURSOR + EMPTY_VECTOR)
+PULL_RUNS = http("POST", "/sync/pull?runs=1", body=CURSOR + EMPTY_VECTOR)
 NOTHING = http("GET", "/nowhere")  # changes nothing, and takes its random words
 
 

@@ -14,7 +14,7 @@ import story
 from lib.asking import body_of
 from lib.facts import MARK, facts_of
 from many import written_out
-from server import NOTHING, PULL, VECTOR, Server, http, push, request_of, run_story
+from server import NOTHING, PULL, PULL_RUNS, VECTOR, Server, http, push, request_of, run_story
 
 PARTS = " --log-part 65536"  # a start looks for 9,998 later parts: as many allocations
 PRUNED = " --prune 1702592000"  # the families of the old log are over at this moment
@@ -115,6 +115,10 @@ class Scene:
             yield Request(event.text[8:60] + CHOICES, sent, options=CHOICES)
         yield Request("GET /sync/vector", VECTOR)
         yield Request("POST /sync/pull", PULL)
+
+    def pull_with_runs(self):
+        """A pull of a page with runs, at a server that pruned what it loaded."""
+        return Request("POST /sync/pull?runs=1" + PRUNED, PULL_RUNS, options=PRUNED)
 
     def counted(self):
         """A request of a server that makes the text of its metrics before it decides it."""
