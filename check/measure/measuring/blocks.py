@@ -205,6 +205,14 @@ def plain(name, head):
     return make
 
 
+def joins(parts):
+    """A line for each history and each kind of page."""
+    it, what = part(parts, "joins"), ("pages", "bytes", "pulls in s", "pushes in s")
+    rows = [[history, kind, *(it.number("%s, %s: %s" % (history, kind, one)) for one in what)]
+            for history, kind in it.found("(.*), (.*): pages")]
+    return it, text_of(["history", "", "pages", "bytes", "pulls, s", "pushes, s"], rows)
+
+
 def revoked(parts):
     it, what = part(parts, "revoked"), ("median", "90th of 100", "99th of 100")
     rows = [[way] + [it.cell("%s: %s in ms" % (way, one)) for one in what]
@@ -331,7 +339,8 @@ ALL = {
     "lists": sized("lists", "entries", (
         "clients, first page", "clients, in the middle", "logins, first page",
         "logins, in the middle"), "µs"),
-    "carried": plain("carried", ["`carry` to an empty server", ""]), "revoked": revoked,
+    "carried": plain("carried", ["`carry` to an empty server", ""]), "joins": joins,
+    "revoked": revoked,
     "fanned": fanned, "scaled": scaled, "spread": spread, "cells": cells, "peers": peers,
     "beside": beside, "ledger": ledger, "pruned": pruned,
     "idle": plain("idle", ["beside", "the longest that another request took"]),
