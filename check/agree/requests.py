@@ -2,12 +2,14 @@
 import re
 
 from lib.asking import CLIENT
+from lib.facts import bundle, mark
 from limits import documents
 from server import Server
 from texts import HTTP, coded, differ, rows, same, text_of
 
 HANDLE = r"\bAQ[EIM][A-Za-z0-9_-]{45}(?![A-Za-z0-9_-])"
 CLOCK = r"\b1[0-9]{9}\b"
+MARKS = bundle([mark(2, 3), mark(2, 4)], 1100)  # that region 1 is pushed
 FORM = ("Content-Type: application/x-www-form-urlencoded",)
 
 
@@ -72,18 +74,23 @@ def compare_examples(program):
 
 def compare_exchange(program):
     sync = [e for e in examples() if e[0][1].startswith("/sync/")]
-    same(HTTP, "how many examples it has of regions' exchange", 2, len(sync))
+    same(HTTP, "how many examples it has of regions' exchange", 3, len(sync))
     with Server(program) as one, \
             Server(program, region=2) as two:
         one.ask("POST", "/admin/client", (), CLIENT)
+        replies = {}
         for (method, target), _, body, (status, *_), said in sync:
             where = "%s, %s" % (HTTP, target)
+            if "runs" in target:
+                one.ask("POST", "/sync/push", (), MARKS)
             reply = one.ask(method, target, (), bytes.fromhex(body) if method == "POST" else None)
+            replies[target] = reply[3]
             same(where, "the status", "HTTP/1.1 " + status, reply[1])
             same(where, "the reply", bytes.fromhex(said).hex(), reply[3].hex())
             if "Content-Type: application/octet-stream" not in reply[2]:
                 differ(where, "the reply's type isn't that of bytes")
-        took = [two.ask("POST", "/sync/push", (), reply[3])[3].decode() for _ in range(2)]
+        page = replies["/sync/pull"]
+        took = [two.ask("POST", "/sync/push", (), page)[3].decode() for _ in range(2)]
     wanted = re.findall(r"`(\{\"took\":\d\})`", text_of(HTTP))
     same(HTTP, "the replies to two pushes", wanted, took)
 

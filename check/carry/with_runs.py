@@ -1,4 +1,4 @@
-"""with_runs: runs of marks in pages: how they are read, carried and kept, also beside older builds."""
+"""with_runs: runs of marks in pages, read, carried and kept, also beside older builds."""
 import struct
 import unittest
 from pathlib import Path

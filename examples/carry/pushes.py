@@ -96,7 +96,7 @@ def push_all(target: Server, bundle: Bundle, pushed: Pushed,
 
     So a refused item holds no other back. If the bundle's horizon is later than the server's clock,
     its facts are pushed alone: its marks wait for a later run. A number that the server doesn't
-    take is named once, and its other items are left out. A server that can't read a bundle with runs
-    gets its marks one by one, and those of later bundles.
+    take is named once, and its other items are left out. A server that can't read a bundle with
+    runs gets its marks one by one, and those of later bundles.
     """
     Pushing(target, pushed, complain).push(bundle)
