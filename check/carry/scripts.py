@@ -11,7 +11,7 @@ from carrier import empty, saying
 from formats import ALL, LIMITED, REFRESHED, RETIRED, SKIPPED
 from lib import TOP
 from lib.cases import Case
-from lib.facts import EMPTY_VECTOR, bundle, client, clients, mark
+from lib.facts import EMPTY_VECTOR, bundle, bundle_with_runs, client, clients, mark, run
 from servers import Access, Server
 
 
@@ -136,6 +136,13 @@ class Follow(Case):
         self.assertEqual([it.write() for it in found[-2:]],
                          [SKIPPED, b"OTB4\0\3" + REFRESHED[6:] + LIMITED[6:] + RETIRED[6:]])
         self.assertEqual([len(it.items) for it in found], [2, 1, 2, 3])
+
+    def test_records_with_runs(self):
+        """A long one is a message of its own, and a short one joins others."""
+        long, short = bundle_with_runs([run(2, 1, 1024)]), bundle_with_runs([run(3, 1, 2)])
+        (self.live / "1.otb").write_bytes(long + short + bundle([mark(3, 3)]))
+        found = self.taken(self.logs())
+        self.assertEqual([it.write() for it in found], [long, bundle_with_runs([run(3, 1, 3)])])
 
     def test_a_log_that_is_moved_and_one_that_is_gone(self):
         path, logs = self.log(2), self.logs()

@@ -1,12 +1,19 @@
 """with_runs: runs of marks in pages, read, carried and kept, also beside older builds."""
+import os
 import struct
+import sys
+import tempfile
 import unittest
 from pathlib import Path
 
 from bundles import (Bundle, Cut, Dot, Malformed, Records, items_of, read_bundle, read_front)
+from lib import TOP
 from lib.cases import Case
 from lib.facts import bundle, bundle_with_runs, client, mark, run
 from lib.peer import older
+
+sys.path.append(os.path.join(TOP, "examples/scale-out"))
+from logs import Reader
 
 EXAMPLE = bytes.fromhex("4f544236000000000000044c000100130001000000000000000"
                         "30e0000000000000004")
@@ -88,6 +95,19 @@ class Formats(unittest.TestCase):
         self.assertEqual(second.items, it.items[151:])
         self.assertEqual(it.facts_alone().write(), bundle([fact(301)]))
         self.assertEqual(Bundle(it.items[-3:-1], 7, True).write()[:4], b"OTB3")
+
+    def test_places_in_a_log(self):
+        """Each fact of a log of a site that `spread` hands on has its own bytes there."""
+        with tempfile.NamedTemporaryFile() as log:
+            log.write(bundle_with_runs([run(2, 1, 5), fact(6, 2), mark(2, 8)]) + bundle([fact(1)]))
+            log.flush()
+            data = Path(log.name).read_bytes()
+            found = list(Reader(1, Path(log.name)).items())
+        self.assertEqual([it.dot.serial for it in found], [*range(1, 7), 8, 1])
+        for it in found:
+            self.assertEqual(it.horizon is None, len(it.data) > 10)
+            if it.horizon is None:
+                self.assertEqual(data[it.place:it.place + len(it.data)], it.data)
 
     def test_a_log_in_pieces(self):
         log = EXAMPLE + bundle([client(1, 5)]) + EXAMPLE
