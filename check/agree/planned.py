@@ -59,7 +59,8 @@ SUMS = {
     "traffic between sites a day, GB": 1.4 + 0.014 + 0.007,
     "disk of a site a day, GB": 0.189375 + 0.0006,  # 125,000 of 1,515 bytes, 4,000 of 150
     "disk of a site after `compact`, GB": 7.245,  # 56.56 GB and 1.4 GB, by eight
-    "more after `compact` a year, GB": 5.52975 + 0.2044,
+    # 450,012.2 full runs, and one of each of 1,460,000 facts
+    "more after `compact` a year, GB": 0.04011025634765625 + 0.2044,
     "start of a site, s": 517.5,  # 51,750,000 facts
     "longer a year, s": 1843.25 + 14.6,
     "starts of a site that the numbers last": 3640,  # 18 times 3,640 is 65,520

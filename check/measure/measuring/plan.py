@@ -10,7 +10,7 @@ from typing import Callable, NamedTuple
 
 DAY, YEAR = 86_400, 365  # seconds, days
 PAGE = 64  # dots of a page in memory, docs/DECISIONS.md, "Facts in memory"
-MARK = 12  # bytes of a mark in a file, docs/FORMATS.md: its length and its dot
+RUN, RUN_MARKS = 21, 1024  # bytes of a run of marks in a file, docs/FORMATS.md, and its marks
 
 
 class Option(NamedTuple):
@@ -161,8 +161,12 @@ class Plan:
         kept = self.logins * self.days * self.bytes_of_login("wire")
         return (kept + self.consents * self.of["refresh-wire"]) / self.cells
 
+    def runs(self):
+        """Runs of marks of a year: a fact that lasts ends one."""
+        return min(self.marks() / RUN_MARKS + self.lasting(), self.marks())
+
     def compacted_grows(self):
-        return self.marks() * MARK + self.lasting() * self.of["refresh-wire"]
+        return self.runs() * RUN + self.lasting() * self.of["refresh-wire"]
 
     def start(self):
         return self.alive / self.cells / self.of["loaded"]
@@ -251,7 +255,8 @@ ROWS = (
         "(logins a day × days × (login-wire + (refreshes + revocations) × refresh-wire) + "
         "users × consents × refresh-wire) / cells", lambda it: it.compacted() / 1e9),
     Row("more after `compact` a year, GB",
-        "dropped facts × 12 + lasting facts × refresh-wire",
+        "(dropped facts / 1024 + lasting facts, at most dropped facts) × 21 + "
+        "lasting facts × refresh-wire",
         lambda it: it.compacted_grows() / 1e9),
     Row("start of a site, s", "facts that are alive / cells / loaded", Plan.start),
     Row("longer a year, s", "dropped facts / marked + lasting facts / loaded", Plan.start_grows),

@@ -9,7 +9,8 @@
 //! - `edge`: connections over devices that fail, and which paths are served.
 //! - `region`: a region that runs out of memory.
 //! - `results` and `uris`: results of calls that the program doesn't print.
-//! - `uncalled` and `pages`: calls that no program makes.
+//! - `pages`: pages in which marks that follow one another are one piece.
+//! - `uncalled`: calls that no program makes.
 #![tactic(auto)]
 
 #[cfg(test)]

@@ -1,4 +1,4 @@
-//! Pages in which marks that follow one another are one piece. No program makes them yet.
+//! Pages in which marks that follow one another are one piece.
 
 use std::alloc::{AllocError, Global};
 use tk_bundle::{Bundle, Page, make, make_with_runs};
