@@ -4,7 +4,7 @@ import time
 
 from lib.asking import body_of, connect, request, status_of
 from lib.command import GIVEN
-from lib.facts import dot
+from lib.facts import CURSOR, EMPTY_VECTOR, dot
 from lib.server import Server
 from shared import PULL, SECONDS, Asking, Syncs, await_that, refreshing, rest_of
 
@@ -162,6 +162,17 @@ class Metrics(Asking):
             sample("all", "token", 400): 1, sample("all", "token", 401): 1,
             sample("all", "unknown", 400): 1,
             sample("all", "metrics", 200): 1, "tokend_connections_total": 6})
+
+    def test_pulls_with_a_query(self):
+        """A pull of pages with runs is counted as any other."""
+        it = self.served("--metrics")
+        before = self.shown(it.place)
+        for query in "", "?runs=1", "?runs=0":
+            sent = request("POST", "/sync/pull" + query, CURSOR + EMPTY_VECTOR)
+            self.assertEqual(status_of(self.said(it.place, sent)), 200)
+        self.assertEqual(grown(before, self.shown(it.place)), {
+            sample("all", "sync/pull", 200): 3, sample("all", "metrics", 200): 1,
+            "tokend_connections_total": 4})
 
     def test_last_push(self):
         """The moment is that of the last push that was taken in, not of one that was refused."""
