@@ -102,7 +102,7 @@ at_path (Some path) method pairs = at_service path (service_at path method) pair
 -- the judgement by a query: it names the pages of a pull, and changes nothing else (own)
 abbrev pub by_query : List ℕ → Judged → Judged
 by_query query (Body (Pull pages) n) = Body (Pull (pages_by query)) n
-by_query query judged = judged
+by_query query other = other
 
 -- the judgement of a head, by which paths are served (RFC 9110, 15.5)
 abbrev pub judged_of : Reach → List ℕ → List ℕ → Pairs → Judged

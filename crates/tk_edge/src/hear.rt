@@ -48,7 +48,10 @@ pub(crate) fn posted_to(
 {
     match posted {
         Posted::Form(endpoint) => asked(alloc, endpoint, body, fields),
-        Posted::Pull(pages) => { Ok(Arrival::Exchange(Exchange::Pull(pages, sent(alloc, body)?))) }
+        Posted::Pull(pages) => {
+            let sent = sent(alloc, body)?;
+            Ok(Arrival::Exchange(Exchange::Pull(pages, sent)))
+        }
         Posted::Push => Ok(Arrival::Exchange(Exchange::Push(sent(alloc, body)?))),
     }
 }

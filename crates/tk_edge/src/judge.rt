@@ -38,7 +38,8 @@ pub(crate) fn judge(reach: Reach, method: &[u8], target: &[u8], fields: &Fields<
     by_query(query, judged)
 }
 
-// Judges a head by its query, of which a pull alone depends: its query names the pages.
+// Judges a head by its query, which names the pages of a pull. The judgement of any other head
+// stays.
 fn by_query(query: &[u8], judged: Judged) -> Judged
     ensures { result ≡ spec.by_query query.now judged }
 {
