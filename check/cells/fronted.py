@@ -122,7 +122,9 @@ class FrontedCase(Subjects):
         return next(it for it in USERS if slot_of(it) in slots)
 
 
-class Fronted(FrontedCase):
+class Celled(FrontedCase):
+    """A test with two cells behind HAProxy, and a client that all sites know."""
+
     def setUp(self):
         super().setUp()
         self.up("dir1", "a1", "a2", "b1")
@@ -130,6 +132,8 @@ class Fronted(FrontedCase):
         self.enrol(is_inner=True)
         self.done("carry", "--once")
 
+
+class Fronted(Celled):
     def test_each_request_goes_to_its_cell(self):
         ids = {}
         for name, first in ("a1", 100), ("a2", 200), ("b1", 300):
@@ -233,6 +237,9 @@ class Fronted(FrontedCase):
         self.assertEqual(self.introspect(a_token), (200, True))
         self.assertEqual(self.ask("GET", "/authorize?response_type=code&client_id=" + self.client,
                                   Authorization="Basic " + basic(users[1], "word"))[0], 503)
+        for user, status in zip(users, (200, 503)):
+            self.assertEqual(self.ask("GET", "/admin/subject?subject=" + user, is_inner=True)[0],
+                             status)
         self.up("b1")
         self.assertTrue(until(lambda: self.introspect(b_token) == (200, True)))
 
