@@ -12,6 +12,8 @@ from lib.server import Tokend
 from lib.waiting import until
 
 ELSE = "AQIAAQAAAAAAAAABAAAAAAAAAAAAAAAAAAAAAAAAAAAAAAAA"  # a token of region 1, never made
+NOT_FOUND = 404, b'{"error":"not_found"}'
+INVALID = 400, b'{"error":"invalid_request"}'
 
 
 class AskedFront(Front):
@@ -52,20 +54,24 @@ class Fronts(Case):
             "kind": "confidential", "secret": "s3cret", "scope": "read",
             "redirects": "https://a.test/"}, True))
         self.meet()
-        self.member("consent_id", self.front.ask("POST", "/admin/consent", {
-            "client_id": self.client, "subject": "dan", "scope": "read"}, True))
+        self.give("dan")
         self.mine = {"Authorization": "Basic " + basic(self.client, "s3cret")}
+
+    def give(self, subject):
+        """Gives a consent at the subject's site, and returns its id."""
+        return self.member("consent_id", self.front.ask("POST", "/admin/consent", {
+            "client_id": self.client, "subject": subject, "scope": "read"}, True))
 
     def member(self, name, reply):
         found = re.search(b'"%s":"([^"]+)"' % name.encode(), reply[2])
         self.assertTrue(found, reply)
         return found[1].decode()
 
-    def sign_in(self):
-        """Dan's access token and refresh token."""
+    def sign_in(self, subject="dan"):
+        """A subject's access token and refresh token."""
         _, where, _ = self.front.ask(
             "GET", "/authorize?response_type=code&client_id=" + self.client,
-            Authorization="Basic " + basic("dan", "dan-word"))
+            Authorization="Basic " + basic(subject, subject + "-word"))
         said = self.token({"grant_type": "authorization_code", "code": where.split("code=")[1]})
         return self.member("access_token", said), self.member("refresh_token", said)
 
@@ -82,6 +88,62 @@ class Fronts(Case):
         status, _, said = self.introspect({"token": token})
         self.assertEqual(status, 200)
         return b'"active":true' in said
+
+    def listed(self, subject, name=None):
+        """The status and body of a subject's list, by the inner side or by a site itself."""
+        path = "/admin/subject?subject=" + subject
+        if name:
+            return self.sites[name].ask(path)
+        return self.front.ask("GET", path, is_inner=True)[::2]
+
+    def logins(self, subject, name=None):
+        """The ids and states of a subject's logins."""
+        status, said = self.listed(subject, name)
+        self.assertEqual(status, 200, said)
+        return [(it["login_id"], it["state"]) for it in json.loads(said)["logins"]]
+
+    def log_out(self, name=None, **form):
+        """Status and body of the reply to a logout, by the inner side or by a site itself."""
+        if name:
+            return self.sites[name].ask_as("POST", "/admin/logout", form)[::2]
+        return self.front.ask("POST", "/admin/logout", form, is_inner=True)[::2]
+
+    def test_a_login_is_listed_and_ended_before_other_sites_know_it(self):
+        """Each request comes three times: a front end that guesses would meet the other site."""
+        self.enrol()
+        self.give("ann")
+        for subject, name, other in ("dan", "two", "one"), ("ann", "one", "two"):
+            tokens = [self.sign_in(subject)[0] for _ in range(2)]
+            for _ in range(3):
+                ended, stays = (login for login, _ in self.logins(subject))
+            for it in ended, stays:
+                self.assertTrue(it.startswith("l%d-" % FIRST[name]))
+            self.assertEqual(self.listed("%%%02x%s" % (ord(subject[0]), subject[1:])),
+                             self.listed(subject, name))
+            self.assertEqual(self.logins(subject, other), [])
+            self.assertEqual(self.log_out(other, login_id=ended), NOT_FOUND)
+            for _ in range(3):
+                self.assertEqual(self.log_out(login_id=ended),
+                                 (200, b'{"login_id":"%s"}' % ended.encode()))
+            self.assertEqual([self.is_active(it) for it in tokens], [False, True])
+            self.assertEqual(self.logins(subject), [(ended, "ended"), (stays, "active")])
+            self.assert_soon(["%s/%s" % (name, name)] * 10, lambda: self.front.by()[-10:])
+        self.meet()
+        for subject in "dan", "ann":
+            self.assertEqual(self.listed(subject, "one"), self.listed(subject, "two"))
+
+    def test_unknown_logins_and_requests_that_name_none(self):
+        for login, where in ("l1-999", "one/one"), ("l%d-999" % FIRST["two"], "two/two"):
+            self.assertEqual(self.log_out(login_id=login), NOT_FOUND)
+            self.assert_soon([where], lambda: self.front.by()[-1:])
+        for login in "l65535-1", "g1-1", "ann":
+            self.assertEqual(self.log_out(login_id=login), NOT_FOUND)
+        for form in {}, {"login_id": ""}:
+            self.assertEqual(self.log_out(**form), INVALID)
+        for subject in "", "dan&subject=dan":
+            self.assertEqual(self.listed(subject), INVALID)
+        for cursor in "logins_after=g1-1", "consents_after=l1-1":
+            self.assertEqual(self.listed("dan&" + cursor), NOT_FOUND)
 
     def test_no_spelling_leads_to_a_site_that_does_not_know(self):
         self.enrol()
