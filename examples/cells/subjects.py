@@ -116,15 +116,20 @@ def sign_out(table: Table, subject: str, patience: float) -> int:
     waiting["directory"] = table.directory
     end = time.monotonic() + patience
     while True:
+        causes: dict[str, str] = {}  # why a cell has not replied, by its name
         for name, sites in list(waiting.items()):
             why = sign_out_at(sites, subject)
-            if not why:
+            if why:
+                causes[name] = why
+            else:
                 print("%s: signed out" % name, flush=True)
                 del waiting[name]
-            elif time.monotonic() > end:
+        if not waiting:
+            return 0
+        if time.monotonic() > end:
+            for name, why in causes.items():
                 print("%s: not yet: %s" % (name, why), flush=True)
-        if not waiting or time.monotonic() > end:
-            return 1 if waiting else 0
+            return 1
         time.sleep(1)
 
 
