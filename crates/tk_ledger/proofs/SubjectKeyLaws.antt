@@ -4,18 +4,20 @@
 --   codes_forward, outs_forward, out_order   the spans run forward
 --   in_codes                                 the span has the dot of each code under the prefix
 --                                            that starts in it
+--   outs_empty                               a table without a key is in order
 --   in_outs, of_subject                      the span has the keys of the subject, and no others
 --   code_listed, out_listed                  the keys of a code and of a sign-out that are held
 use Rattle.std.proofs.Common.{◌≡◌, inl, inr, ℕ, ◌≤◌, ◌==◌, Bool, true, false, ◌&&◌, ◌||◌, not, List}
-use Rattle.std.proofs.Common.{[], ◌∷◌, Some, filter, refl, sym, ap, ◌∙◌, arith, eq-eqb}
+use Rattle.std.proofs.Common.{[], ◌∷◌, Some, filter, refl, sym, ap, subst, ◌∙◌, arith, eq-eqb}
 use Rattle.std.proofs.lemmas.Bool.{true≢false, eqb-true, cases_Bool, cond-true, cond-false}
 use Rattle.std.proofs.lemmas.Bool.{or_cases, or_left, and_parts, and_from}
 use Rattle.std.proofs.lemmas.Cmp.{on_total, then_total, tied_itself, nat_list_cmp_total}
+use Rattle.std.proofs.lemmas.List.{nil_from_length}
 use Rattle.std.proofs.lemmas.Map.Lookups.{exact_bytes}
 use Rattle.std.proofs.lemmas.Slice.Eq.{bytes_eq-Decides}
 use Rattle.std.specs.BTreeMap.{is_at}
 use Rattle.std.specs.BTreeMap.Range.{range_contains, IsLeBy}
-use Rattle.std.specs.BTreeSet.{BTreeSet, contains}
+use Rattle.std.specs.BTreeSet.{BTreeSet, contains, btree_set_len}
 use Rattle.std.specs.Cmp.{IsTotalOrder, nat_cmp_total}
 use Rattle.std.specs.Cmp.Lexicographic.{slice_cmp}
 use Rattle.std.specs.Ordering.{nat_cmp, eq_by_cmp, ordering_then, ordering_reverse, is_eq, is_lt}
@@ -23,6 +25,7 @@ use Rattle.std.specs.Ordering.{is_le, is_gt}
 use Rattle.std.specs.Str.{bytes_eq}
 use Rattle.std.specs.declared.ops.Bound.TheVariants.{Included}
 use Rattle.std.specs.FinMap as map
+use Rattle.std.specs.List.Sorted.{IsStrictlySortedBy}
 use Rattle.sha2.specs.Sha256.{sha256}
 use Rattle.tk_handle.specs.declared.dot.Dot.{Dot}
 use Rattle.tk_handle.specs.Dot.{IsDot, dot_cmp, dot_cmp_total, least_dot, greatest_dot}
@@ -185,6 +188,12 @@ pub out_order : (subject : List ℕ) (l m : ℕ) (a b : Dot)
     ≡ ordering_then (nat_cmp l m) (dot_cmp a b)
 out_order subject l m a b = ap (λ o. ordering_then o (ordering_then (nat_cmp l m) (dot_cmp a b)))
     (tied_itself nat_list_cmp_total subject)
+
+-- a table without a key is in order
+pub outs_empty : (t : BTreeSet OutKey) → btree_set_len t ≡ 0 → IsStrictlySortedBy out_cmp t.keys
+unfolding IsStrictlySortedBy
+outs_empty t none = subst (λ (ks : List OutKey). IsStrictlySortedBy out_cmp ks)
+    (sym (nil_from_length t.keys none)) tt
 
 pub outs_forward : (subject : List ℕ) (a b : OutKey) → a ≡ out_key subject 0 least_dot
     → b ≡ out_key subject greatest_moment greatest_dot → IsLeBy out_cmp a b

@@ -82,6 +82,7 @@ fn tells_of(facts: &FactStore, but: Option<Dot>, subject: &Subject, key: &OutKey
 
 // Returns the key of the last sign-out of the subject, but for the one that is left out. If no
 // sign-out is held, no digest is computed.
+#[tactic(auto, using(crate::proofs::SubjectKeyLaws::outs_empty))]
 fn last_key<'a>(
     facts: &FactStore,
     outs: &'a BTreeSet<OutKey>,
