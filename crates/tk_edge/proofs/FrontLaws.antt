@@ -208,6 +208,14 @@ body_whole over posted size taken front target pairs (Ok came) fits e = λ tail 
     rw (facts.0, facts.1) e
 body_whole over posted size taken front target pairs (Err error) fits e = tt
 
+-- a whole request without a body, whatever follows it
+pub query_whole : (over : Bool) (taken : Taken) (request : RequestFields) (f : List ℕ → Arrival)
+    (result : Result Arrival AllocError) → ((tail : List ℕ) → Request request ≡ f tail)
+    → IfOk result (λ came. came ≡ Request request)
+    → IfOk (front_of result taken) (IsFrontBy over f)
+query_whole over taken request f (Ok came) same e = λ tail follows. e ∙ same tail
+query_whole over taken request f (Err error) same e = tt
+
 -- a body that is not whole yet
 pub body_short : (posted : Posted) (size : ℕ) (front target : List ℕ) (pairs : Pairs)
     → length front < size

@@ -1,17 +1,65 @@
 use Rattle.std.proofs.Common.{◌+◌, ◌++◌, ◌≤◌, length, map, drop, subst, sym, ◌∙◌, add-zero, arith}
-use Rattle.std.proofs.Common.{IfOk, refl, rules}
+use Rattle.std.proofs.Common.{ℕ, List, IfOk, ap, refl, rules}
 use Rattle.std.proofs.lemmas.List.{take_rest}
 use Rattle.httparse.specs.Spans.{name_and_value}
 use Rattle.tk_edge.specs.Bounds.{body_limit, request_limit}
 use Rattle.tk_edge.specs.Fronts.{IsOneRequest, NamesIn}
 use Rattle.tk_edge.specs.HeadFields.{AreFields}
+use Rattle.tk_edge.specs.Heard.{request_at}
 use Rattle.tk_edge.specs.Judged.{MayAsk}
-use Rattle.tk_edge.specs.declared.judge.Judged.TheVariants.{Body, Notice, Query, Vector}
+use Rattle.tk_edge.specs.declared.hear.Arrival.TheVariants.{Request}
+use Rattle.tk_edge.specs.declared.judge.Judged.TheVariants.{Body, Notice, Query, Refused, Vector}
 use Rattle.tk_edge.proofs.BoundLaws.{size_within}
 use Rattle.tk_edge.proofs.FrontLaws.{fewer_within, request_takes, rest_is_all, same_front, size_at}
-use Rattle.tk_edge.proofs.FrontLaws.{named_at, names_come, stays_at}
+use Rattle.tk_edge.proofs.FrontLaws.{named_at, names_come, query_whole, stays_at}
 use Rattle.tk_edge.proofs.StreamLaws.{judged_same, judged_may}
 use Rattle.tk_edge.proofs.front.head_front.Goals as goal
+
+pub returns-in-Refused-clause-came : goal.returns-in-Refused-clause-came
+returns-in-Refused-clause-came c = λ h at.
+    let pairs = map name_and_value h.fields in
+    let are : AreFields c.fields_of-fields.result pairs =
+    rw at.fields at c.fields_of-fields.ensures in
+    rw (c.refused_front.ensures) (λ tail follows.
+    judged_same c.args.reach h (drop c.args.spans.len c.args.bytes.now ++ tail)
+    c.of-method.result.now c.of-target.result.now (Refused c.in-Refused.why)
+    (c.of-method.ensures ∙ at.method) (c.of-target.ensures ∙ at.path)
+    (sym c.in-Refused.is ∙ c.judge-judged.ensures _ are))
+
+pub returns-in-Query-clause-came : goal.returns-in-Query-clause-came
+returns-in-Query-clause-came c = λ h at.
+    let pairs = map name_and_value h.fields in
+    let are : AreFields c.fields_of-fields.result pairs =
+    rw at.fields at c.fields_of-fields.ensures in
+    rw (c.whole_front.ensures)
+    (query_whole c.args.is_over _ _ _ c.asked.result (λ tail.
+    ap (λ (query : List ℕ). Request (request_at c.in-Query.endpoint query pairs))
+    c.split_target-in-Query.ensures.query
+    ∙ judged_same c.args.reach h (drop c.args.spans.len c.args.bytes.now ++ tail)
+    c.of-method.result.now c.of-target.result.now (Query c.in-Query.endpoint)
+    (c.of-method.ensures ∙ at.method) (c.of-target.ensures ∙ at.path)
+    (sym c.in-Query.is ∙ c.judge-judged.ensures _ are))
+    (c.asked.ensures.came pairs are))
+
+pub returns-in-Vector-clause-came : goal.returns-in-Vector-clause-came
+returns-in-Vector-clause-came c = λ h at tail follows.
+    let pairs = map name_and_value h.fields in
+    let are : AreFields c.fields_of-fields.result pairs =
+    rw at.fields at c.fields_of-fields.ensures in
+    judged_same c.args.reach h (drop c.args.spans.len c.args.bytes.now ++ tail)
+    c.of-method.result.now c.of-target.result.now Vector
+    (c.of-method.ensures ∙ at.method) (c.of-target.ensures ∙ at.path)
+    (sym c.in-Vector.is ∙ c.judge-judged.ensures _ are)
+
+pub returns-in-Notice-clause-came : goal.returns-in-Notice-clause-came
+returns-in-Notice-clause-came c = λ h at tail follows.
+    let pairs = map name_and_value h.fields in
+    let are : AreFields c.fields_of-fields.result pairs =
+    rw at.fields at c.fields_of-fields.ensures in
+    judged_same c.args.reach h (drop c.args.spans.len c.args.bytes.now ++ tail)
+    c.of-method.result.now c.of-target.result.now (Notice c.in-Notice.notice)
+    (c.of-method.ensures ∙ at.method) (c.of-target.ensures ∙ at.path)
+    (sym c.in-Notice.is ∙ c.judge-judged.ensures _ are)
 
 pub returns-in-Query-clause-takes : goal.returns-in-Query-clause-takes
 returns-in-Query-clause-takes c = λ h at.
