@@ -1,4 +1,5 @@
-//! Judges a head: which service it requests, or which rule it breaks first.
+//! Judges a head: which service it requests, or which rule it breaks first (RFC 9110, 9.1 and 15.5;
+//! RFC 9112, 6).
 //!
 //! `judge` returns a `Judged`.
 
