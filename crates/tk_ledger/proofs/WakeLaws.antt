@@ -31,7 +31,7 @@ use Rattle.tk_fact.specs.declared.body.Body.TheVariants.{CodeIssued, CodeRedeeme
 use Rattle.tk_store.specs.FactSet.{FactSet}
 use Rattle.tk_store.proofs.FactSetLaws.{tied}
 use Rattle.tk_store.proofs.PutLaws.{none_is_not_some, some_injective}
-use Rattle.tk_ledger.specs.Bodies.{is_same_dot, is_same_token}
+use Rattle.tk_ledger.specs.Bodies.{is_same_token}
 use Rattle.tk_ledger.specs.Tokens.{link_of, links_in, issued_in, issued_at, is_marked}
 use Rattle.tk_ledger.specs.Index.{grant_kind, Wakes}
 use Rattle.tk_ledger.specs.SubjectTables.{dots_of}
