@@ -17,9 +17,9 @@
 //!    dot its tokens are in a family; `specs/Keeping.antt`, `src/keeping.rt`: for which token such
 //!    a fact is kept. The compiler does not require these rows.
 //! 7. `check/rows/bytes_facts.rows` at the top of the repository: its bytes at its limits, and one
-//!    past each among the bytes of no fact, where the next free number, 15 now, becomes one greater.
-//!    `check/rows/bytes_made.rows`: a region that makes such a fact. `must-fail/`: an edit for what
-//!    the kind means.
+//!    past each among the bytes of no fact, where the next free number, 15 now, becomes one
+//!    greater. `check/rows/bytes_made.rows`: a region that makes such a fact. `must-fail/`: an edit
+//!    for what the kind means.
 //! 8. tk_bundle: a row in `kind_of` of `src/version.rt` and of `specs/Versions.antt`; two in the
 //!    tables of versions there, `VERSIONS` and `versions`, without marks and with them. In proofs,
 //!    rows in `fact_kind` of `specs/VersionLaws.antt` and in `body_long` of `specs/ItemLaws.antt`.

@@ -28,7 +28,8 @@ returns-in-Some-clause-counted c =
     let said = sym c.code_at.ensures ∙ c.in-Some.is in
     let same : (c.count_at.result - c.one_if.result) + c.one_if-in-Some.result
     ≡ (count_in (T code) - cond c.args.was 1 0) + cond (bad_in (T c.args.at)) 1 0 =
-    rw (c.count_at.ensures, c.one_if.ensures, c.one_if-in-Some.ensures, c.is_bad-bad.ensures) refl in
+    rw (c.count_at.ensures, c.one_if.ensures, c.one_if-in-Some.ensures, c.is_bad-bad.ensures)
+    refl in
     IsCounted-recount T N c.args.at code c.args.was c.requires.counted said
     (row_at (T code) (c.requires.coded code said))
     (subst (λ (n : ℕ). (q : Dot) → N q ≡ cond (dot_eq code q) (with_count (T q) n) (T q)) same
