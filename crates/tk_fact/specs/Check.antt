@@ -34,6 +34,14 @@ max_generations = 10000
 abbrev pub is_generation : ℕ → Bool
 is_generation n = nat_le 1 n && nat_le n max_generations
 
+-- the greatest turn of a client's secret: how often it can be changed (own)
+abbrev pub max_turns : ℕ
+max_turns = 1000000
+
+-- a turn of a secret that was set: 1 to `max_turns`
+abbrev pub is_turn : ℕ → Bool
+is_turn turn = nat_le 1 turn && nat_le turn max_turns
+
 -- a life: 1 second to the longest
 abbrev pub is_life : ℕ → ℕ → Bool
 is_life longest life = nat_le 1 life && nat_le life longest
@@ -79,7 +87,7 @@ first_broken limits ranges =
 
 -- the first rule that a body breaks, if any. The limits: each subject, redirection URI and
 -- challenge is within its length and its alphabet. The ranges: no expiry, nor the end of a family,
--- is before its start, and each life, generation and kind of token is within its range
+-- is before its start, and each life, generation, turn and kind of token is within its range
 abbrev pub refusal_of : Body → Option FactError
 refusal_of (bodies.ClientAdded fact) =
     first_broken (list_all is_uri fact.redirects) (are_lives fact.lives)
@@ -99,3 +107,4 @@ refusal_of (bodies.ReuseSeen fact) = first_broken true (is_used_once fact.token.
 refusal_of (bodies.SubjectOut fact) = first_broken (is_subject fact.subject) true
 refusal_of (bodies.AccessRefreshed fact) =
     first_broken true (nat_le fact.start fact.access.expiry)
+refusal_of (bodies.SecretSet fact) = first_broken true (is_turn fact.turn)

@@ -4,7 +4,7 @@ use Rattle.std.proofs.Common.{◌≡◌, Option, Some, None, refl, sym, ap, ◌�
 use Rattle.std.proofs.lemmas.Option.{none-some}
 use Rattle.tk_format.specs.Format.{◌and_then◌}
 use Rattle.tk_format.specs.Exact.{IsExact, some_is}
-use Rattle.tk_format.specs.NumberLaws.{u16_exact}
+use Rattle.tk_format.specs.NumberLaws.{u16_exact, u64_exact}
 use Rattle.tk_format.specs.Laws.{both_exact, only_exact, shaped_exact, sized_exact}
 use Rattle.tk_format.specs.KindLaws.{kind_exact, no_kind_exact, its, not_its}
 use Rattle.tk_handle.proofs.FormatLaws.{dot_field_exact, moment_exact, token_exact}
@@ -109,6 +109,12 @@ access_refreshed_exact =
     shaped_exact _ _ _ (both_exact _ _ dot_field_exact (both_exact _ _ moment_exact minted_exact))
     (λ _. refl) (λ _. refl)
 
+-- the law of the fields of SecretSet
+secret_set_exact : IsExact fields.secret_set
+secret_set_exact =
+    shaped_exact _ _ _ (both_exact _ _ dot_field_exact
+    (both_exact _ _ u64_exact (both_exact _ _ digest_exact moment_exact))) (λ _. refl) (λ _. refl)
+
 -- the law of the format of bodies: a row for each kind
 body_exact : IsExact body
 unfolding kinds
@@ -155,6 +161,9 @@ body_exact =
       | b ↦ not_its _ b
     ])
     (λ a. refl) (λ a h. h) (λ bytes. refl)
+    and_then kind_exact _ _ secret_set_exact
+    (elim [ bodies.SecretSet f ↦ its _ f | b ↦ not_its _ b ]) (λ a. refl) (λ a h. h)
+    (λ bytes. refl)
     and_then no_kind_exact
 
 -- the law of the format of facts

@@ -1,7 +1,7 @@
 -- The fields of each kind of fact, in the order in which they are spelled (own). Facts that were
 -- written keep this order, so it never changes.
 use Rattle.std.specs.Prelude.{ℕ, Bool, List, ◌++◌, Option, Some, None}
-use Rattle.std.specs.Int.{w16}
+use Rattle.std.specs.Int.{w16, w64}
 use Rattle.tk_format.specs.Format.{Format, ◌⊗◌, number, shaped}
 use Rattle.tk_handle.specs.declared.dot.Dot.{Dot}
 use Rattle.tk_handle.specs.Moment.{moment}
@@ -30,6 +30,7 @@ use Rattle.tk_fact.specs.declared.token_revoked.TokenRevoked.{TokenRevoked}
 use Rattle.tk_fact.specs.declared.reuse_seen.ReuseSeen.{ReuseSeen}
 use Rattle.tk_fact.specs.declared.subject_out.SubjectOut.{SubjectOut}
 use Rattle.tk_fact.specs.declared.access_refreshed.AccessRefreshed.{AccessRefreshed}
+use Rattle.tk_fact.specs.declared.secret_set.SecretSet.{SecretSet}
 
 -- the terms of a client: its kind, its scope, its redirection URIs
 abbrev pub Terms : Type 0
@@ -199,3 +200,11 @@ access_refreshed = shaped
     (λ (parent, (start, access)). record { parent = parent; start = start; access = access })
     (λ f. (f.parent, (f.start, f.access)))
     (dot_field ⊗ (moment ⊗ minted_field))
+
+-- SecretSet: the dot of the client, the turn, the digest, the moment
+abbrev pub secret_set : Format SecretSet
+secret_set = shaped
+    (λ (client, (turn, (digest, at))).
+    record { client = client; turn = turn; digest = digest; moment = at })
+    (λ f. (f.client, (f.turn, (f.digest, f.moment))))
+    (dot_field ⊗ (number w64 ⊗ (digest_field ⊗ moment)))

@@ -227,6 +227,14 @@ body_short (bodies.AccessRefreshed f) fits =
       moment_short f.start,
       simp length-append at (minted_short f.access fits.1.1),
     ))
+body_short (bodies.SecretSet f) fits =
+    simp length-append (omega (
+      arith,
+      simp length-append at (dot_short f.client),
+      number_length w64 f.turn,
+      fits.1.1.0,
+      moment_short f.moment,
+    ))
 
 -- a fact has at most `max_bytes`
 pub fact_short : (f : Dot × Body) → fact.Fits f → length (fact.spell f) ≤ max_bytes

@@ -1,4 +1,4 @@
-//! The body of a fact: one of eleven kinds.
+//! The body of a fact: one of twelve kinds.
 //!
 //! To add a kind:
 //!
@@ -17,7 +17,7 @@
 //!    dot its tokens are in a family; `specs/Keeping.antt`, `src/keeping.rt`: for which token such
 //!    a fact is kept. The compiler does not require these rows.
 //! 7. `check/rows/bytes_facts.rows` at the top of the repository: its bytes at its limits, and one
-//!    past each among the bytes of no fact, where the next free number, 15 now, becomes one
+//!    past each among the bytes of no fact, where the next free number, 16 now, becomes one
 //!    greater. `check/rows/bytes_made.rows`: a region that makes such a fact. `must-fail/`: an edit
 //!    for what the kind means.
 //! 8. tk_bundle: a row in `kind_of` of `src/version.rt` and of `specs/Versions.antt`; two in the
@@ -32,14 +32,14 @@
 //! 10. tk_ledger, if the kind is a link of a family or ends one: `link_of`, `revoked_by`,
 //!     `reuse_of` or `IsStopped` of `specs/Tokens.antt`, `signs_out_in` of `specs/SignOuts.antt`,
 //!     `generation_of` of `specs/Status.antt`. If the kind makes or ends a client or a consent:
-//!     `specs/Clients.antt`. These definitions end in a row for all other kinds, so the compiler
-//!     does not require a new row. The tests of tk_trials restate them in
-//!     `src/ledger/walks.rt`.
+//!     `specs/Clients.antt`; if it sets a secret: `specs/Secrets.antt`. These definitions end in a
+//!     row for all other kinds, so the compiler does not require a new row. The tests of tk_trials
+//!     restate them in `src/ledger/walks.rt`.
 //! 11. The request that makes such facts: an `Endpoint` of tk_message with its reply; the decision
 //!     in tk_authorize, tk_grant or tk_query with its row in `decision_by` of tk_region; its path
 //!     in tk_edge; perhaps a line in `src/request_line.rt` of tk_world.
-//! 12. The number of kinds: "eleven" in this file, in `src/lib.rt`, in docs/GLOSSARY.md and in
-//!     docs/ARCHITECTURE.md; the kinds 1 to 13 and their list in docs/FORMATS.md; the row "fact" of
+//! 12. The number of kinds: "twelve" in this file, in `src/lib.rt`, in docs/GLOSSARY.md and in
+//!     docs/ARCHITECTURE.md; the kinds 1 to 15 and their list in docs/FORMATS.md; the row "fact" of
 //!     docs/DEFINITIONS.md. No kind has the number 11, or 14, which is that of a run of marks in
 //!     bundles. 13 is a second number of `ClientAdded`: that of a client with lives, whose rows
 //!     show how a kind gets more fields.
@@ -59,12 +59,13 @@ use crate::consent_given::ConsentGiven;
 use crate::consent_withdrawn::ConsentWithdrawn;
 use crate::refresh_rotated::RefreshRotated;
 use crate::reuse_seen::ReuseSeen;
+use crate::secret_set::SecretSet;
 use crate::subject_out::SubjectOut;
 use crate::token_revoked::TokenRevoked;
 use std::alloc::{AllocError, Global};
 use tk_format::{ReadError, Reader, Writer};
 
-/// The body of a fact: one of eleven kinds.
+/// The body of a fact: one of twelve kinds.
 ///
 /// The ranges that fields document are those of a fact that passes its check.
 #[derive(Drop)]
@@ -91,6 +92,8 @@ pub enum Body {
     SubjectOut(SubjectOut),
     /// An access token was minted for a refresh token that its client keeps (RFC 6749, 6).
     AccessRefreshed(AccessRefreshed),
+    /// A client's secret was changed (own).
+    SecretSet(SecretSet),
 }
 
 impl Body {
@@ -111,6 +114,7 @@ impl Body {
             Body::ReuseSeen(fields) => Ok(Body::ReuseSeen(*fields)),
             Body::SubjectOut(fields) => Ok(Body::SubjectOut(fields.copy(alloc)?)),
             Body::AccessRefreshed(fields) => Ok(Body::AccessRefreshed(fields.copy(alloc)?)),
+            Body::SecretSet(fields) => Ok(Body::SecretSet(*fields)),
         }
     }
 
@@ -130,6 +134,7 @@ impl Body {
             (Body::ReuseSeen(left), Body::ReuseSeen(right)) => left == right,
             (Body::SubjectOut(left), Body::SubjectOut(right)) => left.same(right),
             (Body::AccessRefreshed(left), Body::AccessRefreshed(right)) => left.same(right),
+            (Body::SecretSet(left), Body::SecretSet(right)) => left == right,
             _ => false,
         }
     }
@@ -151,6 +156,7 @@ impl Body {
             Body::ReuseSeen(fields) => fields.known(),
             Body::SubjectOut(fields) => fields.known(),
             Body::AccessRefreshed(fields) => fields.known(),
+            Body::SecretSet(fields) => fields.known(),
         }
     }
 
@@ -186,6 +192,10 @@ impl Body {
             10 => Ok(Body::SubjectOut(SubjectOut::read(alloc, reader)?)),
             12 => Ok(Body::AccessRefreshed(AccessRefreshed::read(alloc, reader)?)),
             13 => Ok(Body::ClientAdded(ClientAdded::read_limited(alloc, reader)?)),
+            15 => match SecretSet::read(reader) {
+                Some(fields) => Ok(Body::SecretSet(fields)),
+                None => Err(ReadError::Malformed),
+            },
             _ => Err(ReadError::Malformed),
         }
     }
@@ -218,6 +228,7 @@ impl Body {
             Body::ReuseSeen(_) => 9,
             Body::SubjectOut(_) => 10,
             Body::AccessRefreshed(_) => 12,
+            Body::SecretSet(_) => 15,
         }
     }
 
@@ -239,6 +250,7 @@ impl Body {
             Body::ReuseSeen(fields) => fields.write(writer),
             Body::SubjectOut(fields) => fields.write(writer),
             Body::AccessRefreshed(fields) => fields.write(writer),
+            Body::SecretSet(fields) => fields.write(writer),
         }
     }
 }

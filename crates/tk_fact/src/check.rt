@@ -3,7 +3,7 @@
 ghost use Rattle.std.specs.Prelude.{◌≡◌, ◌&&◌, OnOk, IfErr, IsTrue, None, Some, true};
 ghost use Rattle.std.specs.List.{list_all};
 ghost use Rattle.tk_fact.specs.Check.{first_broken, refusal_of, ends_after, is_challenge};
-ghost use Rattle.tk_fact.specs.Check.{are_lives, is_revocable, is_used_once};
+ghost use Rattle.tk_fact.specs.Check.{are_lives, is_revocable, is_turn, is_used_once};
 ghost use Rattle.tk_fact.specs.Subject.{is_subject};
 ghost use Rattle.tk_match.specs.Redirects.{is_uri};
 
@@ -27,12 +27,16 @@ pub enum FactError {
     /// - A life of a client is 0 seconds, or longer than any such life.
     /// - An expiry, or the end of a family, is before the start.
     /// - A generation is not 1 to 10,000.
+    /// - A turn of a secret is not 1 to 1,000,000.
     /// - A revoked token is a code, or a token used again is an access token.
     Range,
 }
 
 /// The greatest number of generations of a family, the last of which isn't rotated (own).
 pub const MAX_GENERATIONS: u16 = 10_000;
+
+/// The greatest turn of a client's secret: how often it can be changed (own).
+pub const MAX_TURNS: u64 = 1_000_000;
 
 // Returns the first rule that a body breaks, if any.
 pub(crate) fn check_body(body: &Body) -> Result<(), FactError>
@@ -67,6 +71,7 @@ pub(crate) fn check_body(body: &Body) -> Result<(), FactError>
             let _name = fact.subject.as_str();
             Ok(())
         }
+        Body::SecretSet(fact) => in_range(is_turn(fact.turn)),
         Body::ClientRetired(_) | Body::ConsentWithdrawn(_) => Ok(()),
     }
 }
@@ -141,6 +146,13 @@ fn known_challenge_text(challenge: &Option<Challenge>)
             let _text = challenge.text();
         }
     }
+}
+
+// Returns whether a turn of a secret is in range.
+fn is_turn(turn: u64) -> bool
+    ensures { result ≡ is_turn turn }
+{
+    (1..=MAX_TURNS).contains(&turn)
 }
 
 fn is_revocable(kind: Kind) -> bool

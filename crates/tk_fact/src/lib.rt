@@ -1,6 +1,6 @@
 //! Facts: what a region knows, each at its dot. A fact is never changed or taken away.
 //!
-//! A `Fact` is a `Body` at a `Dot`, and a body is of one of eleven kinds.
+//! A `Fact` is a `Body` at a `Dot`, and a body is of one of twelve kinds.
 //!
 //! - `Fact::check` returns which rule a fact breaks, if any.
 //! - `Fact::write` and `Fact::read` convert a fact to and from bytes: the dot, a byte for the kind,
@@ -15,8 +15,8 @@
 //! The methods `known` do nothing at run time: they give a proof the fact that a value has a
 //! spelling.
 //!
-//! In reading order: `Subject`, `ClientKind`, `ClientLives`, `MintedToken`, the eleven kinds from
-//! `ClientAdded` to `AccessRefreshed`, `Body`, `Fact`, `Minted`. `specs/Lib.antt` lists the
+//! In reading order: `Subject`, `ClientKind`, `ClientLives`, `MintedToken`, the twelve kinds from
+//! `ClientAdded` to `SecretSet`, `Body`, `Fact`, `Minted`. `specs/Lib.antt` lists the
 //! definitions.
 #![tactic(auto)]
 
@@ -41,6 +41,7 @@ mod redirects_field;
 mod refresh_rotated;
 mod reuse_seen;
 mod scope_field;
+mod secret_set;
 mod subject;
 mod subject_out;
 mod token_revoked;
@@ -49,7 +50,9 @@ mod uri_field;
 
 pub use access_refreshed::AccessRefreshed;
 pub use body::Body;
-pub use check::{FactError, MAX_ACCESS_LIFE, MAX_FAMILY_LIFE, MAX_GENERATIONS, MAX_REFRESH_LIFE};
+pub use check::{
+    FactError, MAX_ACCESS_LIFE, MAX_FAMILY_LIFE, MAX_GENERATIONS, MAX_REFRESH_LIFE, MAX_TURNS,
+};
 pub use client_added::ClientAdded;
 pub use client_kind::ClientKind;
 pub use client_lives::ClientLives;
@@ -63,6 +66,7 @@ pub use keeping::passing_is_kept;
 pub use minted_token::MintedToken;
 pub use refresh_rotated::RefreshRotated;
 pub use reuse_seen::ReuseSeen;
+pub use secret_set::SecretSet;
 pub use subject::{Subject, SubjectError};
 pub use subject_out::SubjectOut;
 pub use token_revoked::TokenRevoked;

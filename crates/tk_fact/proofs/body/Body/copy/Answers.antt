@@ -70,3 +70,6 @@ returns-in_ok-copy-in-AccessRefreshed c =
 pub returns-in_err-copy-in-AccessRefreshed : goal.returns-in_err-copy-in-AccessRefreshed
 returns-in_err-copy-in-AccessRefreshed c =
     no_copy _ _ c.from_residual-in_err-copy-in-AccessRefreshed.ensures.0
+
+pub returns-in-SecretSet : goal.returns-in-SecretSet
+returns-in-SecretSet c = copy_of bodies.SecretSet _ _ _ refl c.in-SecretSet.is

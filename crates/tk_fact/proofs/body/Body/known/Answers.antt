@@ -46,3 +46,7 @@ returns-in-SubjectOut c = rw c.in-SubjectOut.is c.known-in-SubjectOut.ensures
 pub returns-in-AccessRefreshed : goal.returns-in-AccessRefreshed
 unfolding kinds
 returns-in-AccessRefreshed c = rw c.in-AccessRefreshed.is c.known-in-AccessRefreshed.ensures
+
+pub returns-in-SecretSet : goal.returns-in-SecretSet
+unfolding kinds
+returns-in-SecretSet c = rw c.in-SecretSet.is c.known-in-SecretSet.ensures

@@ -133,3 +133,13 @@ unfolding kinds
 returns-in_err-read_limited-in-13 c = fails_by bodies.ClientAdded fields.limited
     fields.limited_terms _ _ _ _ _ c.from_residual-in_err-read_limited-in-13.ensures.1
     c.in_err-read_limited-in-13.ensures (behind_byte _ _ _ 13 _ c.in-Some.ensures.read c.in-13.is)
+
+pub returns-in-Some-read-5 : goal.returns-in-Some-read-5
+unfolding kinds
+returns-in-Some-read-5 c = behind_byte _ _ _ 15 _ c.in-Some.ensures.read c.in-15.is
+    (made_of bodies.SecretSet fields.secret_set _ _ _ c.in-Some-read-5.ensures)
+
+pub returns-in-None-read-4 : goal.returns-in-None-read-4
+unfolding kinds
+returns-in-None-read-4 c = behind_byte _ _ _ 15 _ c.in-Some.ensures.read c.in-15.is
+    (none_of bodies.SecretSet fields.secret_set _ c.in-None-read-4.ensures)

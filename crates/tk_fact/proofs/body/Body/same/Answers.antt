@@ -33,3 +33,6 @@ returns-in_default-10 c = search rules
 
 pub returns-in_default-11 : goal.returns-in_default-11
 returns-in_default-11 c = search rules
+
+pub returns-in_default-12 : goal.returns-in_default-12
+returns-in_default-12 c = search rules

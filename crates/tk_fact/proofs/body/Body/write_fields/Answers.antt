@@ -45,3 +45,7 @@ returns-in-SubjectOut c = search rules
 pub returns-in-AccessRefreshed : goal.returns-in-AccessRefreshed
 unfolding kinds
 returns-in-AccessRefreshed c = search rules
+
+pub returns-in-SecretSet : goal.returns-in-SecretSet
+unfolding kinds
+returns-in-SecretSet c = search rules
