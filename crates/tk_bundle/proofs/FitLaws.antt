@@ -215,6 +215,7 @@ pub record AreRuns (items : Items) : Type 0 where
   pub some : has_run items ≡ true
   pub fits : AllByRecursion item.Fits items
 
+-- items that are spelled with runs have a run
 pub runs_are : (items : Items) → (items_by true).Fits items → AreRuns items
 runs_are items fits =
     let g = cond_some (are_runs (grouped items)) (expanded (grouped items)) items fits.1 in
@@ -228,6 +229,7 @@ runs_are items fits =
       fits = subst (AllByRecursion item.Fits) g.1 (expanded_fit (grouped items) fits.0.1);
     }
 
+-- each item of a bundle has a spelling
 pub items_fit : (b : BundleFields) → bundle.Fits b → AllByRecursion item.Fits b.items
 items_fit b fits = by_runs b.runs (spelled_items b fits)
   where
@@ -235,6 +237,7 @@ items_fit b fits = by_runs b.runs (spelled_items b fits)
     by_runs false f = f.1
     by_runs true f = (runs_are b.items f).fits
 
+-- a bundle has at most 1,024 items
 pub items_few : (b : BundleFields) → bundle.Fits b → length b.items ≤ max_run_items
 items_few b fits = by_runs b.runs (spelled_items b fits)
   where

@@ -130,6 +130,7 @@ pub dots_are : (S : Slots) (v : Vector) (after : Option Dot) (limit : ℕ)
 dots_are S v after limit = take-take limit (limit + 1) (map dot_of (beyond S v after)) (omega arith)
     ∙ take-map dot_of limit (beyond S v after)
 
+-- the first of a list of items are in the store
 pub all_take : (S : Slots) (n : ℕ) (items : Items) → AllIn S items → AllIn S (take n items)
 all_take S zero items all = tt
 all_take S (suc n) [] all = tt
@@ -202,6 +203,7 @@ ascends_sorted (e ∷ es) sorted = let s = both _ _ sorted in ascends_above e.0 
 
 -- ---- a page in bytes
 
+-- a page of the first dots beyond a vector and a cursor is the page of the store
 pub page_is : (made : Page) (P : StoreFields) (v : Vector) (after : Option Dot) (limit : ℕ)
     (dots : List Dot) (more : Bool)
     → dots ≡ map dot_of (take limit (beyond P.slots v after))

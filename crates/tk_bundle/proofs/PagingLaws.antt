@@ -104,6 +104,7 @@ taken runs v R (Q ∷ later) after P has d b known free past =
     grown : SlotBelow (Some b) (sets.get Q.slots d)
     grown = subst (λ o. SlotBelow o (sets.get Q.slots d)) known (has.2 d)
 
+-- a receiver that takes in each page has all
 pub complete : PagesComplete
 complete runs v P R later covered has d = by_slot (sets.get P.slots d) refl
   where

@@ -10,7 +10,8 @@
 --   bundle_bytes    the bytes of a bundle
 --   digit_told      the digit that shows which of three sorts of items are inside, and runs
 --   VersionsTold    a bundle's first four bytes show whether runs, marks, sign-outs, and facts of
---                   clients that keep their refresh tokens or have lives are inside
+--                   clients that keep their refresh tokens, have lives, or changed their secrets
+--                   are inside
 use Rattle.std.specs.Prelude.{◌≡◌, ℕ, Bool, true, false, ◌&&◌, nat_le, ◌==◌, List, [], ◌∷◌, ◌++◌}
 use Rattle.std.specs.Prelude.{take}
 use Rattle.std.specs.Prelude.{Option, Some, None, if◌then◌else◌}
@@ -118,9 +119,10 @@ digit_told runs newer marked out =
     else 49
 
 -- A bundle with runs begins with OTB6. Another bundle with the registration of a client that keeps
--- its refresh token or has lives, or with an access token that was refreshed for one that keeps it,
--- begins with OTB5 if one of its items is a mark, otherwise with OTB4. Any other begins with OTB3
--- if one of its items is a mark, otherwise with OTB2 if one is a sign-out, otherwise with OTB1
+-- its refresh token or has lives, with an access token that was refreshed for one that keeps it, or
+-- with a change of a client's secret, begins with OTB5 if one of its items is a mark, otherwise
+-- with OTB4. Any other begins with OTB3 if one of its items is a mark, otherwise with OTB2 if one
+-- is a sign-out, otherwise with OTB1
 abbrev pub VersionsTold : Type 0
 VersionsTold =
     (b : BundleFields) → take 4 (bundle_bytes b) ≡ magic

@@ -75,6 +75,7 @@ bind_ok (Err d) f y e = absurd cc
 abbrev walked : {A : Type 0} → A → Result A FrontError
 walked x = Ok x
 
+-- walks that end at one place end with one value
 pub ok_is : {A : Type 0} (x y : A) → walked x ≡ walked y → x ≡ y
 ok_is x y e = cc
 

@@ -53,6 +53,7 @@ body_long (bodies.TokenRevoked f) = omega arith
 body_long (bodies.ReuseSeen f) = omega arith
 body_long (bodies.SubjectOut f) = omega arith
 body_long (bodies.AccessRefreshed f) = omega arith
+body_long (bodies.SecretSet f) = omega arith
 
 -- a dot has ten bytes
 pub dot_length : (d : Dot) → length (dot_field.spell d) ≡ dot_size
@@ -61,6 +62,7 @@ dot_length d =
     ∙ ap (λ n. n + length (number_spelling w64 d.serial)) (number_length w16 d.region)
     ∙ ap (λ n. 2 + n) (number_length w64 d.serial)
 
+-- no fact has as many bytes as a dot
 pub fact_no_dot : (d : Dot) (b : Body) → eqb (length (fact.spell (d, b))) dot_size ≡ false
 fact_no_dot d b =
     ap (λ n. eqb n dot_size) (length-append (dot_field.spell d) (body.spell b)

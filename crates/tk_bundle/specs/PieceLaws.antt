@@ -52,6 +52,7 @@ pub record GoesOn (d : Dot) (last : ℕ) (e : Dot) : Type 0 where
   pub region : d.region ≡ e.region
   pub serial : last + 1 ≡ e.serial
 
+-- a mark that continues a run is at its next dot
 pub goes_on : (d : Dot) (last : ℕ) (e : Dot)
     → continues (last_mark (Marks d last)) (e, Skipped) ≡ true → GoesOn d last e
 goes_on d last e h =
@@ -76,6 +77,7 @@ extended_items (Marks d last) (e, Skipped) low on =
     ∙ ap (λ (x : Dot). marks_from d (suc (last - d.serial)) ++ (x, Skipped) ∷ [])
     (λ j. record { region = g.region j; serial = s j })
 
+-- the last mark of a piece isn't before its first, with one more mark behind
 pub stretch_extended : (p : Piece) (i : Dot × Slot) → is_stretch p ≡ true
     → continues (last_mark p) i ≡ true → is_stretch (extended p i.0) ≡ true
 stretch_extended (Fact f) i low on = absurd cc
@@ -86,6 +88,7 @@ stretch_extended (Marks d last) (e, Skipped) low on =
     later : (m n k : ℕ) → nat_le m n ≡ true → n + 1 ≡ k → nat_le m k ≡ true
     later m n k h s = grind (arith, nat_tests)
 
+-- the last mark of a piece that was begun isn't before its first
 pub stretch_begun : (i : Dot × Slot) → is_stretch (begun i) ≡ true
 stretch_begun (d, Held b) = refl
 stretch_begun (d, Skipped) = same d.serial
@@ -93,6 +96,7 @@ stretch_begun (d, Skipped) = same d.serial
     same : (n : ℕ) → nat_le n n ≡ true
     same n = grind (arith, nat_tests)
 
+-- a piece that was begun has its one item
 pub begun_items : (i : Dot × Slot) → piece_items (begun i) ≡ i ∷ []
 unfolding marks_from
 begun_items (d, Held b) = refl
@@ -130,6 +134,7 @@ from_items p (i ∷ more) low =
         ap (λ (l : Items). piece_items p ++ l) (next (begun i) (stretch_begun i)
         ∙ ap (λ (l : Items). l ++ more) (begun_items i))
 
+-- the items of grouped pieces are the items
 pub grouped_items : (items : Items) → expanded (grouped items) ≡ items
 grouped_items [] = refl
 grouped_items (i ∷ more) =
@@ -152,6 +157,7 @@ from_proper last p (i ∷ more) low apart =
     by_test next false off = rw (apart, low) (next (last_mark p) (begun i) (stretch_begun i)
         (ap (continues (last_mark p)) (first_begun i) ∙ off))
 
+-- grouped pieces are proper: no run follows another without a gap
 pub grouped_proper : (items : Items) → is_proper (grouped items) ≡ true
 grouped_proper [] = refl
 grouped_proper (i ∷ more) = from_proper None (begun i) more (stretch_begun i) refl
@@ -194,6 +200,7 @@ pub record IsNext (last : Option Dot) (p : Piece) (ps : List Piece) : Type 0 whe
   pub low : is_stretch p ≡ true
   pub more : is_proper_behind (last_mark p) ps ≡ true
 
+-- a proper piece is the next one behind the last mark
 pub is_next : (last : Option Dot) (p : Piece) (ps : List Piece)
     → is_proper_behind last (p ∷ ps) ≡ true → IsNext last p ps
 is_next last p ps h = of (continues last (first_item p)) (is_stretch p) refl refl h
@@ -213,6 +220,7 @@ from_again p (q ∷ ps) h =
     ∙ rw n.apart (ap (λ (l : List Piece). p ∷ l) (begun_whole q (expanded ps) n.low
     ∙ from_again q ps n.more))
 
+-- proper pieces are what their items are grouped to
 pub grouped_again : (ps : List Piece) → is_proper ps ≡ true → grouped (expanded ps) ≡ ps
 grouped_again [] h = refl
 grouped_again (p ∷ ps) h =

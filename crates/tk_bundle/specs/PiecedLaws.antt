@@ -76,6 +76,7 @@ body_kind (bodies.TokenRevoked f) = refl
 body_kind (bodies.ReuseSeen f) = refl
 body_kind (bodies.SubjectOut f) = refl
 body_kind (bodies.AccessRefreshed f) = refl
+body_kind (bodies.SecretSet f) = refl
 
 fact_begins : (f : Dot × Body) → has_run_kind (fact.spell f) ≡ false
 fact_begins f = behind_dot f.0 (body.spell f.1) ∙ body_kind f.1

@@ -34,9 +34,10 @@ use Rattle.tk_bundle.specs.Versions.{version_of, is_version, has_horizon, has_ru
 use Rattle.tk_bundle.specs.Versions.{is_sign_out}
 
 -- All kinds are in the table; the kinds up to 10 are those of facts without a client that keeps its
--- refresh token or has lives; the kinds up to 9, those of these without sign-outs
+-- refresh token or has lives, and without a change of a secret; the kinds up to 9, those of these
+-- without sign-outs
 record KindTold (kind : ℕ) (newer out : Bool) : Type 0 where
-  known : kind ≤ 13
+  known : kind ≤ 15
   up_to_10 : nat_le kind 10 ≡ not newer
   up_to_9 : nat_le kind 9 ≡ (not newer && not out)
 
@@ -72,6 +73,8 @@ fact_kind d (bodies.SubjectOut f) =
     record { known = omega arith; up_to_10 = refl; up_to_9 = refl }
 fact_kind d (bodies.AccessRefreshed f) =
     record { known = omega arith; up_to_10 = refl; up_to_9 = refl }
+fact_kind d (bodies.SecretSet f) =
+    record { known = omega arith; up_to_10 = refl; up_to_9 = refl }
 
 kind_told : (i : Dot × Slot) → KindTold (kind_in i.1) (is_newer i) (is_sign_out i)
 kind_told (d, Held b) = fact_kind d b
@@ -86,13 +89,13 @@ either true false b = refl
 either false a b = refl
 
 -- the newest kind is in the table
-newest_known : (last : ℕ) (items : Items) → last ≤ 13 → newest_kind last items ≤ 13
+newest_known : (last : ℕ) (items : Items) → last ≤ 15 → newest_kind last items ≤ 15
 newest_known last [] low = low
 newest_known last (i ∷ more) low =
     newest_known (max last (kind_in i.1)) more (omega (arith, (kind_told i).known))
 
 -- the newest kind is at most 10 exactly if no item is of a client that keeps its refresh token or
--- has lives
+-- has lives, or a change of a secret
 newest_newer : (last : ℕ) (items : Items)
     → nat_le (newest_kind last items) 10 ≡ (nat_le last 10 && not (list_any is_newer items))
 newest_newer last [] = sym (and-true (nat_le last 10))
@@ -102,7 +105,7 @@ newest_newer last (i ∷ more) =
     ∙ ap (λ t. (nat_le last 10 && t) && not (list_any is_newer more)) (kind_told i).up_to_10
     ∙ either (nat_le last 10) (is_newer i) (list_any is_newer more)
 
--- the newest kind is at most 9 exactly if no item is of such a client or a sign-out
+-- the newest kind is at most 9 exactly if no item is one of these or a sign-out
 newest_told : (last : ℕ) (items : Items) → nat_le (newest_kind last items) 9
     ≡ (nat_le last 9 && (not (list_any is_newer items) && not (list_any is_sign_out items)))
 newest_told last [] = sym (and-true (nat_le last 9))
@@ -124,7 +127,7 @@ newest_told last (i ∷ more) =
     sorted false a o b p = refl
 
 -- the digit by the newest kind, and by whether there are marks and runs
-by_kind : (kind : ℕ) (runs newer marked out : Bool) → kind ≤ 13 → nat_le kind 10 ≡ not newer
+by_kind : (kind : ℕ) (runs newer marked out : Bool) → kind ≤ 15 → nat_le kind 10 ≡ not newer
     → nat_le kind 9 ≡ (not newer && not out)
     → version_with kind marked runs ≡ digit_told runs newer marked out
 by_kind kind true newer true out low k o = grind (arith, nat_tests)

@@ -9,7 +9,8 @@
 --   has_horizon    a version has marks, and so a horizon
 --   has_runs       a version has runs of marks
 --   is_sign_out    an item is a sign-out
---   is_newer       an item is of a client that keeps its refresh token, or has lives
+--   is_newer       an item is of a client that keeps its refresh token or has lives, or is a change
+--                  of a secret
 use Rattle.std.specs.Prelude.{ℕ, max, Bool, true, false, ◌&&◌, ◌||◌, not, nat_le, ◌==◌}
 use Rattle.std.specs.Prelude.{List, [], ◌∷◌, Option, Some, None, if◌then◌else◌}
 use Rattle.std.specs.List.{list_any}
@@ -24,17 +25,18 @@ use Rattle.tk_bundle.specs.BundleFields.{Items, is_mark}
 use Rattle.tk_bundle.specs.declared.version.Version.{Version}
 
 -- The digit of each version, the number of its newest kind of facts, whether it has marks, and
--- whether it has runs of marks. A bundle keeps the version that it was written in: a row never
--- changes, and a later version is one row more. OTB1 has the kinds 1 to 9, OTB2 the kinds 1 to 10,
--- OTB3 these and marks. OTB4 has all kinds, OTB5 all kinds and marks, OTB6 these and runs
+-- whether it has runs of marks. A bundle keeps the version that it was written in: once a row is in
+-- a release it never changes, and a later version is one row more. OTB1 has the kinds 1 to 9, OTB2
+-- the kinds 1 to 10, OTB3 these and marks. OTB4 has all kinds, OTB5 all kinds and marks, OTB6 these
+-- and runs
 abbrev pub versions : List Version
 versions =
     record { digit = 49; kinds = 9; marks = false; runs = false }
     ∷ record { digit = 50; kinds = 10; marks = false; runs = false }
     ∷ record { digit = 51; kinds = 10; marks = true; runs = false }
-    ∷ record { digit = 52; kinds = 13; marks = false; runs = false }
-    ∷ record { digit = 53; kinds = 13; marks = true; runs = false }
-    ∷ record { digit = 54; kinds = 13; marks = true; runs = true }
+    ∷ record { digit = 52; kinds = 15; marks = false; runs = false }
+    ∷ record { digit = 53; kinds = 15; marks = true; runs = false }
+    ∷ record { digit = 54; kinds = 15; marks = true; runs = true }
     ∷ []
 
 -- The number of the kind that a version must have for a client: that of clients with lives; that of
@@ -58,6 +60,7 @@ kind_of (bodies.TokenRevoked f) = 8
 kind_of (bodies.ReuseSeen f) = 9
 kind_of (bodies.SubjectOut f) = 10
 kind_of (bodies.AccessRefreshed f) = 12
+kind_of (bodies.SecretSet f) = 15
 
 -- the number of the kind that a version must have for a fact; 0 for a mark, which needs no kind
 abbrev pub kind_in : Slot → ℕ
@@ -115,9 +118,10 @@ is_newer_client client_kind (Some lives) = true
 is_newer_client client_kind None = keeps_refresh client_kind
 
 -- the item is of a client that keeps its refresh token, or has lives: its registration, or an
--- access token that it refreshed
+-- access token that it refreshed; or it is a change of a client's secret
 abbrev pub is_newer : Dot × Slot → Bool
 is_newer (d, Held (bodies.ClientAdded f)) = is_newer_client f.client_kind f.lives
 is_newer (d, Held (bodies.AccessRefreshed f)) = true
+is_newer (d, Held (bodies.SecretSet f)) = true
 is_newer (d, Held b) = false
 is_newer (d, Skipped) = false

@@ -189,10 +189,10 @@ pub fn none_begins_another()
 /// States a law: the first four bytes of a bundle show which sorts of items are inside.
 ///
 /// A bundle with runs begins with `OTB6`. Another bundle with the registration of a client that
-/// keeps its refresh token or has lives, or with an access token that was refreshed for one that
-/// keeps it, begins with `OTB5` if one of its items is a mark, otherwise with `OTB4`. Any other
-/// begins with `OTB3` if one of its items is a mark, otherwise with `OTB2` if one is a sign-out,
-/// otherwise with `OTB1`.
+/// keeps its refresh token or has lives, with an access token that was refreshed for one that keeps
+/// it, or with a change of a client's secret, begins with `OTB5` if one of its items is a mark,
+/// otherwise with `OTB4`. Any other begins with `OTB3` if one of its items is a mark, otherwise
+/// with `OTB2` if one is a sign-out, otherwise with `OTB1`.
 pub fn versions_told()
     ensures { VersionsTold }
 {}

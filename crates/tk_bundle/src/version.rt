@@ -14,8 +14,8 @@ pub(crate) struct Version {
     runs: bool,
 }
 
-// A bundle keeps the version that it was written in: a row never changes, and a later version is
-// one row more.
+// A bundle keeps the version that it was written in: once a row is in a release it never changes,
+// and a later version is one row more.
 const VERSIONS: [Version; 6] = [
     Version {
         digit: b'1',
@@ -37,19 +37,19 @@ const VERSIONS: [Version; 6] = [
     },
     Version {
         digit: b'4',
-        kinds: 13,
+        kinds: 15,
         marks: false,
         runs: false,
     },
     Version {
         digit: b'5',
-        kinds: 13,
+        kinds: 15,
         marks: true,
         runs: false,
     },
     Version {
         digit: b'6',
-        kinds: 13,
+        kinds: 15,
         marks: true,
         runs: true,
     },
@@ -98,6 +98,7 @@ pub(crate) fn kind_of(body: &Body) -> u8
         Body::ReuseSeen(_) => 9,
         Body::SubjectOut(_) => 10,
         Body::AccessRefreshed(_) => 12,
+        Body::SecretSet(_) => 15,
     }
 }
 

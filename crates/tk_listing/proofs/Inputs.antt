@@ -32,6 +32,7 @@ pub record Going (known left : Option (List ℕ)) (buffer : List ℕ) (offset : 
   pub printed : Appends old now lines
   pub place : offset + length buffer ≡ length seen
 
+-- at first nothing is read and nothing printed
 pub going_first : (known old : Option (List ℕ)) → Going known known [] 0 old old
 going_first known old = record {
   seen = [];
@@ -65,6 +66,7 @@ ends_later ends.Memory rest before lines old mid new done h =
 ends_later ends.Output rest before lines old mid new done h =
     prints_more old mid new before lines done h
 
+-- a piece that was read and printed is one step
 pub went_on : (known left left2 : Option (List ℕ)) (buffer more : List ℕ) (offset used : ℕ)
     (end : End) (old now new : Option (List ℕ))
     → Going known left buffer offset old now → Consumes left left2 more
@@ -89,6 +91,7 @@ went_on known left left2 buffer more offset used end old now new going reads pri
       going.printed prints.ends;
 }
 
+-- after a step whose lines are whole the listing goes on
 pub goes_on : (known left : Option (List ℕ)) (grown : List ℕ) (offset used : ℕ)
     (old now : Option (List ℕ))
     → Went known left grown offset used ends.More old now
@@ -127,6 +130,7 @@ faulty known seen rest lines offset ends.Memory place fault old now h at is =
 faulty known seen rest lines offset ends.Output place fault old now h at is =
     subst (λ (r : Result ℕ PrintFault). Ends known r seen rest lines old now) is h
 
+-- a step that ends early ends the listing with its fault
 pub stops : (known left : Option (List ℕ)) (grown : List ℕ) (offset used : ℕ) (end : End)
     (place : Option ℕ) (fault : PrintFault) (old now : Option (List ℕ))
     → Went known left grown offset used end old now → IfSome place (λ p. p ≡ offset + used)
@@ -147,6 +151,7 @@ stops known left grown offset used end place fault old now went at is = record {
     placed None at = tt
     placed (Some p) at = ap (λ (n : ℕ). n + length (drop used grown)) at ∙ went.place
 
+-- a fault between steps ends the listing
 pub stopped : (known left : Option (List ℕ)) (buffer : List ℕ) (offset : ℕ)
     (old now : Option (List ℕ)) (fault : PrintFault)
     → Going known left buffer offset old now
@@ -171,6 +176,7 @@ whole (Some x) (Some y) None seen one two end = absurd two
 whole (Some x) (Some y) (Some z) seen one two end =
     one ∙ ap (λ (l : List ℕ). seen ++ l) (two ∙ end) ∙ append-nil seen
 
+-- an input that has ended is listed, but for what is left
 pub at_end : (known left last : Option (List ℕ)) (buffer : List ℕ) (offset : ℕ)
     (old now : Option (List ℕ))
     → Going known left buffer offset old now → Consumes left last [] → IsAtEnd last

@@ -22,9 +22,11 @@ use Rattle.tk_listing.specs.declared.piece.Piece.{Piece}
 use Rattle.tk_listing.specs.declared.print.End.TheVariants as ends
 use Rattle.tk_listing.specs.declared.print.Step.TheVariants as step
 
+-- nothing is shown of no bytes
 pub shows_none : (bytes : List ℕ) → Shows bytes bytes []
 shows_none bytes = record { pieces = []; fit = tt; parts = refl; shown = refl }
 
+-- one piece is shown by its lines
 pub shows_one : (bytes : List ℕ) (piece : Piece) (n : ℕ) → IsFront bytes piece n
     → Shows bytes (drop n bytes) (piece_lines piece)
 shows_one bytes piece n front = record {
@@ -40,6 +42,7 @@ are_more : (some more : List Piece) → ArePieces some → ArePieces more → Ar
 are_more [] more all others = others
 are_more (p ∷ some) more all others = (all.0, are_more some more all.1 others)
 
+-- pieces that follow one another are shown one after the other
 pub shows_trans : (bytes mid rest before after : List ℕ) → Shows bytes mid before
     → Shows mid rest after → Shows bytes rest (before ++ after)
 shows_trans bytes mid rest before after one two = record {
@@ -53,6 +56,7 @@ shows_trans bytes mid rest before after one two = record {
       ∙ sym (flat_map-append piece_lines one.pieces two.pieces);
 }
 
+-- what is shown of bytes is shown of them with more behind
 pub shows_extend : (bytes rest lines more : List ℕ) → Shows bytes rest lines
     → Shows (bytes ++ more) (rest ++ more) lines
 shows_extend bytes rest lines more one = record {
@@ -63,6 +67,7 @@ shows_extend bytes rest lines more one = record {
   shown = one.shown;
 }
 
+-- one more piece is shown behind the others
 pub shows_next : (bytes lines : List ℕ) (used n : ℕ) (piece : Piece)
     → Shows bytes (drop used bytes) lines → IsFront (drop used bytes) piece n
     → Shows bytes (drop (used + n) bytes) (lines ++ piece_lines piece)
@@ -92,6 +97,7 @@ within : (bytes : List ℕ) (used n : ℕ) → used ≤ length bytes → n ≤ l
     → used + n ≤ length bytes
 within bytes used n low more = omega (arith, length-drop used bytes, low, more)
 
+-- one more piece was printed
 pub next_printed : (bytes rest : List ℕ) (used n : ℕ) (old mid new : Option (List ℕ))
     → Printed bytes used old mid → rest ≡ drop used bytes
     → PrintsFirst rest (step.Printed n) mid new → Printed bytes (used + n) old new
@@ -106,6 +112,7 @@ next_printed bytes rest used n old mid new so_far is first =
       ),
     )
 
+-- an output that fails at a piece has printed those before it
 pub next_failed : (bytes rest : List ℕ) (used n : ℕ) (old mid new : Option (List ℕ))
     → Printed bytes used old mid → rest ≡ drop used bytes
     → PrintsFirst rest (step.Failed n) mid new → PrintsWhole bytes (used + n) ends.Output old new
@@ -118,6 +125,7 @@ next_failed bytes rest used n old mid new so_far is first =
       ends = prints_more old mid new so_far.1.0 (piece_lines one.0) so_far.1.2 one.2;
     }
 
+-- bytes that are no piece end the listing as malformed
 pub ended_bad : (bytes rest : List ℕ) (used : ℕ) (old mid new : Option (List ℕ))
     → Printed bytes used old mid → rest ≡ drop used bytes
     → PrintsFirst rest step.Malformed mid new → PrintsWhole bytes used ends.Malformed old new
@@ -131,6 +139,7 @@ ended_bad bytes rest used old mid new so_far is first =
       ends = (one.0, Appends-kept _ _ _ _ so_far.1.2 one.1);
     }
 
+-- bytes that begin a piece end it for now
 pub ended_cut : (bytes rest : List ℕ) (used : ℕ) (old mid new : Option (List ℕ))
     → Printed bytes used old mid → rest ≡ drop used bytes
     → PrintsFirst rest step.Cut mid new → PrintsWhole bytes used ends.More old new

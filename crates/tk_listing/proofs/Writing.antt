@@ -19,18 +19,22 @@ keeping_written kind digest old mid new first next =
     next ∙ ap (λ (l : List ℕ). l ++ kept_members digest) first
     ∙ append_assoc old (plain_member (codes "client_kind") kind) (kept_members digest)
 
+-- no region has no lines
 pub no_region : (v : Vector) → lines_up_to v 0 ≡ []
 unfolding lines_up_to
 no_region v = refl
 
+-- the lines up to one more region have its line
 pub next_region : (v : Vector) (n : ℕ)
     → lines_up_to v (n + 1) ≡ lines_up_to v n ++ region_line v (n + 1)
 unfolding lines_up_to
 next_region v n = rw add-one refl
 
+-- at first no line is written
 pub none_written : (v : Vector) (old : List ℕ) → old ≡ old ++ lines_up_to v 0
 none_written v old = sym (ap (λ (l : List ℕ). old ++ l) (no_region v) ∙ append-nil old)
 
+-- one more line is written
 pub next_written : (v : Vector) (n : ℕ) (old mid new : List ℕ) → mid ≡ old ++ lines_up_to v n
     → new ≡ mid ++ region_line v (n + 1)
     → new ≡ old ++ lines_up_to v (n + 1)

@@ -24,6 +24,7 @@ use Rattle.tk_fact.specs.declared.refresh_rotated.RefreshRotated.{RefreshRotated
 use Rattle.tk_fact.specs.declared.token_revoked.TokenRevoked.{TokenRevoked}
 use Rattle.tk_fact.specs.declared.subject_out.SubjectOut.{SubjectOut}
 use Rattle.tk_fact.specs.declared.access_refreshed.AccessRefreshed.{AccessRefreshed}
+use Rattle.tk_fact.specs.declared.secret_set.SecretSet.{SecretSet}
 use Rattle.tk_fact.specs.declared.minted_token.MintedToken.{MintedToken}
 use Rattle.tk_fact.specs.declared.body.Body.{Body}
 use Rattle.tk_fact.specs.declared.body.Body.TheVariants as bodies
@@ -173,6 +174,14 @@ refreshed_fields f =
     dot_member (codes "parent") f.parent
     ++ (moment_member (codes "start") f.start ++ minted_member (codes "access_token") f.access)
 
+-- the members of a secret that is set
+unfoldable pub set_fields : SecretSet → List ℕ
+set_fields f =
+    dot_member (codes "client") f.client
+    ++ (number_member (codes "turn") f.turn
+    ++ (plain_member (codes "secret_digest") (hex_text f.digest)
+    ++ moment_member (codes "moment") f.moment))
+
 -- the members of a fact's fields, in the order of its bytes
 unfoldable pub fields_of : Body → List ℕ
 fields_of (bodies.ClientAdded f) = client_fields f
@@ -186,3 +195,4 @@ fields_of (bodies.TokenRevoked f) = revoked_fields f
 fields_of (bodies.ReuseSeen f) = token_members f.token
 fields_of (bodies.SubjectOut f) = sign_out_fields f
 fields_of (bodies.AccessRefreshed f) = refreshed_fields f
+fields_of (bodies.SecretSet f) = set_fields f

@@ -36,6 +36,7 @@ kind_name (bodies.TokenRevoked f) = codes "token_revoked"
 kind_name (bodies.ReuseSeen f) = codes "reuse_seen"
 kind_name (bodies.SubjectOut f) = codes "subject_out"
 kind_name (bodies.AccessRefreshed f) = codes "access_refreshed"
+kind_name (bodies.SecretSet f) = codes "secret_set"
 
 -- the beginning of the line of a dot: the dot, and a kind
 unfoldable pub begun_line : Dot → List ℕ → List ℕ

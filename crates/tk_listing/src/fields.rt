@@ -10,7 +10,7 @@ use crate::members::{
 use std::alloc::AllocError;
 use tk_fact::{
     AccessRefreshed, Body, ClientAdded, ClientKind, ClientLives, CodeIssued, CodeRedeemed,
-    ConsentGiven, MintedToken, RefreshRotated, SubjectOut, TokenRevoked,
+    ConsentGiven, MintedToken, RefreshRotated, SecretSet, SubjectOut, TokenRevoked,
 };
 use tk_format::Writer;
 use tk_handle::{Kind, TokenId};
@@ -33,6 +33,7 @@ pub(crate) fn put_fields(writer: &mut Writer, body: &Body) -> Result<(), AllocEr
         Body::ReuseSeen(fields) => put_token(writer, fields.token),
         Body::SubjectOut(fields) => put_out(writer, fields),
         Body::AccessRefreshed(fields) => put_refreshed(writer, fields),
+        Body::SecretSet(fields) => put_secret_set(writer, fields),
     }
 }
 
@@ -208,6 +209,17 @@ fn put_refreshed(writer: &mut Writer, fields: &AccessRefreshed) -> Result<(), Al
     put_dot(writer, b"parent", fields.parent)?;
     put_time(writer, b"start", fields.start)?;
     put_minted(writer, b"access_token", &fields.access)
+}
+
+// Writes the members of a secret that is set.
+#[tactic(auto, unfolding(crate::specs::FactMembers::set_fields))]
+fn put_secret_set(writer: &mut Writer, fields: &SecretSet) -> Result<(), AllocError>
+    ensures { OnOk result (writer.new ≡ writer.old ++ spec.set_fields fields.now) }
+{
+    put_dot(writer, b"client", fields.client)?;
+    put_number(writer, b"turn", fields.turn)?;
+    put_hex(writer, b"secret_digest", &fields.digest)?;
+    put_time(writer, b"moment", fields.moment)
 }
 
 // Writes the two tokens of a grant.

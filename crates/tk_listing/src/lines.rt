@@ -65,6 +65,7 @@ fn kind_name(body: &Body) -> &'static [u8]
         Body::ReuseSeen(_) => b"reuse_seen",
         Body::SubjectOut(_) => b"subject_out",
         Body::AccessRefreshed(_) => b"access_refreshed",
+        Body::SecretSet(_) => b"secret_set",
     }
 }
 
