@@ -20,6 +20,7 @@ use Rattle.tk_ledger.specs.Tokens.{link_of, issued_in}
 use Rattle.tk_ledger.specs.Index.{row_added, row_retired, consent_cmp, consent_key, revocation_cmp}
 use Rattle.tk_ledger.specs.Index.{revocation_key, is_revocation_of, is_from, reuse_cmp, reuse_key}
 use Rattle.tk_ledger.specs.Index.{is_reuse_of, IsIndexed}
+use Rattle.tk_ledger.specs.SecretTables.{secret_cmp, secret_key, secret_in, is_left_to}
 use Rattle.tk_ledger.specs.SubjectTables.{code_cmp, code_key, is_to, login_cmp, login_key}
 use Rattle.tk_ledger.specs.SubjectTables.{begins_under, out_cmp, out_key, is_left_by}
 use Rattle.tk_ledger.specs.declared.client_rows.ClientRow.{ClientRow}
@@ -27,6 +28,7 @@ use Rattle.tk_ledger.specs.declared.consent_keys.ConsentKey.{ConsentKey}
 use Rattle.tk_ledger.specs.declared.index.Index.{Index}
 use Rattle.tk_ledger.specs.declared.reuses.ReuseKey.{ReuseKey}
 use Rattle.tk_ledger.specs.declared.revocations.Revocation.{Revocation}
+use Rattle.tk_ledger.specs.declared.secrets.SecretKey.{SecretKey}
 use Rattle.tk_ledger.specs.declared.subject_keys.CodeKey.{CodeKey}
 use Rattle.tk_ledger.specs.declared.subject_keys.LoginKey.{LoginKey}
 use Rattle.tk_ledger.specs.declared.subject_keys.OutKey.{OutKey}
@@ -44,10 +46,12 @@ no_value : {B : Type 0} (f : Body → Option B) (d : Dot) (y : B)
     → ¬ (option_and_then f (map.get (map.empty {R = dot_cmp}) d) ≡ Some y)
 no_value f d y h = none_is_not_some y (sym (ap (option_and_then f) (map.get-empty dot_cmp d)) ∙ h)
 
+-- tables without a key, and a forest without a link, are those of no fact
 pub empty_indexed : (x : Index) → x.clients.entries ≡ [] → x.consents.keys ≡ []
     → x.withdrawn.keys ≡ [] → x.revocations.keys ≡ [] → x.codes.keys ≡ [] → x.logins.keys ≡ []
-    → x.outs.keys ≡ [] → x.reuses.keys ≡ [] → x.forest.links ≡ map.empty → IsIndexed map.empty x
-empty_indexed x te ce we re co lo ou se le = record {
+    → x.outs.keys ≡ [] → x.reuses.keys ≡ [] → x.secrets.keys ≡ [] → x.forest.links ≡ map.empty
+    → IsIndexed map.empty x
+empty_indexed x te ce we re co lo ou se ke le = record {
   clients_are = record {
     added = λ q. ap (λ (es : List (Dot × ClientRow)). row_added (lookup (is_at (dot_cmp q)) es)) te
         ∙ sym (ap (λ o. is_some (option_and_then added_in o)) (map.get-empty dot_cmp q));
@@ -88,6 +92,12 @@ empty_indexed x te ce we re co lo ou se le = record {
     listed = λ k q. no_reuse k q ∙ sym (ap (is_reuse_of k) (map.get-empty dot_cmp q));
     ranged = λ k q h. absurd (true≢false (sym h ∙ no_reuse k q));
   };
+  secrets_are = record {
+    listed = λ c l g q. no_secret c l g q
+        ∙ sym (ap (λ o. is_left_to c l g (option_and_then secret_in o)) (map.get-empty dot_cmp q));
+    ranged = λ c l g q h. absurd (true≢false (sym h ∙ no_secret c l g q));
+    early = λ d f h. absurd (no_value secret_in d f h);
+  };
   tied = record {
     links = λ q. ap (λ s. map.get s q) le ∙ map.get-empty dot_cmp q
         ∙ sym (ap (option_and_then link_of) (map.get-empty dot_cmp q));
@@ -120,3 +130,8 @@ empty_indexed x te ce we re co lo ou se le = record {
     no_reuse : (k : TokenId) (q : Dot)
         → list_any (is_at (reuse_cmp (reuse_key k q))) x.reuses.keys ≡ false
     no_reuse k q = ap (λ (es : List ReuseKey). list_any (is_at (reuse_cmp (reuse_key k q))) es) se
+
+    no_secret : (c : Dot) (l : ℕ) (g : List ℕ) (q : Dot)
+        → list_any (is_at (secret_cmp (secret_key c l g q))) x.secrets.keys ≡ false
+    no_secret c l g q =
+        ap (λ (es : List SecretKey). list_any (is_at (secret_cmp (secret_key c l g q))) es) ke

@@ -53,6 +53,7 @@ retirement_in : (d : Dot) (b : Body) (q : Dot) → retires d (q, b) ≡ true
 retirement_in d (ClientRetired r) q h = (r, refl, same_dot-true r.client d h)
 retirement_in d body q h = absurd (true≢false (sym h))
 
+-- a client that the test calls retired is retired
 pub is_retired-sound : (F : FactSet) (d : Dot) → is_retired F d ≡ true → IsRetired (map.get F) d
 is_retired-sound F d h =
     let f : Passing (retires d) F = any_fact-held (retires d) F h in
@@ -60,6 +61,7 @@ is_retired-sound F d h =
     retirement_in d f.body f.dot f.passes in
     record { place = f.dot; retirement = r.0; held = f.held ∙ ap Some r.1; names = r.2 }
 
+-- the test calls each retired client retired
 pub is_retired-complete : (F : FactSet) (d : Dot) → IsRetired (map.get F) d → is_retired F d ≡ true
 is_retired-complete F d r = any_fact-of (retires d) F r.place (ClientRetired r.retirement) r.held
     (ap (λ e. is_same_dot e d) r.names ∙ same_dot-itself d)
@@ -73,9 +75,11 @@ live_of F d (Some c) at h = record {
   unretired = λ r. true≢false (sym (is_retired-complete F d r) ∙ not-true (is_retired F d) h);
 }
 
+-- a client that the test calls live is live
 pub live_sound : (F : FactSet) (d : Dot) → is_live_client F d ≡ true → IsLiveClient (map.get F) d
 live_sound F d h = live_of F d (client_at F d) refl h
 
+-- the test calls each live client live
 pub live_complete : (F : FactSet) (d : Dot) → IsLiveClient (map.get F) d → is_live_client F d ≡ true
 live_complete F d live = and_from _ _
     (ap (λ o. is_some (option_and_then added_in o)) live.added)
@@ -116,6 +120,7 @@ withdrawal_in : (d : Dot) (b : Body) (q : Dot) → withdraws d (q, b) ≡ true
 withdrawal_in d (ConsentWithdrawn w) q h = (w, refl, same_dot-true w.consent d h)
 withdrawal_in d body q h = absurd (true≢false (sym h))
 
+-- a consent that the test calls withdrawn is withdrawn
 pub is_withdrawn-sound : (F : FactSet) (d : Dot) → is_withdrawn F d ≡ true
     → IsWithdrawn (map.get F) d
 is_withdrawn-sound F d h =
@@ -124,16 +129,19 @@ is_withdrawn-sound F d h =
     withdrawal_in d f.body f.dot f.passes in
     record { place = f.dot; withdrawal = w.0; held = f.held ∙ ap Some w.1; names = w.2 }
 
+-- the test calls each withdrawn consent withdrawn
 pub is_withdrawn-complete : (F : FactSet) (d : Dot) → IsWithdrawn (map.get F) d
     → is_withdrawn F d ≡ true
 is_withdrawn-complete F d w = any_fact-of (withdraws d) F w.place (ConsentWithdrawn w.withdrawal)
     w.held (ap (λ e. is_same_dot e d) w.names ∙ same_dot-itself d)
 
+-- a consent that the test doesn't call withdrawn isn't withdrawn
 pub unwithdrawn_of : (F : FactSet) (d : Dot) → not (is_withdrawn F d) ≡ true
     → ¬ IsWithdrawn (map.get F) d
 unwithdrawn_of F d h w =
     true≢false (sym (is_withdrawn-complete F d w) ∙ not-true (is_withdrawn F d) h)
 
+-- the test doesn't call a consent withdrawn that isn't
 pub not_withdrawn : (F : FactSet) (d : Dot) → ¬ IsWithdrawn (map.get F) d
     → not (is_withdrawn F d) ≡ true
 not_withdrawn F d none = not_from_false (is_withdrawn F d)
@@ -145,6 +153,7 @@ pub gives_parts : (client : Dot) (subject : List ℕ) (c : given.ConsentGiven)
 gives_parts client subject c h = let p = and_parts _ _ h in
     (same_dot-true c.client client p.0, (bytes_eq-Decides c.subject subject).0 p.1)
 
+-- the test sees that a consent is to its client and from its subject
 pub gives_from : (client : Dot) (subject : List ℕ) (c : given.ConsentGiven) → c.client ≡ client
     → c.subject ≡ subject → gives client subject (Some c) ≡ true
 gives_from client subject c i j = and_from _ _
@@ -166,10 +175,12 @@ of_found F client subject d (Some c) at h =
       unwithdrawn = unwithdrawn_of F d p.1;
     }
 
+-- a consent that the test finds, of the subject to the client, is one that isn't withdrawn
 pub is_consent_of-sound : (F : FactSet) (client : Dot) (subject : List ℕ) (d : Dot)
     → is_consent_of F client subject d ≡ true → IsConsentOf (map.get F) client subject d
 is_consent_of-sound F client subject d h = of_found F client subject d (consent_at F d) refl h
 
+-- the test finds each consent of the subject to the client that isn't withdrawn
 pub is_consent_of-complete : (F : FactSet) (client : Dot) (subject : List ℕ) (d : Dot)
     → IsConsentOf (map.get F) client subject d → is_consent_of F client subject d ≡ true
 is_consent_of-complete F client subject d x = and_from _ _
@@ -177,10 +188,12 @@ is_consent_of-complete F client subject d x = and_from _ _
     ∙ gives_from client subject x.consent x.client_is x.subject_is)
     (not_withdrawn F d x.unwithdrawn)
 
+-- the consent of a code is live if the test says so
 pub consent_sound : (F : FactSet) (code : issued.CodeIssued) → is_live_consent F code ≡ true
     → IsLiveConsent (map.get F) code
 consent_sound F code h = is_consent_of-sound F code.client code.subject code.consent h
 
+-- the test says so of each code whose consent is live
 pub consent_complete : (F : FactSet) (code : issued.CodeIssued) → IsLiveConsent (map.get F) code
     → is_live_consent F code ≡ true
 consent_complete F code live = is_consent_of-complete F code.client code.subject code.consent live

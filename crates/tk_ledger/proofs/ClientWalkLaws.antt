@@ -49,6 +49,7 @@ no_view F q h = ap (λ (o : Option added.ClientAdded).
 view_on : (F : FactSet) → OnFacts F (client_view F)
 view_on F q h = no_view F q (ap (λ (b : Option Body). option_and_then added_in b) h)
 
+-- two sets that say the same of each client have the same clients
 pub clients_same : (F G : FactSet) → ((d : Dot) → client_view F d ≡ client_view G d)
     → clients_in F ≡ clients_in G
 clients_same F G views =

@@ -166,6 +166,8 @@ least_of F client subject scope (Some f) h =
           (sym (map.get-entries F q) ∙ x.live.given) (consents_complete F client subject scope q x),
     )
 
+-- the consent that is found for a scope is the lowest live one that covers the scope, or there is
+-- none
 pub least_consent : (F : FactSet) (client : Dot) (subject scope : List ℕ)
     → IsLeastConsent (map.get F) client subject scope (consent_for F client subject scope)
 least_consent F client subject scope = least_of F client subject scope

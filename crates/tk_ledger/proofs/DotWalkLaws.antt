@@ -23,6 +23,7 @@ use Rattle.tk_store.proofs.WalkLaws.{above_next}
 use Rattle.tk_ledger.specs.SubjectWalk.{seen, shown_in, Walks}
 use Rattle.tk_handle.proofs.TestLaws.{and as joined, both}
 
+-- an order that is Less is one of below
 pub less : (o : Ordering) → o ≡ Less → T (is_lt o)
 less o h = subst (λ x. T (is_lt x)) (sym h) tt
 
@@ -35,6 +36,7 @@ abbrev pub above_dot : Option Dot → Dot → Bool
 above_dot None d = true
 above_dot (Some a) d = is_lt (dot_cmp a d)
 
+-- a test has one value at dots that compare as equal
 pub alike : (p : Dot → Bool) (q x : Dot) → dot_cmp q x ≡ Equal → p x ≡ p q
 alike p q x h = ap p (sym (dot_same q x h))
 
@@ -129,6 +131,7 @@ abbrev pub OnFacts : {X : Type 0} → FactSet → (Dot → Option X) → Type 0
 OnFacts F view = (q : Dot) → map.get F q ≡ None → view q ≡ None
 
 module _ {X : Type 0} (F : FactSet) (view : Dot → Option X) (on : OnFacts F view) where
+  -- what is shown at a dot is what the view has there
   pub shown_at : (q : Dot) → map.get (shown_in F view) q ≡ view q
   shown_at q =
       map.get-from_entries dot_cmp_total (filter_map (seen view) (map.entries F)) q
@@ -161,6 +164,7 @@ module _ {X : Type 0} (F : FactSet) (view : Dot → Option X) (on : OnFacts F vi
           ∙ ap (λ (o : Option X). cond (above_dot a q) o None)
           (sym (map.get-entries (shown_in F view) q) ∙ shown_at q)
 
+-- two views that have the same at each dot show the same of their sets
 pub shown_same : {X : Type 0} (F G : FactSet) (v w : Dot → Option X) → OnFacts F v → OnFacts G w
     → ((d : Dot) → v d ≡ w d) → shown_in F v ≡ shown_in G w
 shown_same F G v w on also views =

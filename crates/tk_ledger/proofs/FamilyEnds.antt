@@ -20,7 +20,7 @@ use Rattle.tk_fact.specs.declared.body.Body.{Body}
 use Rattle.tk_fact.specs.declared.body.Body.TheVariants.{ClientAdded, ClientRetired, ConsentGiven}
 use Rattle.tk_fact.specs.declared.body.Body.TheVariants.{ConsentWithdrawn, CodeIssued, CodeRedeemed}
 use Rattle.tk_fact.specs.declared.body.Body.TheVariants.{RefreshRotated, TokenRevoked, ReuseSeen}
-use Rattle.tk_fact.specs.declared.body.Body.TheVariants.{SubjectOut, AccessRefreshed}
+use Rattle.tk_fact.specs.declared.body.Body.TheVariants.{SubjectOut, AccessRefreshed, SecretSet}
 use Rattle.tk_fact.specs.Tokens.{MintedFields, minted_of}
 use Rattle.tk_store.specs.FactSet.{FactSet, IsSubset}
 use Rattle.tk_ledger.specs.Bodies.{Bodies}
@@ -53,6 +53,7 @@ grant_of kind.Code d (TokenRevoked b) m na h = absurd (cc)
 grant_of kind.Code d (ReuseSeen b) m na h = absurd (cc)
 grant_of kind.Code d (SubjectOut b) m na h = absurd (cc)
 grant_of kind.Code d (AccessRefreshed b) m na h = absurd (cc)
+grant_of kind.Code d (SecretSet b) m na h = absurd (cc)
 grant_of kind.Refresh d (ClientAdded b) m na h = absurd (cc)
 grant_of kind.Refresh d (ClientRetired b) m na h = absurd (cc)
 grant_of kind.Refresh d (ConsentGiven b) m na h = absurd (cc)
@@ -62,6 +63,7 @@ grant_of kind.Refresh d (TokenRevoked b) m na h = absurd (cc)
 grant_of kind.Refresh d (ReuseSeen b) m na h = absurd (cc)
 grant_of kind.Refresh d (SubjectOut b) m na h = absurd (cc)
 grant_of kind.Refresh d (AccessRefreshed b) m na h = absurd (cc)
+grant_of kind.Refresh d (SecretSet b) m na h = absurd (cc)
 
 -- a minted token that is no access token is the grant of the link at its dot
 grant_there : (body_at : Bodies) (k : TokenId) (m : MintedFields) → k.kind ≢ kind.Access
@@ -77,6 +79,7 @@ grant_there body_at k m na mints =
 same_link : (l j : Link) → Some l ≡ Some j → l ≡ j
 same_link l j h = cc
 
+-- a minted grant is bad exactly if it is marked or used twice
 pub bad_grants : (body_at : Bodies) (k : TokenId) (m : MintedFields) → k.kind ≢ kind.Access
     → minted_in body_at k ≡ Some m
     → (IsBad (links_in body_at) (IsMarked body_at) k.dot
@@ -123,12 +126,14 @@ revoked_ends body_at now h e a = elim (no_code_is h.id.kind a.no_code) [
 
 -- ---- in every greater set
 
+-- a token under the code of a grant that is bad by some facts is active at no moment by more facts
 pub family_inactive : (F G : FactSet) → IsSubset F G → (now : ℕ) (h : Handle) (d c : Dot)
     → IsBad (links_in (map.get F)) (IsMarked (map.get F)) d → IsUnder (links_in (map.get G)) d c
     → IsMintedUnder (map.get G) h.id.dot c → ¬ IsActive (map.get G) now h
 family_inactive F G w now h d c bad under member =
     family_ends (map.get G) now h d c (IsBad-below F G w d bad) under member
 
+-- a token that the client of its code revoked, by some facts, is active at no moment by more facts
 pub revoked_inactive : (F G : FactSet) → IsSubset F G → (now : ℕ) (h : Handle)
     → IsEnded (map.get F) h.id → ¬ IsActive (map.get G) now h
 revoked_inactive F G w now h e = revoked_ends (map.get G) now h (IsEnded-below F G w h.id e)

@@ -50,12 +50,14 @@ puts (change.Issue subject start) = Some Code
 puts (change.Put l) = Some l
 puts other = None
 
+-- the link of a body is the one that its change puts
 pub link-change : (b : Body) → link_of b ≡ puts (change_in b)
 link-change (CodeIssued f) = refl
 link-change (CodeRedeemed f) = refl
 link-change (RefreshRotated f) = refl
 link-change body = refl
 
+-- a body is of a token's reuse exactly if its change is
 pub reuse-change : (k : TokenId) (b : Body) → reuse_of k b ≡ reuses_of k (change_in b)
 reuse-change k (ReuseSeen f) = refl
 reuse-change k body = refl
@@ -81,16 +83,19 @@ pub put_reuses : (y : Change) (l : Link) (k : TokenId) → puts y ≡ Some l →
 put_reuses (change.Mark j) l k h = absurd (none_is_not_some l h)
 put_reuses other l k h = refl
 
+-- a change that puts a link revokes no token
 pub put_revokes : (y : Change) (l : Link) → puts y ≡ Some l → revoking y ≡ None
 put_revokes (change.Revoke f) l h = absurd (none_is_not_some l h)
 put_revokes other l h = refl
 
+-- a change that puts a link signs nobody out
 pub put_signs : (y : Change) (l : Link) → puts y ≡ Some l → signs y ≡ false
 put_signs (change.SignOut subject moment) l h = absurd (none_is_not_some l h)
 put_signs other l h = refl
 
 -- ---- links
 
+-- the links stay with one more fact whose change puts no link
 pub links_still : (F G : FactSet) (d : Dot) (b : Body) → OneMore F G d b → puts (change_in b) ≡ None
     → (q : Dot) → links_in (map.get F) q ≡ links_in (map.get G) q
 links_still F G d b m none q = elim (cases_dots q d) [
@@ -99,6 +104,7 @@ links_still F G d b m none q = elim (cases_dots q d) [
   | inr ne ↦ sym (ap (option_and_then link_of) (m.there q ne))
 ]
 
+-- the links with the one that a fact puts are those of the set with the fact
 pub links_put : (F G : FactSet) (d : Dot) (b : Body) (l : Link) (L N : Links) → OneMore F G d b
     → puts (change_in b) ≡ Some l
     → ((q : Dot) → L q ≡ links_in (map.get F) q)

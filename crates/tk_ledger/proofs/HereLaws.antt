@@ -39,13 +39,16 @@ module _ (P : StoreFields) (now : ℕ) (h : Handle) where
 
   -- ---- the status by the slot at the handle's dot
 
+  -- at a dot that holds a fact the status is that by the facts held
   pub here_held : (b : Body) → map.get P.slots h.id.dot ≡ Some (Held b)
       → status_here P now h ≡ status_in F now h
   here_held b at = ap (λ (o : Option Slot). cond (is_skipped_slot o) Wrong (status_in F now h)) at
 
+  -- at a skipped dot the status is wrong
   pub here_skipped : map.get P.slots h.id.dot ≡ Some Skipped → status_here P now h ≡ Wrong
   here_skipped at = ap (λ (o : Option Slot). cond (is_skipped_slot o) Wrong (status_in F now h)) at
 
+  -- at an unknown dot the status is unseen
   pub here_unknown : map.get P.slots h.id.dot ≡ None → status_here P now h ≡ Unseen
   here_unknown at =
       ap (λ (o : Option Slot). cond (is_skipped_slot o) Wrong (status_in F now h)) at
@@ -79,6 +82,7 @@ module _ (P : StoreFields) (now : ℕ) (h : Handle) where
   from_says (Broken expiry) whole s = s
   from_says (Known standing) whole s = s
 
+  -- the status says what the store knows of the handle
   pub says_here : SaysHere P h (status_here P now h)
   says_here = by_test (SaysHere P h)
       (λ at. (
@@ -87,11 +91,13 @@ module _ (P : StoreFields) (now : ℕ) (h : Handle) where
       ))
       (λ whole. from_says (status_in F now h) whole (says F now h))
 
+  -- the status is a known one exactly if the handle's token is known
   pub known_here : IsKnown (status_here P now h) ↔ IsKnownToken (map.get F) h
   known_here = by_test (λ x. IsKnown x ↔ IsKnownToken (map.get F) h)
       (λ at. (λ known. absurd known, λ t. none_minted t.0.minted at t.0.mints))
       (λ _. known_exactly F now h)
 
+  -- the status of an access or refresh handle is live exactly if its token is active
   pub live_here : h.id.kind ≢ kind.Code → IsLive (status_here P now h) ↔ IsActive (map.get F) now h
   live_here no_code = by_test (λ x. IsLive x ↔ IsActive (map.get F) now h)
       (λ at. (λ live. absurd live, λ a. none_minted a.minted at a.mints))
@@ -108,5 +114,6 @@ module _ (P : StoreFields) (now : ℕ) (h : Handle) where
   active_here a = by_test (λ x. x ≡ status_in F now h)
       (λ at. absurd (none_minted a.minted at a.mints)) (λ _. refl)
 
+  -- the status is sound if each fact held passes its check
   pub sound_here : IsFactSet F → IsSound now (status_here P now h)
   sound_here sound = by_test (IsSound now) (λ _. tt) (λ _. sound_status F now h sound)

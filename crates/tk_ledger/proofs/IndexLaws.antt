@@ -32,7 +32,11 @@ use Rattle.tk_ledger.proofs.TableChangeLaws.{same_revocations, same_codes, same_
 use Rattle.tk_ledger.proofs.ConsentTableLaws.{give_row, withdraw_row}
 use Rattle.tk_ledger.proofs.KeyLaws.{at_is_same}
 use Rattle.tk_ledger.proofs.LoginTableLaws.{same_logins}
+use Rattle.tk_ledger.proofs.SecretTableLaws.{same_secrets}
 
+-- all tables and the forest after a change of each kind: a client added or retired, a consent given
+-- or withdrawn, a link put, a token revoked, a reuse seen, a code issued, a subject signed out, or
+-- nothing, by the tables and the forest of the set without the fact
 pub index_add : (G : FactSet) (d : Dot) (x : Index) (u : BTreeMap Dot ClientRow)
     → option_map change_in (map.get G d) ≡ Some change.Add → IsIndexed (map.remove G d) x
     → ((q : Dot) → row_added (row_at u q) ≡ (is_at d q || row_added (row_at x.clients q)))
@@ -47,6 +51,7 @@ pub index_add : (G : FactSet) (d : Dot) (x : Index) (u : BTreeMap Dot ClientRow)
       logins = x.logins;
       outs = x.outs;
       reuses = x.reuses;
+      secrets = x.secrets;
       forest = x.forest;
     })
 index_add G d x u h i a e = record {
@@ -60,6 +65,7 @@ index_add G d x u h i a e = record {
   logins_are = same_logins G d change.Add x.logins h refl i.logins_are;
   outs_are = same_outs G d change.Add x.outs h refl i.outs_are;
   reuses_are = same_reuses G d change.Add x.reuses h (λ _. refl) i.reuses_are;
+  secrets_are = same_secrets G d change.Add x.secrets h refl i.secrets_are;
   tied = quiet_ties G d change.Add x.forest h refl refl refl (λ k. refl) i.tied;
 }
 
@@ -77,6 +83,7 @@ pub index_retire : (G : FactSet) (d c : Dot) (x : Index) (u : BTreeMap Dot Clien
       logins = x.logins;
       outs = x.outs;
       reuses = x.reuses;
+      secrets = x.secrets;
       forest = x.forest;
     })
 index_retire G d c x u h i e a = record {
@@ -92,6 +99,7 @@ index_retire G d c x u h i e a = record {
   logins_are = same_logins G d (change.Retire c) x.logins h refl i.logins_are;
   outs_are = same_outs G d (change.Retire c) x.outs h refl i.outs_are;
   reuses_are = same_reuses G d (change.Retire c) x.reuses h (λ _. refl) i.reuses_are;
+  secrets_are = same_secrets G d (change.Retire c) x.secrets h refl i.secrets_are;
   tied = quiet_ties G d (change.Retire c) x.forest h refl refl refl (λ k. refl) i.tied;
 }
 
@@ -115,6 +123,7 @@ pub index_give : (G : FactSet) (d client : Dot) (subject : List ℕ) (x : Index)
       logins = x.logins;
       outs = x.outs;
       reuses = x.reuses;
+      secrets = x.secrets;
       forest = x.forest;
     })
 index_give G d client subject x u h i here there r =
@@ -129,6 +138,7 @@ index_give G d client subject x u h i here there r =
       logins_are = same_logins G d y x.logins h refl i.logins_are;
       outs_are = same_outs G d y x.outs h refl i.outs_are;
       reuses_are = same_reuses G d y x.reuses h (λ _. refl) i.reuses_are;
+      secrets_are = same_secrets G d y x.secrets h refl i.secrets_are;
       tied = quiet_ties G d y x.forest h refl refl refl (λ k. refl) i.tied;
     }
 
@@ -148,6 +158,7 @@ pub index_withdraw : (G : FactSet) (d c : Dot) (x : Index) (u : BTreeSet Consent
       logins = x.logins;
       outs = x.outs;
       reuses = x.reuses;
+      secrets = x.secrets;
       forest = x.forest;
     })
 index_withdraw G d c x u v h i e r = record {
@@ -163,6 +174,7 @@ index_withdraw G d c x u v h i e r = record {
   logins_are = same_logins G d (change.Withdraw c) x.logins h refl i.logins_are;
   outs_are = same_outs G d (change.Withdraw c) x.outs h refl i.outs_are;
   reuses_are = same_reuses G d (change.Withdraw c) x.reuses h (λ _. refl) i.reuses_are;
+  secrets_are = same_secrets G d (change.Withdraw c) x.secrets h refl i.secrets_are;
   tied = quiet_ties G d (change.Withdraw c) x.forest h refl refl refl (λ k. refl) i.tied;
 }
 
@@ -179,6 +191,7 @@ pub index_put : (G : FactSet) (d : Dot) (l : Link) (x : Index) (z : ForestFacts)
       logins = x.logins;
       outs = x.outs;
       reuses = x.reuses;
+      secrets = x.secrets;
       forest = z;
     })
 index_put G d l x z h i tied = record {
@@ -194,6 +207,7 @@ index_put G d l x z h i tied = record {
   logins_are = same_logins G d (change.Put l) x.logins h refl i.logins_are;
   outs_are = same_outs G d (change.Put l) x.outs h refl i.outs_are;
   reuses_are = same_reuses G d (change.Put l) x.reuses h (λ _. refl) i.reuses_are;
+  secrets_are = same_secrets G d (change.Put l) x.secrets h refl i.secrets_are;
   tied = tied;
 }
 
@@ -211,6 +225,7 @@ pub index_revoke : (G : FactSet) (d : Dot) (f : revoked.TokenRevoked) (x : Index
       logins = x.logins;
       outs = x.outs;
       reuses = x.reuses;
+      secrets = x.secrets;
       forest = z;
     })
 index_revoke G d f x s z h i rows tied = record {
@@ -225,6 +240,7 @@ index_revoke G d f x s z h i rows tied = record {
   logins_are = same_logins G d (change.Revoke f) x.logins h refl i.logins_are;
   outs_are = same_outs G d (change.Revoke f) x.outs h refl i.outs_are;
   reuses_are = same_reuses G d (change.Revoke f) x.reuses h (λ _. refl) i.reuses_are;
+  secrets_are = same_secrets G d (change.Revoke f) x.secrets h refl i.secrets_are;
   tied = tied;
 }
 
@@ -242,6 +258,7 @@ pub index_mark : (G : FactSet) (d : Dot) (j : TokenId) (x : Index) (s : BTreeSet
       logins = x.logins;
       outs = x.outs;
       reuses = s;
+      secrets = x.secrets;
       forest = z;
     })
 index_mark G d j x s z h i rows tied = record {
@@ -257,6 +274,7 @@ index_mark G d j x s z h i rows tied = record {
   logins_are = same_logins G d (change.Mark j) x.logins h refl i.logins_are;
   outs_are = same_outs G d (change.Mark j) x.outs h refl i.outs_are;
   reuses_are = rows;
+  secrets_are = same_secrets G d (change.Mark j) x.secrets h refl i.secrets_are;
   tied = tied;
 }
 
@@ -274,6 +292,7 @@ pub index_issue : (G : FactSet) (d : Dot) (prefix start : ℕ) (x : Index)
       logins = t;
       outs = x.outs;
       reuses = x.reuses;
+      secrets = x.secrets;
       forest = z;
     })
 index_issue G d prefix start x s t z h i rows begun tied = record {
@@ -289,6 +308,7 @@ index_issue G d prefix start x s t z h i rows begun tied = record {
   logins_are = begun;
   outs_are = same_outs G d (change.Issue prefix start) x.outs h refl i.outs_are;
   reuses_are = same_reuses G d (change.Issue prefix start) x.reuses h (λ _. refl) i.reuses_are;
+  secrets_are = same_secrets G d (change.Issue prefix start) x.secrets h refl i.secrets_are;
   tied = tied;
 }
 
@@ -306,6 +326,7 @@ pub index_out : (G : FactSet) (d : Dot) (subject : List ℕ) (moment : ℕ) (x :
       logins = x.logins;
       outs = s;
       reuses = x.reuses;
+      secrets = x.secrets;
       forest = z;
     })
 index_out G d subject moment x s z h i rows tied = record {
@@ -321,6 +342,7 @@ index_out G d subject moment x s z h i rows tied = record {
   logins_are = same_logins G d (change.SignOut subject moment) x.logins h refl i.logins_are;
   outs_are = rows;
   reuses_are = same_reuses G d (change.SignOut subject moment) x.reuses h (λ _. refl) i.reuses_are;
+  secrets_are = same_secrets G d (change.SignOut subject moment) x.secrets h refl i.secrets_are;
   tied = tied;
 }
 
@@ -340,6 +362,7 @@ index_nothing G d x h i = record {
   logins_are = same_logins G d change.Nothing x.logins h refl i.logins_are;
   outs_are = same_outs G d change.Nothing x.outs h refl i.outs_are;
   reuses_are = same_reuses G d change.Nothing x.reuses h (λ _. refl) i.reuses_are;
+  secrets_are = same_secrets G d change.Nothing x.secrets h refl i.secrets_are;
   tied = quiet_ties G d change.Nothing x.forest h refl refl refl (λ k. refl) i.tied;
 }
 
@@ -359,6 +382,7 @@ pub index_back : (F : FactSet) (x : Index) (revocations : BTreeSet Revocation)
       logins = logins;
       outs = outs;
       reuses = reuses;
+      secrets = x.secrets;
       forest = z;
     })
 index_back F x revocations codes logins outs reuses z i v c l o r tied = record {
@@ -370,5 +394,6 @@ index_back F x revocations codes logins outs reuses z i v c l o r tied = record 
   logins_are = l;
   outs_are = o;
   reuses_are = r;
+  secrets_are = i.secrets_are;
   tied = tied;
 }

@@ -31,6 +31,7 @@ same_tests true b h i = sym (h refl)
 same_tests false true h i = i refl
 same_tests false false h i = refl
 
+-- a dot compares as equal to itself
 pub at_itself : (d : Dot) → eq_by_cmp dot_cmp d d ≡ true
 at_itself d = ap is_eq (tied_itself dot_cmp_total d)
 
@@ -40,6 +41,7 @@ at_is_same a b = same_tests (eq_by_cmp dot_cmp a b) (is_same_dot a b)
     (λ h. ap (is_same_dot a) (sym (tied a b h)) ∙ same_dot-itself a)
     (λ h. ap (eq_by_cmp dot_cmp a) (sym (same_dot-true a b h)) ∙ at_itself a)
 
+-- one order and then another are equal exactly if both are
 pub both_tied : (r s : Ordering) → is_eq (ordering_then r s) ≡ (is_eq r && is_eq s)
 both_tied Less s = refl
 both_tied Equal s = refl
@@ -50,11 +52,13 @@ equal_of Less h = absurd (true≢false (sym h))
 equal_of Equal h = refl
 equal_of Greater h = absurd (true≢false (sym h))
 
+-- numbers compare as equal exactly if they are equal
 pub number_tied : (a b : ℕ) → is_eq (nat_cmp a b) ≡ (a == b)
 number_tied a b = same_tests (is_eq (nat_cmp a b)) (a == b)
     (λ h. eq-eqb a b (exact_unsigned a b (equal_of (nat_cmp a b) h)))
     (λ h. ap is_eq (ap (nat_cmp a) (sym (eqb-true a b h)) ∙ tied_itself nat_cmp_total a))
 
+-- bytes compare as equal exactly if they are equal
 pub bytes_tied : (xs ys : List ℕ) → is_eq (slice_cmp nat_cmp xs ys) ≡ bytes_eq xs ys
 bytes_tied xs ys = same_tests (is_eq (slice_cmp nat_cmp xs ys)) (bytes_eq xs ys)
     (λ h. (bytes_eq-Decides xs ys).1 (exact_bytes xs ys (equal_of (slice_cmp nat_cmp xs ys) h)))

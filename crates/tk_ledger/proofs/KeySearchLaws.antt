@@ -31,11 +31,13 @@ equal_not_less h = cc
 abbrev pub every : {K : Type 0} → K → Bool
 every e = true
 
+-- a list with a key has a first key
 pub some_key : {K : Type 0} (es : List K) → list_any every es ≡ true
     → (e : K) × (find every es ≡ Some e)
 some_key [] h = absurd (true≢false (sym h))
 some_key (e ∷ es) h = (e, refl)
 
+-- a list with a first key has a key
 pub any_key : {K : Type 0} (es : List K) → ¬ (find every es ≡ None) → list_any every es ≡ true
 any_key [] h = absurd (h refl)
 any_key (e ∷ es) h = refl
@@ -66,6 +68,7 @@ module _ {K : Type 0} (cmp : K → K → Ordering)
     ]
   ]
 
+  -- a key that the filter keeps is in the list, and passes its test
   pub of_filter : (k : K) (ks : List K) → among cmp k (filter c ks) ≡ true
       → (among cmp k ks ≡ true) × (c k ≡ true)
   of_filter k [] h = absurd (true≢false (sym h))
@@ -93,6 +96,7 @@ module _ {K : Type 0} (cmp : K → K → Ordering) (total : IsTotalOrder cmp)
       or_more true b h = refl
       or_more false b h = h
 
+  -- the first key that is found passes both tests, and is in the list
   pub found_passes : (ks : List K) (e : K) → find p (filter c ks) ≡ Some e
       → (p e ≡ true) × (c e ≡ true) × (among cmp e ks ≡ true)
   found_passes [] e h = absurd (none_is_not_some e h)
@@ -116,6 +120,7 @@ module _ {K : Type 0} (cmp : K → K → Ordering) (total : IsTotalOrder cmp)
         (more.0, more.1, later e x xs more.2)
   ]
 
+  -- if no key is found, no key of the list passes both tests
   pub none_passes : (ks : List K) → find p (filter c ks) ≡ None → (k : K) → among cmp k ks ≡ true
       → c k ≡ true → p k ≡ true → ⊥
   none_passes [] h k at kept passes = true≢false (sym at)

@@ -111,6 +111,7 @@ module _ {K R : Type 0} (cmp : K → K → Ordering) (total : IsTotalOrder cmp)
   IsAfter None = Unit {0}
   IsAfter (Some d) = IsDot d
 
+  -- the span above a dot runs forward
   pub span_forward : (a : Option Dot) → IsTail greatest → IsAfter a
       → IsForward (IsLeBy cmp) (IsLtBy cmp) (start a) (Included (key greatest_dot greatest))
   span_forward None g h = ap is_gt (span.order least_dot greatest_dot least greatest)

@@ -13,6 +13,7 @@ pub mod IndexLaws
 pub mod KeyLaws
 pub mod KeySearchLaws
 pub mod KeyWalkLaws
+pub mod LastTurnLaws
 pub mod LoginKeyLaws
 pub mod LoginLaws
 pub mod LoginTableLaws
@@ -24,6 +25,10 @@ pub mod ReuseLaws
 pub mod RevocationLaws
 pub mod RootLaws
 pub mod SameLaws
+pub mod SecretIndexLaws
+pub mod SecretKeyLaws
+pub mod SecretLaws
+pub mod SecretTableLaws
 pub mod SignOutLaws
 pub mod SkipLaws
 pub mod SliceLaws

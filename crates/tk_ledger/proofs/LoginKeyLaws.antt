@@ -37,10 +37,12 @@ use Rattle.tk_ledger.proofs.SameLaws.{same_dot-true}
 
 -- ---- equal keys
 
+-- the order of login keys is total
 pub logins_total : IsTotalOrder login_cmp
 logins_total =
     then_total (on_total (λ k. k.prefix) nat_cmp_total) (on_total (λ k. k.code) dot_cmp_total)
 
+-- login keys compare as equal exactly if their prefixes and dots are equal
 pub login_tied : (g h : ℕ) (d q : Dot)
     → eq_by_cmp login_cmp (login_key g d) (login_key h q) ≡ ((g == h) && is_same_dot d q)
 login_tied g h d q =
@@ -57,6 +59,7 @@ login_tied-dot g h d q tie =
 key_by : (a b : LoginKey) → a.prefix ≡ b.prefix → a.code ≡ b.code → a ≡ b
 key_by a b h i = λ x. record { prefix = h x; code = i x }
 
+-- login keys that compare as equal are equal
 pub login_same : (a b : LoginKey) → eq_by_cmp login_cmp a b ≡ true → a ≡ b
 login_same a b h =
     let p = and_parts _ _ (sym (login_tied a.prefix b.prefix a.code b.code) ∙ h) in
@@ -71,6 +74,7 @@ NoTail = Unit {0}
 abbrev pub tail_cmp : NoTail → NoTail → Ordering
 tail_cmp t u = Equal
 
+-- the order of tails is total
 pub tails_total : IsTotalOrder tail_cmp
 tails_total = record {
   antisymm = λ x y. refl;
@@ -104,6 +108,7 @@ login_span prefix = record {
       refl;
 }
 
+-- the span above a dot runs forward
 pub logins_forward : (prefix : ℕ) (after : Option Dot) (first : Bound LoginKey)
     (last : LoginKey)
     → first ≡ login_start prefix after → last ≡ login_key prefix greatest_dot

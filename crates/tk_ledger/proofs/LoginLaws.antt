@@ -70,6 +70,7 @@ module _ (F : FactSet) (x : ForestFacts) (t : IsTied F x) (d : Dot) where
           ap (λ (q : Dot). option_map (λ body. (q, body)) (map.get F q)) same
           ∙ ap (option_map (λ body. (e.0, body))) found.0 ∙ sym is
 
+  -- the user of a code that is not dead is the fact that redeems it
   pub redeemed : IsSome (issued_at (map.get F) d) → is_dead F d ≡ false → (p : Dot)
       → use_of (links_at x p) ≡ Some (code_token d)
       → option_map (λ body. (p, body)) (map.get F p) ≡ redemption_of F d
@@ -80,6 +81,7 @@ module _ (F : FactSet) (x : ForestFacts) (t : IsTied F x) (d : Dot) where
       by_code None at h = absurd (true≢false (sym h))
       by_code (Some f) at h = redeemed_once f at alive p by
 
+  -- no fact redeems a code that no link uses
   pub unredeemed : ¬ IsUsed (links_at x) (code_token d) → redemption_of F d ≡ None
   unredeemed none = by_find (redemption_of F d) refl
     where

@@ -46,6 +46,7 @@ use Rattle.tk_ledger.proofs.ForestLaws.{links_still}
 use Rattle.tk_ledger.proofs.KeyLaws.{at_itself}
 use Rattle.tk_ledger.proofs.LoginTableLaws.{logins_kept, logins_less}
 use Rattle.tk_ledger.proofs.SameLaws.{same_token-true}
+use Rattle.tk_ledger.proofs.SecretTableLaws.{setting, secrets_less}
 use Rattle.tk_ledger.proofs.SubjectTableLaws.{issuing}
 use Rattle.tk_ledger.proofs.RootLaws.{links-below}
 use Rattle.tk_ledger.proofs.WakeLaws.{grant_place}
@@ -170,6 +171,7 @@ loss F d y x w =
       indexed = w.indexed;
     }
 
+-- all tables after the loss of a code, without its keys
 pub lost_code : (F : FactSet) (d : Dot) (prefix start : ℕ) (x : Index)
     (s : BTreeSet CodeKey) (t : BTreeSet LoginKey) (z : ForestFacts)
     → WasIndexed F d (change.Issue prefix start) x
@@ -192,6 +194,7 @@ pub lost_code : (F : FactSet) (d : Dot) (prefix start : ℕ) (x : Index)
       logins = t;
       outs = x.outs;
       reuses = x.reuses;
+      secrets = x.secrets;
       forest = z;
     })
 lost_code F d prefix start x s t z w r e links marks =
@@ -212,10 +215,13 @@ lost_code F d prefix start x s t z w r e links marks =
       outs_are = outs_less F o.before d o.body x.outs o.more (ap signs o.is) o.indexed.outs_are;
       reuses_are = reuses_kept F o.before d o.body x.reuses o.more (λ k. ap (reuses_of k) o.is)
           o.indexed.reuses_are;
+      secrets_are = secrets_less F o.before d o.body x.secrets o.more (ap setting o.is)
+          o.indexed.secrets_are;
       tied = untied_link F o.before d o.body Code x.forest z o.more (ap puts o.is) o.indexed.tied
           links marks;
     }
 
+-- all tables after the loss of a link
 pub lost_link : (F : FactSet) (d : Dot) (l : Link) (x : Index) (z : ForestFacts)
     → WasIndexed F d (change.Put l) x
     → z.links ≡ map.remove x.forest.links d
@@ -231,6 +237,7 @@ pub lost_link : (F : FactSet) (d : Dot) (l : Link) (x : Index) (z : ForestFacts)
       logins = x.logins;
       outs = x.outs;
       reuses = x.reuses;
+      secrets = x.secrets;
       forest = z;
     })
 lost_link F d l x z w links marks =
@@ -251,6 +258,8 @@ lost_link F d l x z w links marks =
       outs_are = outs_less F o.before d o.body x.outs o.more (ap signs o.is) o.indexed.outs_are;
       reuses_are = reuses_kept F o.before d o.body x.reuses o.more (λ k. ap (reuses_of k) o.is)
           o.indexed.reuses_are;
+      secrets_are = secrets_less F o.before d o.body x.secrets o.more (ap setting o.is)
+          o.indexed.secrets_are;
       tied = untied_link F o.before d o.body l x.forest z o.more (ap puts o.is) o.indexed.tied links
           marks;
     }
@@ -263,6 +272,7 @@ lost_revocations F d j x w =
     revocations_kept F o.before d o.body x.revocations o.more (λ k g c. ap (revokes_of k g c) o.is)
     o.indexed.revocations_are
 
+-- the table of reuses without the key of a lost reuse
 pub lost_reuses : (F : FactSet) (d : Dot) (j : TokenId) (x : Index) (s : BTreeSet ReuseKey)
     → WasIndexed F d (change.Mark j) x
     → ((k : ReuseKey)
@@ -284,6 +294,7 @@ less_revocations F d f x s w r =
     let o : Loss F d (change.Revoke f) x = loss F d (change.Revoke f) x w in
     revocations_less F o.before d o.body f x.revocations s o.more o.is o.indexed.revocations_are r
 
+-- the loss of a revocation leaves the table of reuses
 pub less_reuses : (F : FactSet) (d : Dot) (f : revoked.TokenRevoked) (x : Index)
     → WasIndexed F d (change.Revoke f) x → IsReuses F x.reuses
 less_reuses F d f x w =
@@ -298,12 +309,14 @@ lost_outs F d y x w none =
     let o : Loss F d y x = loss F d y x w in
     outs_less F o.before d o.body x.outs o.more (ap signs o.is ∙ none) o.indexed.outs_are
 
+-- the loss of a fact that puts no link leaves the links
 pub lost_links : (F : FactSet) (d : Dot) (y : Change) (x : Index) → WasIndexed F d y x
     → puts y ≡ None → (q : Dot) → map.get x.forest.links q ≡ links_in (map.get F) q
 lost_links F d y x w none q =
     let o : Loss F d y x = loss F d y x w in
     o.indexed.tied.links q ∙ sym (links_still F o.before d o.body o.more (ap puts o.is ∙ none) q)
 
+-- all tables after the loss of a reuse, without its key
 pub lost_reuse : (F : FactSet) (d : Dot) (j : TokenId) (x : Index) (s : BTreeSet ReuseKey)
     (z : ForestFacts) → WasIndexed F d (change.Mark j) x
     → ((k : ReuseKey)
@@ -320,6 +333,7 @@ pub lost_reuse : (F : FactSet) (d : Dot) (j : TokenId) (x : Index) (s : BTreeSet
       logins = x.logins;
       outs = x.outs;
       reuses = s;
+      secrets = x.secrets;
       forest = z;
     })
 lost_reuse F d j x s z w r woke =
@@ -338,9 +352,12 @@ lost_reuse F d j x s z w r woke =
           logins_kept F o.before d o.body x.logins o.more (ap issuing o.is) o.indexed.logins_are;
       outs_are = lost_outs F d (change.Mark j) x w refl;
       reuses_are = lost_reuses F d j x s w r;
+      secrets_are = secrets_less F o.before d o.body x.secrets o.more (ap setting o.is)
+          o.indexed.secrets_are;
       tied = untied_reuse F o.before d o.body j x.forest z o.more o.is o.indexed.tied woke;
     }
 
+-- all tables after the loss of a revocation, without its key
 pub lost_revocation : (F : FactSet) (d : Dot) (f : revoked.TokenRevoked) (x : Index)
     (s : BTreeSet Revocation) (z : ForestFacts) → WasIndexed F d (change.Revoke f) x
     → ((e : Revocation)
@@ -358,6 +375,7 @@ pub lost_revocation : (F : FactSet) (d : Dot) (f : revoked.TokenRevoked) (x : In
       logins = x.logins;
       outs = x.outs;
       reuses = x.reuses;
+      secrets = x.secrets;
       forest = z;
     })
 lost_revocation F d f x s z w r woke =
@@ -376,5 +394,7 @@ lost_revocation F d f x s z w r woke =
           logins_kept F o.before d o.body x.logins o.more (ap issuing o.is) o.indexed.logins_are;
       outs_are = lost_outs F d (change.Revoke f) x w refl;
       reuses_are = less_reuses F d f x w;
+      secrets_are = secrets_less F o.before d o.body x.secrets o.more (ap setting o.is)
+          o.indexed.secrets_are;
       tied = untied_revocation F o.before d o.body f x.forest z o.more o.is o.indexed.tied woke;
     }

@@ -15,6 +15,7 @@ use Rattle.tk_ledger.specs.declared.index.Index.{Index}
 use Rattle.tk_ledger.proofs.ForestLaws.{puts, revoking, signs, unsigned, unrevoked, links_still}
 use Rattle.tk_ledger.proofs.LossLaws.{Loss, loss, tied_less}
 use Rattle.tk_ledger.proofs.LoginTableLaws.{logins_kept}
+use Rattle.tk_ledger.proofs.SecretTableLaws.{setting, secrets_less}
 use Rattle.tk_ledger.proofs.TableLossLaws.{clients_less, consents_less, withdrawals_less}
 use Rattle.tk_ledger.proofs.TableLossLaws.{revocations_kept, outs_less, codes_kept, reuses_kept}
 use Rattle.tk_ledger.proofs.SubjectTableLaws.{issuing}
@@ -59,5 +60,7 @@ lost_nothing F d x w =
       outs_are = outs_less F o.before d o.body x.outs o.more (ap signs o.is) o.indexed.outs_are;
       reuses_are = reuses_kept F o.before d o.body x.reuses o.more (λ k. ap (reuses_of k) o.is)
           o.indexed.reuses_are;
+      secrets_are = secrets_less F o.before d o.body x.secrets o.more (ap setting o.is)
+          o.indexed.secrets_are;
       tied = untied_nothing F o.before d o.body x.forest o.more o.is o.indexed.tied;
     }

@@ -60,6 +60,7 @@ over_why F horizon k h = elim (or_cases (mints_nothing (map.get F k.dot))
       | inr over ↦ inl (over_root F horizon k.dot (root_in (map.get F) k.dot) refl over)
     ]
 
+-- a fact that the test lets go may be skipped
 pub may_skip-sound : (F : FactSet) (horizon : ℕ) (d : Dot) (b : Body) → map.get F d ≡ Some b
     → may_skip F horizon (d, b) ≡ true → MaySkip (map.get F) horizon d
 may_skip-sound F horizon d b here h = by_token (kept_for d b) refl h
@@ -81,6 +82,7 @@ why_over F horizon k (inr n) =
     or_left (mints_nothing (map.get F k.dot)) (is_over_by horizon (root_in (map.get F) k.dot))
     (ap mints_nothing n.here ∙ ap not n.barren)
 
+-- the test lets each fact go that may be skipped
 pub may_skip-complete : (F : FactSet) (horizon : ℕ) (d : Dot) (s : MaySkip (map.get F) horizon d)
     → may_skip F horizon (d, s.fact) ≡ true
 may_skip-complete F horizon d s =
@@ -124,6 +126,7 @@ picked-complete : (p : Dot × Body → Bool) (F : FactSet) (q : Dot) (b : Body) 
 picked-complete p F q b held passes = has_picked p (map.entries F) q
     ∙ any_fact-of (at_dot p q) F q b held (and_from _ _ passes (at_itself q))
 
+-- each dot that is listed may be skipped
 pub dots_over-sound : (F : FactSet) (horizon : ℕ) (q : Dot) → has (dots_over F horizon) q ≡ true
     → MaySkip (map.get F) horizon q
 dots_over-sound F horizon q h = elim (has-append (picked (picks_code F horizon) (map.entries F))
@@ -140,6 +143,7 @@ dots_over-sound F horizon q h = elim (has-append (picked (picks_code F horizon) 
           (and_parts (not (issues x.0)) (may_skip F horizon (q, x.0)) x.2).1
     ]
 
+-- each dot that may be skipped is listed
 pub dots_over-complete : (F : FactSet) (horizon : ℕ) (q : Dot) → MaySkip (map.get F) horizon q
     → has (dots_over F horizon) q ≡ true
 dots_over-complete F horizon q s = elim (cases_Bool (issues s.fact)) [

@@ -87,6 +87,7 @@ key_order k a b =
     (tied_itself dot_cmp_total k.dot)
     ∙ ap (λ o. ordering_then o (dot_cmp a b)) (tied_itself nat_cmp_total (kind_number k.kind))
 
+-- the span of a token runs forward
 pub reuses_forward : (k : TokenId) (a b : ReuseKey) → a ≡ reuse_key k least_dot
     → b ≡ reuse_key k greatest_dot → IsLeBy reuse_cmp a b
 reuses_forward k a b first last =
@@ -131,6 +132,7 @@ reuse_held : (F : FactSet) (k : TokenId) (d : Dot) (o : Option Body) → map.get
 reuse_held F k d None at h = absurd (true≢false (sym h))
 reuse_held F k d (Some b) at h = any_fact-of (sees_reuse k) F d b at h
 
+-- the table has a reuse of exactly the tokens whose reuse was seen
 pub has_reuse_is : (F : FactSet) (t : BTreeSet ReuseKey) (k : TokenId) → IsReuses F t
     → has_reuse t k ≡ is_reused F k
 has_reuse_is F t k i = same_tests (has_reuse t k) (is_reused F k)
@@ -153,6 +155,7 @@ has_reuse_is F t k i = same_tests (has_reuse t k) (is_reused F k)
 abbrev pub RangedReuses : BTreeSet ReuseKey → Type 0
 RangedReuses t = (k : TokenId) (d : Dot) → is_listed_reuse t k d ≡ true → IsDot d
 
+-- a reuse at a dot is the new fact's, or one from before
 pub reused_on : (F G : FactSet) (d : Dot) (b : Body) (k : TokenId) (q : Dot) (x : Bool)
     → OneMore F G d b → x ≡ is_reuse_of k (map.get F q)
     → ((reuses_of k (change_in b) && is_at d q) || x) ≡ is_reuse_of k (map.get G q)
@@ -164,6 +167,7 @@ reused_on F G d b k q x m i =
     (λ ne. ap (is_reuse_of k) (m.there q ne))
     i
 
+-- the table follows the set with one more fact
 pub reuses_on : (F G : FactSet) (d : Dot) (b : Body) (t u : BTreeSet ReuseKey) → OneMore F G d b
     → IsReuses F t → RangedReuses u
     → ((k : TokenId) (q : Dot)
@@ -187,6 +191,7 @@ reuses_ranged t u d n here before l k q h =
       | inr old ↦ before k q old
     ]
 
+-- a table with the same keys is of the same facts
 pub reuses_alike : (F : FactSet) (t u : BTreeSet ReuseKey) → IsReuses F t
     → ((e : ReuseKey) → contains reuse_cmp u e ≡ contains reuse_cmp t e) → IsReuses F u
 reuses_alike F t u i same = record {

@@ -138,6 +138,7 @@ key_order k g c a b =
     (tied_itself nat_list_cmp_total g)
     ∙ ap (λ o. ordering_then o (dot_cmp a b)) (tied_itself dot_cmp_total c)
 
+-- the span of a token, a digest and a client runs forward
 pub revocations_forward : (k : TokenId) (g : List ℕ) (c : Dot) (a b : Revocation)
     → a ≡ revocation_key k g c least_dot → b ≡ revocation_key k g c greatest_dot
     → IsLeBy revocation_cmp a b
@@ -202,6 +203,7 @@ revocation_held : (F : FactSet) (k : TokenId) (g : List ℕ) (c d : Dot) (o : Op
 revocation_held F k g c d None at h = absurd (true≢false (sym h))
 revocation_held F k g c d (Some b) at h = any_fact-of (revokes k g c) F d b at h
 
+-- the table has a revocation exactly if the client revoked the token
 pub has_revocation_is : (F : FactSet) (t : BTreeSet Revocation) (k : TokenId) (g : List ℕ) (c : Dot)
     → IsRevocations F t → has_revocation t k g c ≡ is_revoked F k g c
 has_revocation_is F t k g c i = same_tests (has_revocation t k g c) (is_revoked F k g c)
@@ -234,6 +236,7 @@ abbrev pub RangedRevocations : BTreeSet Revocation → Type 0
 RangedRevocations t =
     (k : TokenId) (g : List ℕ) (c d : Dot) → is_listed_revocation t k g c d ≡ true → IsDot d
 
+-- a revocation at a dot is the new fact's, or one from before
 pub revoked_on : (F G : FactSet) (d : Dot) (b : Body) (k : TokenId) (g : List ℕ) (c q : Dot)
     (x : Bool)
     → OneMore F G d b → x ≡ is_revocation_of k g c (map.get F q)
@@ -246,6 +249,7 @@ revoked_on F G d b k g c q x m i =
     (λ ne. ap (is_revocation_of k g c) (m.there q ne))
     i
 
+-- the table follows the set with one more fact
 pub revocations_on : (F G : FactSet) (d : Dot) (b : Body) (t u : BTreeSet Revocation)
     → OneMore F G d b → IsRevocations F t → RangedRevocations u
     → ((k : TokenId) (g : List ℕ) (c q : Dot)
@@ -272,6 +276,7 @@ revocations_ranged t u d n here before l k g c q h = elim (or_cases (n k g c && 
       | inr old ↦ before k g c q old
     ]
 
+-- a table with the same keys is of the same facts
 pub revocations_alike : (F : FactSet) (t u : BTreeSet Revocation) → IsRevocations F t
     → ((e : Revocation) → contains revocation_cmp u e ≡ contains revocation_cmp t e)
     → IsRevocations F u

@@ -39,6 +39,7 @@ from_some f (Some x) y h = (x, refl, h)
 
 -- ---- more facts
 
+-- what the body at a dot gives, it gives in a greater set
 pub below-and_then : {B : Type 0} (f : Body → Option B) (F G : FactSet) → IsSubset F G
     → (d : Dot) (y : B) → option_and_then f (map.get F d) ≡ Some y
     → option_and_then f (map.get G d) ≡ Some y
@@ -46,10 +47,12 @@ below-and_then f F G w d y h =
     let x : (b : Body) × (map.get F d ≡ Some b) × (f b ≡ Some y) = from_some f (map.get F d) y h in
     ap (option_and_then f) (w d x.0 x.1) ∙ x.2
 
+-- the links of a set are links of a greater set
 pub links-below : (F G : FactSet) → IsSubset F G
     → LinksWithin (links_in (map.get F)) (links_in (map.get G))
 links-below F G w d l h = below-and_then link_of F G w d l h
 
+-- a token is minted the same in a greater set
 pub minted-below : (F G : FactSet) → IsSubset F G → (k : TokenId) (m : MintedFields)
     → minted_in (map.get F) k ≡ Some m → minted_in (map.get G) k ≡ Some m
 minted-below F G w k m h = below-and_then (λ b. minted_of b k.kind) F G w k.dot m h
@@ -72,6 +75,7 @@ own_anchor d (bodies.RefreshRotated f) l h = refl
 own_anchor d (bodies.TokenRevoked f) l h = refl
 own_anchor d (bodies.ReuseSeen f) l h = refl
 own_anchor d (bodies.SubjectOut f) l h = refl
+own_anchor d (bodies.SecretSet f) l h = refl
 
 -- the anchor of a dot with a link is the dot
 pub anchor-linked : (body_at : Bodies) (d : Dot) (l : Link) → links_in body_at d ≡ Some l
@@ -152,6 +156,7 @@ minted-under-below F G w d c under =
 
 -- ---- roots
 
+-- the root of a code is the code itself, with the fact that issued it
 pub root_at : (F : FactSet) (c : Dot) (o : Root) → root_of (map.get F) c ≡ Some o
     → (c ≡ o.code) × (issued_at (map.get F) o.code ≡ Some o.issued)
 root_at F c o h = parts (issued_at (map.get F) c) refl h
@@ -183,6 +188,7 @@ root-sound F d o h =
       p.1,
     )
 
+-- the root of a dot under a code that was issued is that code
 pub root-complete : (F : FactSet) (d c : Dot) (code : issued.CodeIssued)
     → IsMintedUnder (map.get F) d c → issued_at (map.get F) c ≡ Some code
     → root_in (map.get F) d ≡ Some (record { code = c; issued = code })

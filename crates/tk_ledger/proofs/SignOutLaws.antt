@@ -90,7 +90,8 @@ last_none F t subject i h = λ moment s.
     none_passes out_cmp outs_total out_same (tells_of F subject) _ t.keys h
     (its_key subject s.sign_out s.place) l.at l.kept l.passes
 
-less_is : (a b : ℕ) → a < b → nat_cmp a b ≡ Less
+-- a lesser number compares as Less
+pub less_is : (a b : ℕ) → a < b → nat_cmp a b ≡ Less
 less_is a b lt = by_ranked (a < b) (a ≡ b) (b < a) (nat_cmp a b) (ranked a b (nat_cmp a b) refl)
     (λ o _. o) (λ _ e. absurd (apart e)) (λ _ g. absurd (turned g))
   where
@@ -156,6 +157,7 @@ last_missing F t subject e h none =
 
 -- ---- by the last
 
+-- a subject signed out at a moment or later exactly if the last sign-out reaches the moment
 pub last_tells : (F : FactSet) (subject : List ℕ) (last : Option ℕ)
     → IsLastSignOut (map.get F) subject last → (moment : ℕ)
     → is_signed_out F subject moment ≡ reaches last moment
@@ -177,6 +179,7 @@ abbrev pub after : Option ℕ → ℕ
 after None = 0
 after (Some m) = m + 1
 
+-- the moment after the last sign-out is the first that no sign-out reaches
 pub last_leaves : (F : FactSet) (subject : List ℕ) (last : Option ℕ)
     → IsLastSignOut (map.get F) subject last → IsFirstUnreached (map.get F) subject (after last)
 last_leaves F subject None none =
@@ -200,12 +203,14 @@ last_leaves F subject (Some m) last = record {
 
 -- ---- the sign-outs but for the one at a dot
 
+-- a set without a dot has no sign-out there
 pub sign_out-gone : (F : FactSet) (d q : Dot) → is_same_dot d q ≡ true
     → sign_out_at (map.get (map.remove F d)) q ≡ None
 sign_out-gone F d q same = ap (option_and_then sign_out_in)
     (map.get-remove dot_cmp_total F d q
     ∙ cond-true _ _ _ (ap (λ (p : Dot). dot_eq p d) (sym (same_dot-true d q same)) ∙ at_itself d))
 
+-- a set without a dot has its sign-outs at the others
 pub sign_out-kept : (F : FactSet) (d q : Dot) → is_same_dot d q ≡ false
     → sign_out_at (map.get (map.remove F d)) q ≡ sign_out_at (map.get F) q
 sign_out-kept F d q apart = ap (option_and_then sign_out_in)

@@ -21,7 +21,7 @@ use Rattle.tk_fact.specs.declared.body.Body.{Body}
 use Rattle.tk_fact.specs.declared.body.Body.TheVariants.{ClientAdded, ClientRetired, ConsentGiven}
 use Rattle.tk_fact.specs.declared.body.Body.TheVariants.{ConsentWithdrawn, CodeIssued, CodeRedeemed}
 use Rattle.tk_fact.specs.declared.body.Body.TheVariants.{RefreshRotated, TokenRevoked, ReuseSeen}
-use Rattle.tk_fact.specs.declared.body.Body.TheVariants.{SubjectOut, AccessRefreshed}
+use Rattle.tk_fact.specs.declared.body.Body.TheVariants.{SubjectOut, AccessRefreshed, SecretSet}
 use Rattle.tk_handle.specs.declared.token_id.TokenId.{TokenId}
 use Rattle.tk_store.specs.Skipping.{Skips, MayGo, Lasts}
 use Rattle.tk_store.specs.Slots.{Slot, Held, Skipped, held_slot}
@@ -54,11 +54,13 @@ passing_change (TokenRevoked f) h = refl
 passing_change (ReuseSeen f) h = refl
 passing_change (SubjectOut f) h = h
 passing_change (AccessRefreshed f) h = refl
+passing_change (SecretSet f) h = h
 
 skipped_is : (P Q : StoreFields) (d : Dot) (a : Added) → Skips P d (Ok a) Q → Q ≡ with_skipped P d
 skipped_is P Q d added.New s = s.1
 skipped_is P Q d added.Held s = s.1
 
+-- after a skip the facts held are those before, but for the skipped one
 pub skipped_held : (P Q : StoreFields) (d : Dot) (a : Added) → Skips P d (Ok a) Q
     → held_facts Q ≡ map.remove (held_facts P) d
 skipped_held P Q d a s = ap held_facts (skipped_is P Q d a s) ∙ held_skip P.slots d
@@ -68,6 +70,7 @@ may_pass None b may h = absurd may
 may_pass (Some (Held c)) b may h = sym (ap is_passing (some_injective c b h)) ∙ may
 may_pass (Some Skipped) b may h = absurd (none_is_not_some b h)
 
+-- a fact that was skipped passes
 pub skipped_passes : (P Q : StoreFields) (d : Dot) (a : Added) (b : Body) (y : Change)
     → Skips P d (Ok a) Q → map.get (held_facts P) d ≡ Some b → y ≡ change_in b → passes y ≡ true
 skipped_passes P Q d added.New b y s at is =
@@ -76,6 +79,7 @@ skipped_passes P Q d added.Held b y s at is =
     ap passes is
     ∙ passing_change b (may_pass (map.get P.slots d) b s.0 (sym (get_held P.slots d) ∙ at))
 
+-- the tables before a skip are those of the facts after it, and the skipped one
 pub was_indexed : (P Q : StoreFields) (d : Dot) (a : Added) (b : Body) (y : Change) (x : Index)
     → Skips P d (Ok a) Q → map.get (held_facts P) d ≡ Some b → y ≡ change_in b
     → IsIndexed (held_facts P) x → WasIndexed (held_facts Q) d y x
@@ -86,10 +90,12 @@ was_indexed P Q d a b y x s at is indexed = record {
   indexed = indexed;
 }
 
+-- a skip that fails changes nothing
 pub skips_unchanged : (P Q : StoreFields) (d : Dot) (e : AddError) → Skips P d (Err e) Q → Q ≡ P
 skips_unchanged P Q d Conflict s = s.1
 skips_unchanged P Q d Memory s = s.1
 
+-- a skip at a dot without a fact leaves the facts held
 pub free_skipped : (P Q : StoreFields) (d : Dot) (r : Result Added AddError)
     → map.get (held_facts P) d ≡ None → Skips P d r Q → held_facts Q ≡ held_facts P
 free_skipped P Q d (Ok a) free s = skipped_held P Q d a s ∙ remove_free (held_facts P) d free
@@ -162,6 +168,7 @@ skips_as P Q f g same s = record {
   fewer = s.fewer;
 }
 
+-- skipping no dots changes nothing
 pub skips_none : (P : StoreFields) → SkipsAll P (λ _. false) P
 skips_none P = record {
   here = λ q at. absurd (true≢false (sym at));
@@ -206,6 +213,7 @@ never_refused P Q d Memory may s = subst MayGo s.0 may
 
 -- ---- a prune
 
+-- a fact that is kept for a token passes
 pub passing_kept : (d : Dot) (b : Body) (k : TokenId) → kept_for d b ≡ Some k → is_passing b ≡ true
 passing_kept d (ClientAdded f) k h = absurd (none_is_not_some k h)
 passing_kept d (ClientRetired f) k h = absurd (none_is_not_some k h)
@@ -218,7 +226,9 @@ passing_kept d (TokenRevoked f) k h = refl
 passing_kept d (ReuseSeen f) k h = refl
 passing_kept d (SubjectOut f) k h = absurd (none_is_not_some k h)
 passing_kept d (AccessRefreshed f) k h = refl
+passing_kept d (SecretSet f) k h = absurd (none_is_not_some k h)
 
+-- a slot that holds a fact that passes may go
 pub may_go : (o : Option Slot) (b : Body) → held_slot o ≡ Some b → is_passing b ≡ true → MayGo o
 may_go None b h passing = absurd (none_is_not_some b h)
 may_go (Some (Held c)) b h passing = ap is_passing (some_injective c b h) ∙ passing

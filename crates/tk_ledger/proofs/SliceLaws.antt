@@ -73,6 +73,7 @@ some_of_cond : {A : Type 0} (t : Bool) (o : Option A) → cond t o None ≢ None
 some_of_cond true o some = refl
 some_of_cond false o some = absurd (some refl)
 
+-- an option with a value is not absent
 pub some_none : {A : Type 0} (x : A) → Some x ≢ None
 some_none x h = none_is_not_some x (sym h)
 
@@ -176,6 +177,7 @@ stays_more P Q n d e s go = record {
   stays = s.stays;
 }
 
+-- a test whose opposite is false is true
 pub turned : (t : Bool) → not t ≡ false → t ≡ true
 turned true h = refl
 turned false h = absurd (true≢false h)
@@ -199,6 +201,7 @@ pub record Looked (P : StoreFields) (after : Option Dot) (count turn : ℕ) (at 
   pub left : (q : Dot) → is_past after q ≡ true → is_past at q ≡ false
       → map.get (held_facts Q) q ≢ None → Stays P gone Q q
 
+-- at the beginning of a slice no fact was looked at
 pub first_looked : (P : StoreFields) (after : Option Dot) (count : ℕ)
     → Looked P after count 0 after 0 P
 first_looked P after count = record {
@@ -367,6 +370,7 @@ module _ (P : StoreFields) (after : Option Dot) (count turn : ℕ) (at : Option 
             (sym (L.on f.0 (first_past (held_facts Q) at f first)) ∙ ap (is_past after) (sym same)
             ∙ low)
 
+    -- a further fact was looked at
     pub more_looked : (t : Bool) (R : StoreFields) → SkipsIf Q f.0 t R
         → Looked P after count (turn + 1) (Some f.0) (gone_with gone t) R
     more_looked true R skips = subst (λ (S : StoreFields).

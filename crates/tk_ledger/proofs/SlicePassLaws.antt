@@ -26,10 +26,12 @@ use Rattle.tk_ledger.proofs.SliceLaws.{some_none, turned, went_same}
 
 -- ---- a fact that may go
 
+-- a fact that may be skipped at the horizon, by the facts held, may go
 pub goes_over : (P : StoreFields) (d : Dot) (b : Body) → map.get (held_facts P) d ≡ Some b
     → may_skip (held_facts P) P.horizon (d, b) ≡ true → Goes P d
 goes_over P d b here over = inl (may_skip-sound (held_facts P) P.horizon d b here over)
 
+-- a fact that names a skipped dot may go
 pub goes_named : (P : StoreFields) (d : Dot) (b : Body) → map.get (held_facts P) d ≡ Some b
     → is_any_skipped P.slots (names_of b) ≡ true → Goes P d
 goes_named P d b here named = by (names_of b) refl named
@@ -131,6 +133,7 @@ idle old moment after (t ∷ ts) d is past some go =
           (subst (λ (R : StoreFields). Goes R d) (sym (raised_again old t.store moment same)) go)
     ]
 
+-- a pass by which no fact goes leaves none that may go
 pub pass_ends : PassEnds
 pass_ends old moment t ts is d go =
     idle old moment None (t ∷ ts) d is refl (inr (λ e. cons_some e)) go

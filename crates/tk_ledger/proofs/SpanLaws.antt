@@ -50,6 +50,7 @@ use Rattle.tk_ledger.proofs.SameLaws.{same_dot-true, same_dot-itself}
 
 -- ---- the order of keys
 
+-- the order of consent keys is total
 pub consents_total : IsTotalOrder consent_cmp
 consents_total = then_total (on_total (λ k. k.subject) nat_list_cmp_total)
     (then_total (on_total (λ k. k.consent) dot_cmp_total) (on_total (λ k. k.client) dot_cmp_total))
@@ -89,6 +90,7 @@ greatest_client : (is_le (dot_cmp least_dot greatest_dot) ≡ true)
     × (is_le (dot_cmp greatest_dot greatest_dot) ≡ true)
 greatest_client = (refl, refl)
 
+-- the span above a dot runs forward
 pub span_forward : (subject : List ℕ) (after : Option Dot) (first : Bound ConsentKey)
     (last : ConsentKey)
     → first ≡ consent_start subject after → last ≡ consent_key greatest_dot subject greatest_dot
@@ -224,6 +226,7 @@ covering_key F client subject scope d x = and_from (is_same_dot client client)
     (covers F client subject scope d) (same_dot-itself client)
     (covers_complete F client subject scope d x)
 
+-- the first listed consent that covers the scope is the lowest live one
 pub first_found : (F : FactSet) (t : BTreeSet ConsentKey) (client : Dot) (subject scope : List ℕ)
     (o : Option ConsentKey)
     → IsConsents F t → IsStrictlySortedBy consent_cmp t.keys
@@ -267,6 +270,7 @@ least_one F client subject scope (Some d) (Some e) h i =
     by_order Equal at = tied d e (ap is_eq at)
     by_order Greater at = absurd (h.1 e i.0 (dot_cmp_total.antisymm e d ∙ ap ordering_reverse at))
 
+-- the lowest live consent that covers the scope is the one that is found
 pub first_is : (F : FactSet) (client : Dot) (subject scope : List ℕ) (x : Option Dot)
     → IsLeastConsent (map.get F) client subject scope x → x ≡ consent_for F client subject scope
 first_is F client subject scope x h = least_one F client subject scope x

@@ -45,6 +45,7 @@ issues (bodies.TokenRevoked f) code h passes = cc
 issues (bodies.ReuseSeen f) code h passes = cc
 issues (bodies.SubjectOut f) code h passes = cc
 issues (bodies.AccessRefreshed f) code h passes = cc
+issues (bodies.SecretSet f) code h passes = cc
 
 issued_subject : (F : FactSet) → IsFactSet F → (c : Dot) (code : issued.CodeIssued)
     → issued_at (map.get F) c ≡ Some code → is_subject code.subject ≡ true
@@ -64,6 +65,7 @@ sound_by F now h sound (Some b) (Some m) (Some o) n = (
   λ live. above o.issued.family_end now (chain_live _ _ _ _ _ _ live).over,
 )
 
+-- the status by facts that pass their checks is sound
 pub sound_status : (F : FactSet) (now : ℕ) (h : Handle) → IsFactSet F
     → IsSound now (status_in F now h)
 sound_status F now h sound = sound_by F now h sound (map.get F h.id.dot) (minted_as (map.get F) h)

@@ -99,6 +99,7 @@ known_by F now h s (Some b) (Some m) (Some o) i j n e =
       standing = same_standing (standing_in F now h.id b m o) s e;
     }
 
+-- the parts of a known status
 pub known_parts : (F : FactSet) (now : ℕ) (h : Handle) (s : StandingFields)
     → status_in F now h ≡ Known s → Knows F now h s
 known_parts F now h s e = known_by F now h s (map.get F h.id.dot) (minted_as (map.get F) h)
@@ -174,6 +175,7 @@ says_by F now h (Some b) (Some m) None i j n =
     ((minted_token F h m j, refl), no_family F h.id.dot n)
 says_by F now h (Some b) (Some m) (Some o) i j n = (minted_token F h m j, in_family F h.id.dot o n)
 
+-- a status describes its handle
 pub says : (F : FactSet) (now : ℕ) (h : Handle) → Says (map.get F) h (status_in F now h)
 says F now h = says_by F now h (map.get F h.id.dot) (minted_as (map.get F) h)
     (root_in (map.get F) h.id.dot) refl refl refl
@@ -187,6 +189,7 @@ unseen_from body_at h Wrong x none = absurd (x.0 none)
 unseen_from body_at h (Broken t) x none = absurd (unseen_unminted body_at h none x.0.0)
 unseen_from body_at h (Known s) x none = absurd (unseen_unminted body_at h none x.0)
 
+-- the status of exactly the handles that Unseen describes
 pub unseen_exactly : (F : FactSet) (now : ℕ) (h : Handle)
     → (status_in F now h ≡ Unseen → Says (map.get F) h Unseen)
     × (Says (map.get F) h Unseen → status_in F now h ≡ Unseen)
@@ -202,6 +205,7 @@ wrong_from body_at h Wrong x w = refl
 wrong_from body_at h (Broken t) x w = absurd (w.1 x.0.0)
 wrong_from body_at h (Known s) x w = absurd (w.1 x.0)
 
+-- the status of exactly the handles that Wrong describes
 pub wrong_exactly : (F : FactSet) (now : ℕ) (h : Handle)
     → (status_in F now h ≡ Wrong → Says (map.get F) h Wrong)
     × (Says (map.get F) h Wrong → status_in F now h ≡ Wrong)
@@ -222,6 +226,7 @@ broken_from body_at h expiry (Broken t) x b =
     (x.0.1 ∙ ap (λ (m : MintedFields). m.expiry) (one_minted body_at h x.0.0 b.0.0) ∙ sym b.0.1)
 broken_from body_at h expiry (Known s) x b = absurd (b.1 x.1)
 
+-- the status of exactly the handles that Broken describes
 pub broken_exactly : (F : FactSet) (now : ℕ) (h : Handle) (expiry : ℕ)
     → (status_in F now h ≡ Broken expiry → Says (map.get F) h (Broken expiry))
     × (Says (map.get F) h (Broken expiry) → status_in F now h ≡ Broken expiry)
@@ -244,6 +249,7 @@ known_from body_at h Wrong x k = absurd (x.1 k.0)
 known_from body_at h (Broken t) x k = absurd (x.1 k.1)
 known_from body_at h (Known s) x k = tt
 
+-- the status of exactly the handles whose token is known
 pub known_exactly : (F : FactSet) (now : ℕ) (h : Handle)
     → (IsKnown (status_in F now h) → IsKnownToken (map.get F) h)
     × (IsKnownToken (map.get F) h → IsKnown (status_in F now h))

@@ -41,6 +41,7 @@ pub record AllFalse (a b c d e f : Bool) : Type 0 where
 not_live : (s : State) → is_live s ≡ false → s ≡ state.Live → ⊥
 not_live s h same = true≢false (sym (ap is_live same) ∙ h)
 
+-- a token that is live fails each test for another state
 pub chain_live : (a b c d e f : Bool) → chain a b c d e f ≡ state.Live → AllFalse a b c d e f
 chain_live true b c d e f h = absurd (not_live state.Dead refl h)
 chain_live false true c d e f h = absurd (not_live state.Withdrawn refl h)
@@ -56,6 +57,7 @@ live_chain a b c d e f h = rw (h.dead, h.withdrawn, h.over, h.used, h.past, h.en
 
 -- ---- live is active
 
+-- a number that is not at most another is greater
 pub above : (n t : ℕ) → nat_le n t ≡ false → t < n
 above n t h = grind (arith, nat_tests)
 
@@ -74,11 +76,13 @@ right_false : (a b : Bool) → (a && b) ≡ false → a ≡ true → b ≡ false
 right_false true b h i = h
 right_false false b h i = absurd (true≢false (sym i))
 
+-- a kind that is not Code is Access or Refresh
 pub no_code_is : (k : Kind) → k ≢ kind.Code → (k ≡ kind.Access) ⊎ (k ≡ kind.Refresh)
 no_code_is kind.Code h = absurd (h refl)
 no_code_is kind.Access h = inl refl
 no_code_is kind.Refresh h = inr refl
 
+-- an access or refresh token whose state is Live is active
 pub live_is_active : (F : FactSet) (now : ℕ) (h : Handle) (s : StandingFields)
     → h.id.kind ≢ kind.Code → status_in F now h ≡ Known s → s.state ≡ state.Live
     → IsActive (map.get F) now h
@@ -124,6 +128,7 @@ refresh_is kind.Code nc h = absurd (nc refl)
 refresh_is kind.Access nc h = absurd (true≢false (sym h))
 refresh_is kind.Refresh nc h = refl
 
+-- an active token is known, and its state is Live
 pub active_is_live : (F : FactSet) (now : ℕ) (h : Handle) → IsActive (map.get F) now h
     → (s : StandingFields) × (status_in F now h ≡ Known s) × (s.state ≡ state.Live)
 active_is_live F now h a =

@@ -32,6 +32,7 @@ module _ (P Q R : StoreFields) (f : Dot × Body) (d : Dot) (b : Body) (same : (d
   set_by added.New adds = adds.1
   set_by added.Held adds = absurd (subst (HasFact b) free_at adds.0)
 
+  -- the store is as before once a fact that was added is taken back
   pub back_again : (a : Added) → AddsTo P f (Ok a) Q
       → R.slots ≡ without_fact Q.slots d (map.get Q.slots d) → R.horizon ≡ Q.horizon → R ≡ P
   back_again a adds rest level =

@@ -50,10 +50,12 @@ use Rattle.tk_ledger.proofs.SameLaws.{same_dot-true}
 
 -- ---- codes
 
+-- the order of code keys is total
 pub codes_total : IsTotalOrder code_cmp
 codes_total = then_total (on_total (λ k. k.prefix) nat_cmp_total)
     (then_total (on_total (λ k. k.start) nat_cmp_total) (on_total (λ k. k.code) dot_cmp_total))
 
+-- code keys compare as equal exactly if their parts are equal
 pub code_tied : (g h m n : ℕ) (d q : Dot)
     → eq_by_cmp code_cmp (code_key g m d) (code_key h n q)
     ≡ ((g == h) && ((m == n) && is_same_dot d q))
@@ -75,6 +77,7 @@ code_tied-dot g h m n d q tie =
 code_by : (a b : CodeKey) → a.prefix ≡ b.prefix → a.start ≡ b.start → a.code ≡ b.code → a ≡ b
 code_by a b h i j = λ x. record { prefix = h x; start = i x; code = j x }
 
+-- code keys that compare as equal are equal
 pub code_same : (a b : CodeKey) → eq_by_cmp code_cmp a b ≡ true → a ≡ b
 code_same a b h =
     let p = and_parts _ _ (sym (code_tied a.prefix b.prefix a.start b.start a.code b.code) ∙ h) in
@@ -88,6 +91,7 @@ code_order : (prefix m n : ℕ) (a b : Dot)
 code_order prefix m n a b = ap (λ o. ordering_then o (ordering_then (nat_cmp m n) (dot_cmp a b)))
     (tied_itself nat_cmp_total prefix)
 
+-- the span of codes that start between two moments runs forward
 pub codes_forward : (prefix m n : ℕ) (a b : CodeKey) → m ≤ n
     → a ≡ code_key prefix m least_dot → b ≡ code_key prefix n greatest_dot → IsLeBy code_cmp a b
 codes_forward prefix m n a b le first last =
@@ -159,10 +163,12 @@ in_codes t prefix m n start d above below at ranged =
 
 -- ---- sign-outs
 
+-- the order of sign-out keys is total
 pub outs_total : IsTotalOrder out_cmp
 outs_total = then_total (on_total (λ k. k.subject) nat_list_cmp_total)
     (then_total (on_total (λ k. k.left) nat_cmp_total) (on_total (λ k. k.place) dot_cmp_total))
 
+-- sign-out keys compare as equal exactly if their parts are equal
 pub out_tied : (g h : List ℕ) (l m : ℕ) (d q : Dot)
     → eq_by_cmp out_cmp (out_key g l d) (out_key h m q)
     ≡ (bytes_eq g h && ((l == m) && is_same_dot d q))
@@ -173,9 +179,11 @@ out_tied g h l m d q =
     ∙ ap (λ x. bytes_eq g h && (x && is_eq (dot_cmp d q))) (number_tied l m)
     ∙ ap (λ x. bytes_eq g h && ((l == m) && x)) (at_is_same d q)
 
+-- sign-out keys with equal parts are equal
 pub out_by : (a b : OutKey) → a.subject ≡ b.subject → a.left ≡ b.left → a.place ≡ b.place → a ≡ b
 out_by a b h i j = λ x. record { subject = h x; left = i x; place = j x }
 
+-- sign-out keys that compare as equal are equal
 pub out_same : (a b : OutKey) → eq_by_cmp out_cmp a b ≡ true → a ≡ b
 out_same a b h =
     let p = and_parts _ _ (sym (out_tied a.subject b.subject a.left b.left a.place b.place) ∙ h) in
@@ -183,6 +191,8 @@ out_same a b h =
     out_by a b ((bytes_eq-Decides a.subject b.subject).0 p.0) (eqb-true a.left b.left q.0)
     (same_dot-true a.place b.place q.1)
 
+-- sign-out keys of one subject are ordered by their moments, the latest first, and then by their
+-- dots
 pub out_order : (subject : List ℕ) (l m : ℕ) (a b : Dot)
     → out_cmp (out_key subject l a) (out_key subject m b)
     ≡ ordering_then (nat_cmp l m) (dot_cmp a b)
@@ -195,6 +205,7 @@ unfolding IsStrictlySortedBy
 outs_empty t none = subst (λ (ks : List OutKey). IsStrictlySortedBy out_cmp ks)
     (sym (nil_from_length t.keys none)) tt
 
+-- the span of a subject runs forward
 pub outs_forward : (subject : List ℕ) (a b : OutKey) → a ≡ out_key subject 0 least_dot
     → b ≡ out_key subject greatest_moment greatest_dot → IsLeBy out_cmp a b
 outs_forward subject a b first last =
@@ -235,6 +246,7 @@ of_subject subject e h = let p = and_parts _ _ h in
 
 -- ---- codes and sign-outs that are held are listed
 
+-- the key of a code that is held is in the table
 pub code_listed : (F : FactSet) (t : BTreeSet CodeKey) (d : Dot) (code : issued.CodeIssued)
     → IsCodes F t
     → issued_at (map.get F) d ≡ Some code
@@ -249,6 +261,7 @@ code_listed F t d code i h = (at, i.ranged prefix code.start d at)
     at = i.listed prefix code.start d ∙ ap (is_to prefix code.start) h
         ∙ and_from _ _ (eq-eqb prefix prefix refl) (eq-eqb code.start code.start refl)
 
+-- the key of a sign-out that is held is in the table, and its moment in range
 pub out_listed : (F : FactSet) (t : BTreeSet OutKey) (d : Dot) (f : out.SubjectOut) → IsOuts F t
     → sign_out_at (map.get F) d ≡ Some f
     → (contains out_cmp t (out_key (sha256 f.subject) (left_after f.moment) d) ≡ true) × IsDot d

@@ -50,6 +50,7 @@ abbrev pub issuing : Change → Option ℕ
 issuing (change.Issue prefix start) = Some prefix
 issuing other = None
 
+-- a change that issues no code issues none under a prefix
 pub issues_none : (prefix start : ℕ) (y : Change) → issuing y ≡ None
     → issues_to prefix start y ≡ false
 issues_none prefix start (change.Issue own from) h = absurd (none_is_not_some own (sym h))
@@ -66,6 +67,7 @@ signs_out-change : (subject : List ℕ) (left : ℕ) (b : Body)
 signs_out-change subject left (SubjectOut x) = refl
 signs_out-change subject left body = refl
 
+-- a change that signs nobody out signs no subject out
 pub signs_none : (subject : List ℕ) (left : ℕ) (y : Change) → signs y ≡ false
     → signs_out_by subject left y ≡ false
 signs_none subject left (change.SignOut digest moment) h = absurd (true≢false h)
@@ -88,6 +90,7 @@ abbrev pub RangedCodes : BTreeSet CodeKey → Type 0
 RangedCodes t =
     (prefix start : ℕ) (d : Dot) → is_listed_code t prefix start d ≡ true → IsDot d
 
+-- a code at a dot is the new fact's, or one from before
 pub issued_on : (F G : FactSet) (d : Dot) (b : Body) (prefix start : ℕ) (q : Dot)
     (x : Bool)
     → OneMore F G d b
@@ -105,6 +108,7 @@ issued_on F G d b prefix start q x m i =
     (λ ne. ap (λ e. is_to prefix start (option_and_then issued_in e)) (m.there q ne))
     i
 
+-- the table of codes follows the set with one more fact
 pub codes_on : (F G : FactSet) (d : Dot) (b : Body) (t u : BTreeSet CodeKey) → OneMore F G d b
     → IsCodes F t → RangedCodes u
     → ((prefix start : ℕ) (q : Dot)
@@ -133,6 +137,7 @@ codes_ranged t u d n here before l prefix start q h = elim (or_cases
       | inr old ↦ before prefix start q old
     ]
 
+-- a table of codes with the same keys is of the same facts
 pub codes_alike : (F : FactSet) (t u : BTreeSet CodeKey) → IsCodes F t
     → ((k : CodeKey) → contains code_cmp u k ≡ contains code_cmp t k) → IsCodes F u
 codes_alike F t u i same = record {
@@ -158,6 +163,7 @@ abbrev pub RangedOuts : BTreeSet OutKey → Type 0
 RangedOuts t =
     (subject : List ℕ) (left : ℕ) (d : Dot) → is_listed_out t subject left d ≡ true → IsDot d
 
+-- a sign-out at a dot is the new fact's, or one from before
 pub signed_on : (F G : FactSet) (d : Dot) (b : Body) (subject : List ℕ) (left : ℕ) (q : Dot)
     (x : Bool)
     → OneMore F G d b
@@ -181,6 +187,7 @@ abbrev pub IsEarly : Change → Type 0
 IsEarly (change.SignOut digest moment) = moment ≤ greatest_moment
 IsEarly other = Unit {0}
 
+-- a change that signs nobody out signs nobody out after the greatest moment
 pub unsigned_early : (y : Change) → signs y ≡ false → IsEarly y
 unsigned_early (change.SignOut digest moment) h = absurd (true≢false h)
 unsigned_early other h = tt
@@ -191,6 +198,7 @@ early_moment (change.SignOut digest n) moment h early =
     subst (λ (m : ℕ). m ≤ greatest_moment) (some_injective n moment h) early
 early_moment other moment h early = absurd (none_is_not_some moment h)
 
+-- the table of sign-outs follows the set with one more fact
 pub outs_on : (F G : FactSet) (d : Dot) (b : Body) (t u : BTreeSet OutKey) → OneMore F G d b
     → IsOuts F t → RangedOuts u → IsEarly (change_in b)
     → ((subject : List ℕ) (left : ℕ) (q : Dot)
@@ -224,6 +232,7 @@ outs_ranged t u d n here before l subject left q h = elim (or_cases
       | inr old ↦ before subject left q old
     ]
 
+-- a table of sign-outs with the same keys is of the same facts
 pub outs_alike : (F : FactSet) (t u : BTreeSet OutKey) → IsOuts F t
     → ((k : OutKey) → contains out_cmp u k ≡ contains out_cmp t k) → IsOuts F u
 outs_alike F t u i same = record {

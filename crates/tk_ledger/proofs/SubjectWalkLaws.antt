@@ -53,6 +53,7 @@ consent_on F subject q h = ap (λ (o : Option Body).
       live = not (is_withdrawn F q);
     }) (option_and_then given_in o))) h
 
+-- two sets that show the same consent of a subject at each dot show the same consents
 pub consents_same : (F G : FactSet) (subject : List ℕ)
     → ((d : Dot) → consent_of F subject d ≡ consent_of G subject d)
     → consents_of F subject ≡ consents_of G subject
@@ -129,6 +130,7 @@ pub login_on : (F : FactSet) (now : ℕ) (subject : List ℕ) → OnFacts F (log
 login_on F now subject q h = ap (λ (o : Option Body).
     cond (is_issued_to subject (option_and_then issued_in o)) (login_view F now q) None) h
 
+-- two sets that show the same login of a subject at each dot show the same logins
 pub logins_same : (F G : FactSet) (now : ℕ) (subject : List ℕ)
     → ((d : Dot) → login_by F now subject d ≡ login_by G now subject d)
     → logins_of F now subject ≡ logins_of G now subject

@@ -50,6 +50,7 @@ use Rattle.tk_ledger.proofs.ChangeLaws.{changed, or_cond}
 
 -- ---- the tables
 
+-- the table of clients after any change
 pub clients_by : (G : FactSet) (d : Dot) (y : Change) (t u : BTreeMap Dot ClientRow)
     → option_map change_in (map.get G d) ≡ Some y → IsClients (map.remove G d) t
     → ((q : Dot) → row_added (row_at u q) ≡ ((adds y && is_at d q) || row_added (row_at t q)))
@@ -61,6 +62,7 @@ clients_by G d y t u h i a r =
     (λ q. a q ∙ ap (λ z. (adds z && is_at d q) || row_added (row_at t q)) (sym x.is))
     (λ q. r q ∙ ap (λ z. retires_of q z || row_retired (row_at t q)) (sym x.is))
 
+-- the table of consents after any change
 pub consents_by : (G : FactSet) (d : Dot) (y : Change) (t u : BTreeSet ConsentKey)
     → option_map change_in (map.get G d) ≡ Some y → IsConsents (map.remove G d) t → Ranged u
     → ((client : Dot) (subject : List ℕ) (q : Dot)
@@ -91,6 +93,7 @@ same_consents G d y t h none kept i = consents_by G d y t t h i i.ranged
     still : (g a w x v : Bool) → g ≡ false → v ≡ false → x ≡ ((((g && a) && not w) || x) && not v)
     still g a w x v h k = rw (h, k) (sym (and_yes x))
 
+-- the table of withdrawals after any change
 pub withdrawals_by : (G : FactSet) (d : Dot) (y : Change) (t u : BTreeSet Dot)
     → option_map change_in (map.get G d) ≡ Some y → IsWithdrawals (map.remove G d) t
     → ((q : Dot) → contains dot_cmp u q ≡ (withdraws_of q y || contains dot_cmp t q))
@@ -138,6 +141,7 @@ revoke_row G d f t u h i here r = revocations_by G d (change.Revoke f) t u h i
         ∙ ap (λ x. x || is_listed_revocation t k g c q)
         (revocation_tied f.token k f.digest g f.client c d q)
 
+-- a table of revocations with the same keys
 pub revocations_same : (G : FactSet) (d : Dot) (t u : BTreeSet Revocation)
     → IsRevocations (map.remove G d) t
     → ((e : Revocation) → contains revocation_cmp u e ≡ contains revocation_cmp t e)
@@ -190,6 +194,7 @@ same_codes G d y t h none i = codes_by G d y t t h i i.ranged
     sym (ap (λ b. (b && is_at d q) || is_listed_code t prefix start q)
     (issues_none prefix start y none)))
 
+-- the table of sign-outs stays after a change that signs nobody out
 pub same_outs : (G : FactSet) (d : Dot) (y : Change) (t : BTreeSet OutKey)
     → option_map change_in (map.get G d) ≡ Some y → signs y ≡ false → IsOuts (map.remove G d) t
     → IsOuts G t
@@ -220,10 +225,12 @@ pub codes_same : (G : FactSet) (d : Dot) (t u : BTreeSet CodeKey) → IsCodes (m
     → ((k : CodeKey) → contains code_cmp u k ≡ contains code_cmp t k) → IsCodes (map.remove G d) u
 codes_same G d t u i same = codes_alike (map.remove G d) t u i same
 
+-- a table of sign-outs with the same keys
 pub outs_same : (G : FactSet) (d : Dot) (t u : BTreeSet OutKey) → IsOuts (map.remove G d) t
     → ((k : OutKey) → contains out_cmp u k ≡ contains out_cmp t k) → IsOuts (map.remove G d) u
 outs_same G d t u i same = outs_alike (map.remove G d) t u i same
 
+-- a table of reuses with the same keys
 pub reuses_same : (G : FactSet) (d : Dot) (t u : BTreeSet ReuseKey) → IsReuses (map.remove G d) t
     → ((k : ReuseKey) → contains reuse_cmp u k ≡ contains reuse_cmp t k)
     → IsReuses (map.remove G d) u

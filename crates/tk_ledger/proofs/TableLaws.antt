@@ -35,6 +35,7 @@ adds-change : (b : Body) → is_some (added_in b) ≡ adds (change_in b)
 adds-change (ClientAdded f) = refl
 adds-change body = refl
 
+-- a body retires a client exactly if its change does
 pub retires-change : (q : Dot) (b : Body) → retires_in q b ≡ retires_of q (change_in b)
 retires-change q (ClientRetired f) = refl
 retires-change q body = refl
@@ -44,10 +45,12 @@ gives-change : (client : Dot) (subject : List ℕ) (b : Body)
 gives-change client subject (ConsentGiven f) = refl
 gives-change client subject body = refl
 
+-- a body withdraws a consent exactly if its change does
 pub withdraws-change : (q : Dot) (b : Body) → withdraws_in q b ≡ withdraws_of q (change_in b)
 withdraws-change q (ConsentWithdrawn f) = refl
 withdraws-change q body = refl
 
+-- a body revokes a token exactly if its change does
 pub revokes-change : (k : TokenId) (digest : List ℕ) (client : Dot) (b : Body)
     → revoked_by k digest client b ≡ revokes_of k digest client (change_in b)
 revokes-change k digest client (TokenRevoked f) = refl
@@ -55,10 +58,12 @@ revokes-change k digest client body = refl
 
 -- ---- tests with a constant
 
+-- a test and true are the test
 pub and_yes : (x : Bool) → (x && true) ≡ x
 and_yes true = refl
 and_yes false = refl
 
+-- a test and false are false
 pub and_no : (x : Bool) → (x && false) ≡ false
 and_no true = refl
 and_no false = refl
@@ -99,6 +104,7 @@ own_on d q a x at_f at_g free here there i = elim (cases_dots q d) [
 
 -- ---- clients
 
+-- a client at a dot is added by the new fact, or was before
 pub added_on : (F G : FactSet) (d : Dot) (b : Body) (q : Dot) (x : Bool) → OneMore F G d b
     → x ≡ is_some (client_at F q)
     → ((adds (change_in b) && is_at d q) || x) ≡ is_some (client_at G q)
@@ -110,6 +116,7 @@ added_on F G d b q x m i =
     (λ ne. ap (λ e. is_some (option_and_then added_in e)) (m.there q ne))
     i
 
+-- the table of clients follows the set with one more fact
 pub clients_on : (F G : FactSet) (d : Dot) (b : Body) (t u : BTreeMap Dot ClientRow)
     → OneMore F G d b → IsClients F t
     → ((q : Dot)
@@ -126,6 +133,7 @@ clients_on F G d b t u m i a r = record {
 
 -- ---- consents
 
+-- a consent at a dot is given by the new fact, or was before
 pub given_on : (F G : FactSet) (d : Dot) (b : Body) (client : Dot) (subject : List ℕ) (q : Dot)
     (x : Bool)
     → OneMore F G d b → x ≡ is_from client subject (consent_at F q)
@@ -166,6 +174,7 @@ live_on a f w v x given gone i g n =
     spread a f true v = simp (and_no, or_yes)
     spread a f false v = simp (and_yes, or_no)
 
+-- the table of consents follows the set with one more fact
 pub consents_on : (F G : FactSet) (d : Dot) (b : Body) (t u : BTreeSet ConsentKey) → OneMore F G d b
     → IsConsents F t → Ranged u
     → ((client : Dot) (subject : List ℕ) (q : Dot)
@@ -200,6 +209,7 @@ ranged_on t u d n here to before l client subject q h = elim (or_cases
       | inr old ↦ before client subject q old
     ]
 
+-- the table of withdrawals follows the set with one more fact
 pub withdrawals_on : (F G : FactSet) (d : Dot) (b : Body) (t u : BTreeSet Dot) → OneMore F G d b
     → IsWithdrawals F t
     → ((q : Dot) → contains dot_cmp u q ≡ (withdraws_of q (change_in b) || contains dot_cmp t q))

@@ -50,6 +50,7 @@ use Rattle.tk_ledger.proofs.TableLaws.{retires-change, added_on, given_on, withd
 
 -- ---- tables that have no key of the fact
 
+-- the table of clients after the loss of a fact that neither adds nor retires one
 pub clients_less : (F G : FactSet) (d : Dot) (b : Body) (t : BTreeMap Dot ClientRow)
     → OneMore F G d b → adds (change_in b) ≡ false
     → ((q : Dot) → retires_of q (change_in b) ≡ false) → IsClients G t → IsClients F t
@@ -60,6 +61,7 @@ clients_less F G d b t m none kept i = record {
       ∙ ap (λ a. a || is_retired F q) (retires-change q b ∙ kept q);
 }
 
+-- the table of consents after the loss of a fact that neither gives nor withdraws one
 pub consents_less : (F G : FactSet) (d : Dot) (b : Body) (t : BTreeSet ConsentKey) → OneMore F G d b
     → ((client : Dot) (subject : List ℕ) → gives_to client subject (change_in b) ≡ false)
     → ((q : Dot) → withdraws_of q (change_in b) ≡ false) → IsConsents G t → IsConsents F t
@@ -73,11 +75,13 @@ consents_less F G d b t m none kept i = record {
   ranged = i.ranged;
 }
 
+-- the table of withdrawals after the loss of a fact that withdraws no consent
 pub withdrawals_less : (F G : FactSet) (d : Dot) (b : Body) (t : BTreeSet Dot) → OneMore F G d b
     → ((q : Dot) → withdraws_of q (change_in b) ≡ false) → IsWithdrawals G t → IsWithdrawals F t
 withdrawals_less F G d b t m none i q =
     i q ∙ sym (withdrawn_on F G d b q m) ∙ ap (λ a. a || is_withdrawn F q) (none q)
 
+-- the table of revocations after the loss of a fact that revokes no token
 pub revocations_kept : (F G : FactSet) (d : Dot) (b : Body) (t : BTreeSet Revocation)
     → OneMore F G d b
     → ((k : TokenId) (digest : List ℕ) (client : Dot)
@@ -89,6 +93,7 @@ revocations_kept F G d b t m none i = record {
   ranged = i.ranged;
 }
 
+-- the table of sign-outs after the loss of a fact that signs nobody out
 pub outs_less : (F G : FactSet) (d : Dot) (b : Body) (t : BTreeSet OutKey) → OneMore F G d b
     → signs (change_in b) ≡ false → IsOuts G t → IsOuts F t
 outs_less F G d b t m none i = record {
@@ -105,6 +110,7 @@ outs_less F G d b t m none i = record {
       ∙ h);
 }
 
+-- the table of codes after the loss of a fact that issues none
 pub codes_kept : (F G : FactSet) (d : Dot) (b : Body) (t : BTreeSet CodeKey) → OneMore F G d b
     → issuing (change_in b) ≡ None → IsCodes G t → IsCodes F t
 codes_kept F G d b t m none i = record {
@@ -115,6 +121,7 @@ codes_kept F G d b t m none i = record {
   ranged = i.ranged;
 }
 
+-- the table of reuses after the loss of a fact that reports none
 pub reuses_kept : (F G : FactSet) (d : Dot) (b : Body) (t : BTreeSet ReuseKey) → OneMore F G d b
     → ((k : TokenId) → reuses_of k (change_in b) ≡ false) → IsReuses G t → IsReuses F t
 reuses_kept F G d b t m none i = record {

@@ -46,6 +46,7 @@ IsSignedOut-below F G w subject moment s = record {
   not_before = s.not_before;
 }
 
+-- a code whose subject signed out is so in a greater set
 pub IsOut-below : (F G : FactSet) → IsSubset F G → (d : Dot) → IsOut (map.get F) d
     → IsOut (map.get G) d
 IsOut-below F G w d o = record {
@@ -59,6 +60,7 @@ IsStopped-below : (F G : FactSet) → IsSubset F G → (k : TokenId) → IsStopp
 IsStopped-below F G w k (inl e) = inl (e.0, IsEnded-below F G w k e.1)
 IsStopped-below F G w k (inr o) = inr (o.0, IsOut-below F G w k.dot o.1)
 
+-- a marked token is marked in a greater set
 pub IsMarked-below : (F G : FactSet) → IsSubset F G → (k : TokenId) → IsMarked (map.get F) k
     → IsMarked (map.get G) k
 IsMarked-below F G w k (inl r) = inl
@@ -70,6 +72,7 @@ IsMarked-below F G w k (inl r) = inl
     })
 IsMarked-below F G w k (inr s) = inr (IsStopped-below F G w k s)
 
+-- the marks of a set are marks of a greater set
 pub marks-below : (F G : FactSet) → IsSubset F G
     → MarksWithin (IsMarked (map.get F)) (IsMarked (map.get G))
 marks-below F G w k h = IsMarked-below F G w k h
@@ -81,6 +84,7 @@ pub IsBad-below : (F G : FactSet) → IsSubset F G → (d : Dot)
 IsBad-below F G w d b = IsBad-within (links_in (map.get F)) (links_in (map.get G))
     (IsMarked (map.get F)) (IsMarked (map.get G)) (links-below F G w) (marks-below F G w) d b
 
+-- a dead family is dead in a greater set
 pub IsDead-below : (F G : FactSet) → IsSubset F G → (c : Dot)
     → IsDead (links_in (map.get F)) (IsMarked (map.get F)) c
     → IsDead (links_in (map.get G)) (IsMarked (map.get G)) c

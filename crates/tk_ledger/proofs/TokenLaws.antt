@@ -57,15 +57,19 @@ uses_agree (bodies.TokenRevoked f) = refl
 uses_agree (bodies.ReuseSeen f) = refl
 uses_agree (bodies.SubjectOut f) = refl
 uses_agree (bodies.AccessRefreshed f) = refl
+uses_agree (bodies.SecretSet f) = refl
 
+-- the link at a dot is that of its body
 pub links_at : (F : FactSet) (d : Dot) (b : Body) → map.get F d ≡ Some b
     → links_in (map.get F) d ≡ link_of b
 links_at F d b h = ap (option_and_then link_of) h
 
+-- the fact at a dot uses what the link of its body uses
 pub use_at : (F : FactSet) (d : Dot) (b : Body) (k : TokenId) → map.get F d ≡ Some b
     → use_of (link_of b) ≡ Some k → use_of (links_in (map.get F) d) ≡ Some k
 use_at F d b k held h = ap use_of (links_at F d b held) ∙ h
 
+-- what uses a token is the link of a body
 pub use_from : (o : Option Body) (k : TokenId) → use_of (option_and_then link_of o) ≡ Some k
     → (b : Body) × (o ≡ Some b) × (use_of (link_of b) ≡ Some k)
 use_from None k h = absurd (nothing h)
@@ -74,6 +78,7 @@ use_from None k h = absurd (nothing h)
     nothing h = cc
 use_from (Some b) k h = (b, refl, h)
 
+-- a token that is used by the test is used
 pub is_used-sound : (F : FactSet) (k : TokenId) → is_used F k ≡ true
     → IsUsed (links_in (map.get F)) k
 is_used-sound F k h =
@@ -83,6 +88,7 @@ is_used-sound F k h =
       by = use_at F x.dot x.body k x.held (names_token-true (use_of (link_of x.body)) k x.passes);
     }
 
+-- a used token is used by the test
 pub is_used-complete : (F : FactSet) (k : TokenId) → IsUsed (links_in (map.get F)) k
     → is_used F k ≡ true
 is_used-complete F k u =
@@ -90,6 +96,7 @@ is_used-complete F k u =
     use_from (map.get F u.user) k u.by in
     any_fact-of (uses k) F u.user x.0 x.1 (names_token-of (use_of (link_of x.0)) k x.2)
 
+-- a token that is used twice by the test is used twice
 pub is_twice-sound : (F : FactSet) (k : TokenId) → is_twice F k ≡ true
     → IsTwice (links_in (map.get F)) k
 is_twice-sound F k h =
@@ -105,6 +112,7 @@ is_twice-sound F k h =
       by_two = use_at F y.dot y.body k y.held (names_token-true (use_of (link_of y.body)) k q.1);
     }
 
+-- a token that is used twice is so by the test
 pub is_twice-complete : (F : FactSet) (k : TokenId) → IsTwice (links_in (map.get F)) k
     → is_twice F k ≡ true
 is_twice-complete F k t =
@@ -142,6 +150,7 @@ revoking k digest client (TokenRevoked x) h =
     }
 revoking k digest client body h = absurd (true≢false (sym h))
 
+-- a token that is revoked by the test was revoked by the client, with the digest
 pub is_revoked-sound : (F : FactSet) (k : TokenId) (digest : List ℕ) (client : Dot)
     → is_revoked F k digest client ≡ true → IsRevoked (map.get F) k digest client
 is_revoked-sound F k digest client h =
@@ -156,6 +165,7 @@ is_revoked-sound F k digest client h =
       client_is = r.by;
     }
 
+-- a token that the client revoked with the digest is revoked by the test
 pub is_revoked-complete : (F : FactSet) (k : TokenId) (digest : List ℕ) (client : Dot)
     → IsRevoked (map.get F) k digest client → is_revoked F k digest client ≡ true
 is_revoked-complete F k digest client r =
@@ -181,10 +191,12 @@ ended_by-sound F k (Some m) (Some o) i j h =
       by_client = is_revoked-sound F k m.digest o.issued.client h;
     }
 
+-- a token that is ended by the test was revoked by the client of its code
 pub is_ended-sound : (F : FactSet) (k : TokenId) → is_ended F k ≡ true → IsEnded (map.get F) k
 is_ended-sound F k h =
     ended_by-sound F k (minted_in (map.get F) k) (root_in (map.get F) k.dot) refl refl h
 
+-- a token that the client of its code revoked is ended by the test
 pub is_ended-complete : (F : FactSet) (k : TokenId) → IsEnded (map.get F) k → is_ended F k ≡ true
 is_ended-complete F k e =
     ap (λ (m : Option MintedFields). is_ended_by F k m (root_in (map.get F) k.dot)) e.mints
@@ -212,6 +224,7 @@ signing_out subject moment (bodies.SubjectOut x) h =
     }
 signing_out subject moment body h = absurd (true≢false (sym h))
 
+-- a subject that is signed out by the test signed out at the moment or later
 pub is_signed_out-sound : (F : FactSet) (subject : List ℕ) (moment : ℕ)
     → is_signed_out F subject moment ≡ true → IsSignedOut (map.get F) subject moment
 is_signed_out-sound F subject moment h =
@@ -225,6 +238,7 @@ is_signed_out-sound F subject moment h =
       not_before = s.not_before;
     }
 
+-- a subject that signed out at the moment or later is signed out by the test
 pub is_signed_out-complete : (F : FactSet) (subject : List ℕ) (moment : ℕ)
     → IsSignedOut (map.get F) subject moment → is_signed_out F subject moment ≡ true
 is_signed_out-complete F subject moment s =
@@ -241,9 +255,11 @@ out_by-sound F d (Some code) at h = record {
   signed_out = is_signed_out-sound F code.subject code.start h;
 }
 
+-- the subject of a code that is out by the test signed out at the code's start or later
 pub is_out-sound : (F : FactSet) (d : Dot) → is_out F d ≡ true → IsOut (map.get F) d
 is_out-sound F d h = out_by-sound F d (issued_at (map.get F) d) refl h
 
+-- a code whose subject signed out at its start or later is out by the test
 pub is_out-complete : (F : FactSet) (d : Dot) → IsOut (map.get F) d → is_out F d ≡ true
 is_out-complete F d o = ap (is_out_by F) o.issues
     ∙ is_signed_out-complete F o.issued.subject o.issued.start o.signed_out
@@ -255,16 +271,19 @@ reusing : (k : TokenId) (b : Body) → reuse_of k b ≡ true
 reusing k (ReuseSeen x) h = (x, refl, same_token-true x.token k h)
 reusing k body h = absurd (true≢false (sym h))
 
+-- a kind that is a refresh token's, by the test, is Refresh
 pub refresh_is : (k : Kind) → is_refresh k ≡ true → k ≡ kind.Refresh
 refresh_is kind.Code h = absurd (true≢false (sym h))
 refresh_is kind.Access h = absurd (true≢false (sym h))
 refresh_is kind.Refresh h = refl
 
+-- a kind that is a code's, by the test, is Code
 pub code_is : (k : Kind) → is_code k ≡ true → k ≡ kind.Code
 code_is kind.Code h = refl
 code_is kind.Access h = absurd (true≢false (sym h))
 code_is kind.Refresh h = absurd (true≢false (sym h))
 
+-- a token that is stopped by the test is stopped
 pub is_stopped-sound : (F : FactSet) (k : TokenId) → is_stopped F k ≡ true → IsStopped (map.get F) k
 is_stopped-sound F k h =
     elim (or_cases (is_refresh k.kind && is_ended F k) (is_code k.kind && is_out F k.dot) h) [
@@ -273,6 +292,7 @@ is_stopped-sound F k h =
       | inr gone ↦ let p = and_parts _ _ gone in inr (code_is k.kind p.0, is_out-sound F k.dot p.1)
     ]
 
+-- a stopped token is stopped by the test
 pub is_stopped-complete : (F : FactSet) (k : TokenId) → IsStopped (map.get F) k
     → is_stopped F k ≡ true
 is_stopped-complete F k (inl e) = or_left (is_refresh k.kind && is_ended F k)
@@ -281,6 +301,7 @@ is_stopped-complete F k (inl e) = or_left (is_refresh k.kind && is_ended F k)
 is_stopped-complete F k (inr o) = or_right (is_refresh k.kind && is_ended F k)
     (is_code k.kind && is_out F k.dot) (and_from _ _ (ap is_code o.0) (is_out-complete F k.dot o.1))
 
+-- a token that is marked by the test is marked
 pub is_marked-sound : (F : FactSet) (k : TokenId) → is_marked F k ≡ true → IsMarked (map.get F) k
 is_marked-sound F k h = elim (or_cases (is_reused F k) (is_stopped F k) h) [
   | inl reused ↦
@@ -296,6 +317,7 @@ is_marked-sound F k h = elim (or_cases (is_reused F k) (is_stopped F k) h) [
   | inr stopped ↦ inr (is_stopped-sound F k stopped)
 ]
 
+-- a marked token is marked by the test
 pub is_marked-complete : (F : FactSet) (k : TokenId) → IsMarked (map.get F) k → is_marked F k ≡ true
 is_marked-complete F k (inl r) = or_left (is_reused F k) (is_stopped F k)
     (any_fact-of (sees_reuse k) F r.place (ReuseSeen r.reuse) r.held
@@ -326,6 +348,7 @@ bad-complete F d b = ap (is_bad_grant F d) b.here ∙ (elim b.why [
       (is_twice-complete F (grant_at d b.link) twice)
 ])
 
+-- a family that is dead by the test is dead
 pub is_dead-sound : (F : FactSet) (c : Dot) → is_dead F c ≡ true
     → IsDead (links_in (map.get F)) (IsMarked (map.get F)) c
 is_dead-sound F c h =
@@ -338,6 +361,7 @@ is_dead-sound F c h =
       bad = bad-sound F x.dot (link_of x.body) (links_at F x.dot x.body x.held) p.1;
     }
 
+-- a dead family is dead by the test
 pub is_dead-complete : (F : FactSet) (c : Dot)
     → IsDead (links_in (map.get F)) (IsMarked (map.get F)) c → is_dead F c ≡ true
 is_dead-complete F c x =

@@ -86,10 +86,12 @@ says F d (top.Code c) h = (
 says F d (top.Dead c) h =
     (code_of-complete (links_in (map.get F)) d c h.0, is_dead-complete F c h.1)
 
+-- what the forest's top says of a dot, by the set
 pub top_says : (F : FactSet) (x : ForestFacts) (d : Dot) (r : Top) → IsTied F x
     → IsTop (links_at x) (marks_at x) d r → TopSays F d r
 top_says F x d r t h = says F d r (top_of_set F x d r t h)
 
+-- whether a token is used, by the forest, is what the set says
 pub used_says : (F : FactSet) (x : ForestFacts) (k : TokenId) (r : Bool) → IsTied F x
     → ((r ≡ true → IsUsed (links_at x) k) × (IsUsed (links_at x) k → r ≡ true)) → r ≡ is_used F k
 used_says F x k r t both = same_tests r (is_used F k)
@@ -172,6 +174,7 @@ pub found_body : (d : Dot) (o : Option Body) (f : Dot × Body) → Some f ≡ op
 found_body d None f h = absurd (cc)
 found_body d (Some b) f h = ap (λ (p : Dot × Body). Some p.1) (sym (some_first f (d, b) h))
 
+-- a fact that is found at a dot has that dot
 pub found_dot : (d : Dot) (o : Option Body) (f : Dot × Body) → Some f ≡ option_map (λ b. (d, b)) o
     → f.0 ≡ d
 found_dot d None f h = absurd (cc)

@@ -41,11 +41,13 @@ use Rattle.tk_ledger.proofs.KeyLaws.{at_itself, token_tied}
 
 -- ---- the marks at dots
 
+-- the token that a link mints is at the link's dot
 pub grant_place : (q : Dot) (l : Link) → (grant_at q l).dot ≡ q
 grant_place q Code = refl
 grant_place q (Redeems c) = refl
 grant_place q (Rotates p g) = refl
 
+-- a claim about a success holds of the one there is
 pub ok_at : {A E : Type 0} (r : Result A E) (x : A) (P : Type 0) → r ≡ Ok x → OnOk r P → P
 ok_at {A} {E} r x P h o = subst (λ (q : Result A E). OnOk q P) h o
 
@@ -66,6 +68,7 @@ mark_set x y j m is new k =
     ∙ or_cond (is_same_token j k) (set.contains x.marks k)
     ∙ ap (λ b. cond (is_same_token j k) b (set.contains x.marks k)) (sym is)
 
+-- the marks after a token's mark was removed
 pub mark_cleared : (x y : ForestFacts) (j : TokenId) (m : Bool) → m ≡ false
     → y.marks ≡ set.remove x.marks j → (k : TokenId)
     → set.contains y.marks k ≡ cond (is_same_token j k) m (set.contains x.marks k)

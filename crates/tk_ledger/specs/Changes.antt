@@ -23,6 +23,7 @@ use Rattle.tk_fact.specs.declared.body.Body.TheVariants.{
   ReuseSeen,
   SubjectOut,
   AccessRefreshed,
+  SecretSet,
 }
 use Rattle.tk_ledger.specs.Bodies.{is_same_dot, is_same_token}
 use Rattle.tk_ledger.specs.declared.change.Change.{Change}
@@ -35,7 +36,7 @@ digest_prefix digest = from_be_bytes w64 (take 8 digest)
 
 -- the change that the fact of a body makes. The key of a consent has its client and the digest of
 -- its subject, the key of a code the prefix of that digest and its start, the key of a sign-out the
--- digest and its moment
+-- digest and its moment, the key of a secret its client, its turn and its digest
 abbrev pub change_in : Body → Change
 change_in (ClientAdded f) = change.Add
 change_in (ClientRetired f) = change.Retire f.client
@@ -48,6 +49,7 @@ change_in (TokenRevoked f) = change.Revoke f
 change_in (ReuseSeen f) = change.Mark f.token
 change_in (SubjectOut f) = change.SignOut (sha256 f.subject) f.moment
 change_in (AccessRefreshed f) = change.Nothing
+change_in (SecretSet f) = change.SetSecret f.client f.turn f.digest
 
 -- the change adds a client
 abbrev pub adds : Change → Bool

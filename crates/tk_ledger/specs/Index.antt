@@ -1,5 +1,5 @@
 -- The tables of a ledger beside its facts (own), which return what the set of facts determines.
--- `SubjectTables` has those of codes, logins and sign-outs.
+-- `SubjectTables` has those of codes, logins and sign-outs, `SecretTables` that of secrets.
 --   row_added, row_retired             a client's row is that of an added, or a retired, client
 --   consent_cmp, consent_key, key_of   the keys of consents, and their order
 --   is_live_from                       a live consent to a client, by the digest of its subject
@@ -48,6 +48,7 @@ use Rattle.tk_fact.specs.declared.consent_given.ConsentGiven as given
 use Rattle.tk_store.specs.FactSet.{FactSet}
 use Rattle.tk_ledger.specs.Bodies.{is_same_dot}
 use Rattle.tk_ledger.specs.Clients.{client_at, is_retired, consent_at, is_withdrawn}
+use Rattle.tk_ledger.specs.SecretTables.{IsSecrets}
 use Rattle.tk_ledger.specs.SubjectTables.{IsCodes, IsLogins, IsOuts}
 use Rattle.tk_ledger.specs.Tokens.{links_in, revoked_by, reuse_of, is_marked}
 use Rattle.tk_ledger.specs.declared.client_rows.ClientRow.{ClientRow}
@@ -258,4 +259,5 @@ pub record IsIndexed (F : FactSet) (x : Index) : Type 0 where
   pub logins_are : IsLogins F x.logins
   pub outs_are : IsOuts F x.outs
   pub reuses_are : IsReuses F x.reuses
+  pub secrets_are : IsSecrets F x.secrets
   pub tied : IsTied F x.forest

@@ -7,7 +7,8 @@
 --   RevokedInactive, FamilyInactive, SignedOutInactive
 --                                        what is never active again
 --   BadGrants                            which grants are bad
-use Rattle.std.specs.Prelude.{◌≡◌, ◌≢◌, ◌⊎◌, ◌↔◌, ℕ, List, Some, IsTrue}
+--   SecretsEnd, TurnsGrow                a secret is not good two turns later; last turns grow
+use Rattle.std.specs.Prelude.{◌≡◌, ◌≢◌, ◌⊎◌, ◌↔◌, ◌≤◌, ◌+◌, ℕ, true, false, List, Some, IsTrue}
 use Rattle.std.specs.FinMap as map
 use Rattle.tk_handle.specs.declared.dot.Dot.{Dot}
 use Rattle.tk_handle.specs.declared.kind.Kind.TheVariants as kind
@@ -15,7 +16,9 @@ use Rattle.tk_handle.specs.declared.token_id.TokenId.{TokenId}
 use Rattle.tk_handle.specs.declared.handle.Handle.{Handle}
 use Rattle.tk_family.specs.Families.{use_of, IsUnder, IsUsed, IsTwice, IsBad, IsDead}
 use Rattle.tk_fact.specs.declared.body.Body.{Body}
+use Rattle.tk_fact.specs.declared.body.Body.TheVariants.{SecretSet}
 use Rattle.tk_fact.specs.declared.code_issued.CodeIssued as issued
+use Rattle.tk_fact.specs.declared.secret_set.SecretSet as set
 use Rattle.tk_fact.specs.Tokens.{MintedFields, uses_of}
 use Rattle.tk_store.specs.FactSet.{FactSet, IsSubset}
 use Rattle.tk_ledger.specs.Bodies.{Bodies}
@@ -29,6 +32,7 @@ use Rattle.tk_ledger.specs.Clients.{
   is_withdrawn,
   is_live_consent,
 }
+use Rattle.tk_ledger.specs.Secrets.{last_turn, is_secret_at, is_good_secret}
 use Rattle.tk_ledger.specs.Tokens.{
   link_of,
   links_in,
@@ -172,3 +176,17 @@ abbrev pub BadGrants : Type 0
 BadGrants = (body_at : Bodies) (k : TokenId) (minted : MintedFields) → k.kind ≢ kind.Access
     → minted_in body_at k ≡ Some minted → IsBad (links_in body_at) (IsMarked body_at) k.dot
     ↔ (IsMarked body_at k ⊎ IsTwice (links_in body_at) k)
+
+-- ---- secrets
+
+-- a secret is not good once one of a turn two or more above each of its own is held
+abbrev pub SecretsEnd : Type 0
+SecretsEnd = (F : FactSet) (client : Dot) (first digest : List ℕ) (d : Dot) (f : set.SecretSet)
+    → map.get F d ≡ Some (SecretSet f) → f.client ≡ client
+    → ((turn : ℕ) → is_secret_at F client first turn digest ≡ true → turn + 2 ≤ f.turn)
+    → is_good_secret F client first digest ≡ false
+
+-- the last turn of a client is no lower when facts are added
+abbrev pub TurnsGrow : Type 0
+TurnsGrow =
+    (F G : FactSet) → IsSubset F G → (client : Dot) → last_turn F client ≤ last_turn G client

@@ -6,6 +6,7 @@
 --   Logins           login_view, the login that a code began; ending_of, what ends it
 --   SubjectWalk      consents_of, logins_of, what a subject has, and a walk over each
 --   ViewFields       ClientFields, ConsentFields, LoginFields, what contracts see of the views
+--   Secrets          is_good_secret, which secrets of a client are good
 --   SignOuts         is_signed_out, who signed out everywhere, and when
 --   Tokens           what is minted, used, revoked and stopped; is_dead, the dead families
 --   Status           status_in, the status of a handle at a moment; IsActive
@@ -17,6 +18,7 @@
 --   Changes          change_in, the change that one fact makes in the tables
 --   Index            IsIndexed, the tables beside the facts
 --   SubjectTables    IsCodes, IsLogins, IsOuts, the tables of what subjects have
+--   SecretTables     IsSecrets, the table of the secrets of clients
 --   Losses           WasIndexed, the tables after the loss of a fact
 --   Retention        MaySkip, the facts of families that are over
 --   Slices           PrunesSome, the store after a slice of a prune
@@ -33,6 +35,8 @@ pub mod Laws
 pub mod Logins
 pub mod Losses
 pub mod Retention
+pub mod SecretTables
+pub mod Secrets
 pub mod SignOuts
 pub mod Slices
 pub mod StandingFields

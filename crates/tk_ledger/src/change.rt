@@ -37,6 +37,13 @@ pub(crate) enum Change {
         subject: [u8; 32],
         moment: Moment,
     },
+    // A secret of a client is set.
+    SetSecret {
+        client: Dot,
+        turn: u64,
+        // The SHA-256 digest of the secret.
+        digest: [u8; 32],
+    },
     // The tables stay as they are.
     Nothing,
 }
@@ -93,5 +100,10 @@ pub(crate) fn change_of(body: &Body) -> Change
             moment: fact.moment,
         },
         Body::AccessRefreshed(_) => Change::Nothing,
+        Body::SecretSet(fact) => Change::SetSecret {
+            client: fact.client,
+            turn: fact.turn,
+            digest: fact.digest,
+        },
     }
 }

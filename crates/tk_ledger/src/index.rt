@@ -1,8 +1,8 @@
 //! The tables of a ledger beside its facts, and the change that one more fact makes in them.
 //!
 //! - Tables by key: clients (`client_rows`), live consents and withdrawals (`consent_keys`),
-//!   revocations (`revocations`), the codes, logins and sign-outs of subjects (`subject_keys`), and
-//!   reuses (`reuses`).
+//!   revocations (`revocations`), the codes, logins and sign-outs of subjects (`subject_keys`),
+//!   reuses (`reuses`), and the secrets of clients (`secrets`).
 //! - A forest of families, with the marks of all codes and refresh tokens in a family.
 //!
 //! `change` has the change that a fact makes in the index, and `unfollow` undoes it for a fact that
@@ -13,6 +13,7 @@ use crate::client_rows::ClientRow;
 use crate::consent_keys::ConsentKey;
 use crate::reuses::ReuseKey;
 use crate::revocations::Revocation;
+use crate::secrets::SecretKey;
 use crate::subject_keys::{CodeKey, LoginKey, OutKey};
 use std::collections::{BTreeMap, BTreeSet};
 use tk_family::Forest;
@@ -37,6 +38,8 @@ pub(crate) struct Index {
     pub(crate) outs: BTreeSet<OutKey>,
     // Each reuse that was seen.
     pub(crate) reuses: BTreeSet<ReuseKey>,
+    // Each secret that was set for a client.
+    pub(crate) secrets: BTreeSet<SecretKey>,
     // The links of codes, redemptions and rotations, and the marks of those in a family.
     pub(crate) forest: Forest,
 }
@@ -56,6 +59,7 @@ use crate::client_rows::{add_client, retire_client};
 use crate::consent_keys::{give, withdraw};
 use crate::reuses::list_reuse;
 use crate::revocations::revoke;
+use crate::secrets::list_secret;
 use crate::sign_outs::first_left;
 use crate::subject_keys::{drop_code, drop_login, list_code, list_login, list_out};
 use crate::wake::{wake, wake_all, wake_started};
@@ -79,6 +83,7 @@ impl Index {
             logins: BTreeSet::new(alloc),
             outs: BTreeSet::new(alloc),
             reuses: BTreeSet::new(alloc),
+            secrets: BTreeSet::new(alloc),
             forest: Forest::new(alloc),
         }
     }
@@ -307,6 +312,11 @@ pub(crate) fn follow(
         Change::Revoke(fact) => revoke_token(facts, index, dot, fact),
         Change::Mark(token) => mark_token(facts, index, dot, *token),
         Change::SignOut { subject, moment } => sign_out(facts, index, dot, subject, *moment),
+        Change::SetSecret {
+            client,
+            turn,
+            digest,
+        } => list_secret(&mut index.secrets, *client, *turn, digest, dot),
         Change::Nothing => Ok(()),
     }
 }

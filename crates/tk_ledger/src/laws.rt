@@ -25,6 +25,8 @@ ghost use Rattle.tk_ledger.specs.Laws.{
   SignedOutInactive,
   FamilyInactive,
   BadGrants,
+  SecretsEnd,
+  TurnsGrow,
 };
 
 /// States a law: each test of a set of facts decides the relation of its name (own).
@@ -113,4 +115,11 @@ pub fn signed_out_inactive()
 /// leaves no fact that may go. Each slice looks at one fact or more (own).
 pub fn pass_ends()
     ensures { PassEnds }
+{}
+
+/// States a law about the secrets of a client. A secret is not good once one of a turn two or more
+/// above each of its own is held. The client's last turn is no lower when facts are added (own).
+pub fn secrets_end()
+    ensures ends { SecretsEnd }
+    ensures grows { TurnsGrow }
 {}

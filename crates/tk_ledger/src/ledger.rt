@@ -9,10 +9,11 @@ use tk_store::FactStore;
 /// what is known of each dot, and the horizon.
 ///
 /// With n known dots, a look-up costs O(log n). `client`, `consent`, `revoked`, `signed_out` and
-/// `status` make a fixed number of look-ups, as `login` and `ending` do. `consent_for` passes over
-/// the keys of the subject's live consents up to the consent that it returns, and makes one look-up
-/// for each of them that is to the client. None of these allocates memory. `add` costs O(log n) for
-/// each of these:
+/// `status` make a fixed number of look-ups, as `login` and `ending` do. `last_turn` and
+/// `has_secret` make one look-up, `accepts` at most three. `consent_for` passes over the keys of
+/// the subject's live consents up to the consent that it returns, and makes one look-up for each of
+/// them that is to the client. None of these allocates memory. `add` costs O(log n) for each of
+/// these:
 ///
 /// - each dot that the fact brings under a code, and each link that names such a dot
 /// - each code of the subject that the fact stops and that no sign-out before it stopped, if the
@@ -53,6 +54,7 @@ ghost use Rattle.tk_ledger.specs.Clients as clients_of;
 ghost use Rattle.tk_ledger.specs.Ends.{FamilyEnds};
 ghost use Rattle.tk_ledger.specs.Index.{IsIndexed};
 ghost use Rattle.tk_ledger.specs.Logins.{ending_of, login_view};
+ghost use Rattle.tk_ledger.specs.Secrets as secrets_of;
 ghost use Rattle.tk_ledger.specs.SignOuts.{is_signed_out, reaches, IsLastSignOut};
 ghost use Rattle.tk_ledger.specs.Standings.{IsSound};
 ghost use Rattle.tk_ledger.specs.Status.{
@@ -69,12 +71,13 @@ ghost use Rattle.tk_ledger.specs.Views.{client_view, consent_view};
 
 use crate::change::change_of;
 use crate::client_view::ClientView;
+use crate::compare::same_digests;
 use crate::consent_view::ConsentView;
 use crate::index::follow;
 use crate::login_view::LoginView;
-use crate::revocations;
 use crate::sign_outs::last_sign_out;
 use crate::status::Status;
+use crate::{revocations, secrets};
 use tk_fact::{Fact, Subject, TokenRevoked};
 use tk_family::Steps;
 use tk_handle::{Dot, Handle, Moment, TokenId};
@@ -239,6 +242,39 @@ impl Ledger {
         ensures meaning { IsLastSignOut (map.get (held_facts self.now)) subject.now result }
     {
         last_sign_out(&self.store, &self.index.outs, None, subject)
+    }
+
+    /// Returns the last turn at which a secret was set for the client, or 0 if no change of the
+    /// client's secret is held (own).
+    pub fn last_turn(&self, client: Dot) -> u64
+        ensures { result ≡ secrets_of.last_turn (held_facts self.now) client }
+    {
+        secrets::last_turn(&self.index.secrets, client)
+    }
+
+    /// Returns whether the client has the secret with the digest at the turn (own): the secret was
+    /// set then, or, at turn 0, is the first.
+    ///
+    /// A digest is SHA-256 of a secret. `first` is the digest of the secret with which the client
+    /// was registered (RFC 6749, 2.3.1).
+    pub fn has_secret(&self, client: Dot, first: &[u8; 32], turn: u64, digest: &[u8; 32]) -> bool
+        ensures { result ≡ secrets_of.is_secret_at (held_facts self.now) client first.now turn
+            digest.now }
+    {
+        (turn == 0 && same_digests(first, digest)) || self.was_set(client, turn, digest)
+    }
+
+    /// Returns whether the secret with the digest is good: the client has it at its last turn, or
+    /// at the turn before (own; RFC 6749, 2.3.1).
+    ///
+    /// `first` is the digest of the secret with which the client was registered.
+    pub fn accepts(&self, client: Dot, first: &[u8; 32], digest: &[u8; 32]) -> bool
+        ensures { result ≡ secrets_of.is_good_secret (held_facts self.now) client first.now
+            digest.now }
+    {
+        let last = self.last_turn(client);
+        self.has_secret(client, first, last, digest)
+            || (last > 0 && self.has_secret(client, first, last - 1, digest))
     }
 
     /// Returns the status of a handle's token at the moment. Makes one to eight look-ups, and adds

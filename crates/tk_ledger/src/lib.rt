@@ -13,6 +13,7 @@
 //!   revocations and sign-outs. `status` returns the status of a handle, by one to eight look-ups.
 //! - `login` looks up a login, and `ending` what ends it. `next_consent` and `next_login` walk over
 //!   what a subject has.
+//! - `accepts` checks a client's secret. `last_turn` and `has_secret` look up changes of secrets.
 //!
 //! In reading order: `Ledger`, `ClientView`, `ConsentView`, `Status`, `Standing`, `State`,
 //! `LoginView`; `index` for the tables and the change that a fact makes in them, `wake` for the
@@ -39,6 +40,7 @@ mod retention;
 mod reuses;
 mod revocations;
 mod root;
+mod secrets;
 mod sign_outs;
 mod slices;
 mod standing;
@@ -52,7 +54,8 @@ pub use client_view::ClientView;
 pub use consent_view::ConsentView;
 pub use laws::{
     bad_grants, death_stays, ended_stays, family_inactive, pass_ends, retired_stays,
-    revoked_inactive, signed_out_inactive, status_says, tests_decide, uses_agree, withdrawn_stays,
+    revoked_inactive, secrets_end, signed_out_inactive, status_says, tests_decide, uses_agree,
+    withdrawn_stays,
 };
 pub use ledger::Ledger;
 pub use login_view::LoginView;

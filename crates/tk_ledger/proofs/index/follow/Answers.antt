@@ -1,9 +1,12 @@
 use Rattle.std.proofs.Common.{ap, ◌∙◌, Some}
+use Rattle.std.specs.FinMap as map
 use Rattle.tk_store.specs.StoreFields.{held_facts}
 use Rattle.tk_ledger.specs.declared.change.Change.{Change}
-use Rattle.tk_ledger.proofs.ChangeLaws.{on_ok, on_ok2}
+use Rattle.tk_ledger.proofs.ChangeLaws.{on_ok, on_ok2, on_err}
 use Rattle.tk_ledger.proofs.IndexLaws.{index_add, index_retire, index_give, index_withdraw}
 use Rattle.tk_ledger.proofs.IndexLaws.{index_nothing}
+use Rattle.tk_ledger.proofs.SecretIndexLaws.{index_secret, index_secrets}
+use Rattle.tk_ledger.proofs.SecretTableLaws.{secret_row, secrets_alike}
 use Rattle.tk_ledger.proofs.index.follow.Goals as goal
 
 pub returns-in-Add-clause-ok : goal.returns-in-Add-clause-ok
@@ -38,3 +41,21 @@ pub returns-in-Nothing-clause-ok : goal.returns-in-Nothing-clause-ok
 returns-in-Nothing-clause-ok c = index_nothing (held_facts c.args.facts.now) c.args.dot
     c.args.index.now (c.requires.change ∙ ap (λ (x : Change). Some x) c.in-Nothing.is)
     c.requires.indexed
+
+pub returns-in-SetSecret-clause-ok : goal.returns-in-SetSecret-clause-ok
+returns-in-SetSecret-clause-ok c = on_ok c.list_secret.result _ _ c.list_secret.ensures.ok
+    (λ r. index_secret (held_facts c.args.facts.now) c.args.dot c.in-SetSecret.client
+    c.in-SetSecret.turn c.in-SetSecret.digest c.args.index.now c.list_secret.new.secrets
+    (c.requires.change ∙ ap (λ (x : Change). Some x) c.in-SetSecret.is) c.requires.indexed
+    (secret_row (held_facts c.args.facts.now) c.args.dot c.in-SetSecret.client c.in-SetSecret.turn
+    c.in-SetSecret.digest c.args.index.now.secrets c.list_secret.new.secrets
+    (c.requires.change ∙ ap (λ (x : Change). Some x) c.in-SetSecret.is)
+    c.requires.indexed.secrets_are c.list_secret.ensures.ranged c.list_secret.ensures.sized
+    c.list_secret.ensures.early r))
+
+pub returns-in-SetSecret-clause-err : goal.returns-in-SetSecret-clause-err
+returns-in-SetSecret-clause-err c = on_err c.list_secret.result _ _ c.list_secret.ensures.err
+    (λ same. index_secrets (map.remove (held_facts c.args.facts.now) c.args.dot) c.args.index.now
+    c.list_secret.new.secrets c.requires.indexed
+    (secrets_alike (map.remove (held_facts c.args.facts.now) c.args.dot) c.args.index.now.secrets
+    c.list_secret.new.secrets c.requires.indexed.secrets_are same))
