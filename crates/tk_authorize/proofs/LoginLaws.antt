@@ -41,10 +41,13 @@ by_code F now d (Some code) l is used = over (nat_le code.family_end now) is
         used_in F now (code_token d) (minted_code code) (record { code = d; issued = code })
         (ap (λ (x : LoginFields). x.state) same ∙ used)
 
+-- the code of a login whose state is Used is not dead
 pub used_lives : (F : FactSet) (now : ℕ) (d : Dot) (l : LoginFields)
     → login_view F now d ≡ Some l → l.state ≡ state.Used → is_dead F d ≡ false
 used_lives F now d l is used = by_code F now d (issued_at (map.get F) d) l is used
 
+-- a login whose state is Used is judged by a revocation that is the one that ends it, at least if
+-- its code is not dead
 pub used_ends : (F : FactSet) (now : ℕ) (d : Dot) (l : LoginFields)
     (ending : Option revoked.TokenRevoked)
     → login_view F now d ≡ Some l → l.state ≡ state.Used

@@ -40,6 +40,7 @@ decides_alone place now words sent (judged.Refused why) = tt
 decides_alone place now words sent (judged.Denied target why) = tt
 decides_alone place now words sent (judged.Approved target approval) = refl
 
+-- the fact that an authorisation request makes, if any, names no dot
 pub authorizes_alone : (F : FactSet) (place : Place) (now : ℕ) (words : List ℕ)
     (request : RequestFields)
     → IfSome (authorization_of F place now words request).made (λ b. names_of b ≡ None)
@@ -71,7 +72,10 @@ carried_out_alone place (administered.AlreadyOut subject) = tt
 carried_out_alone place (administered.SignsOut sign_out) = tt
 carried_out_alone place (administered.LogsOut login revocation) = tt
 carried_out_alone place (administered.AlreadyEnded login) = tt
+carried_out_alone place (administered.SetsSecret secret) = tt
+carried_out_alone place (administered.HasSecret client) = tt
 
+-- the fact that an administration request makes, if any, names no token's dot, or revokes a token
 pub administers_alone : (F : FactSet) (place : Place) (now : ℕ) (request : RequestFields)
     → IfSome (administration_of F place now request).made UsesNothing
 administers_alone F place now request =
@@ -81,6 +85,7 @@ lists_none : (F : FactSet) (r : Result (Option Dot) AdminRefusal) → (listed_by
 lists_none F (Err why) = refl
 lists_none F (Ok after) = refl
 
+-- a request for a page of clients makes no fact
 pub lists_alone : (F : FactSet) (params : Pairs) → (listing_of F params).made ≡ None
 lists_alone F params = lists_none F (after_named params)
 
@@ -89,5 +94,6 @@ shows_none : (F : FactSet) (now : ℕ) (r : Result SubjectAsked AdminRefusal)
 shows_none F now (Err why) = refl
 shows_none F now (Ok asked) = refl
 
+-- a request for what a subject has makes no fact
 pub shows_alone : (F : FactSet) (now : ℕ) (params : Pairs) → (subject_of F now params).made ≡ None
 shows_alone F now params = shows_none F now (asked_of params)

@@ -137,6 +137,7 @@ leads F place now words request =
     (by_duplicate F place.choices.challenge request.params request.subject
     (has_twice target_names request.params))
 
+-- the reply of a decision that is the one by definition leads to a URI of the client, or nowhere
 pub decision_leads : (F : FactSet) (place : Place) (now : ℕ) (words : List ℕ)
     (request : RequestFields) (r : Result Decision AllocError)
     → IfOk r (λ d. d ≡ authorization_of F place now words request)

@@ -1,12 +1,13 @@
 -- Authorisation and administration requests are decided alike by two sets that say the same of
--- clients, consents, sign-outs and logins. Key results:
+-- clients and their secrets, consents, sign-outs and logins. Key results:
 --   authorizations_same    the decisions of authorisation requests
 --   administrations_same   the decisions of administration requests
 --   listings_same          the pages of clients
 --   subjects_same          the pages of what subjects have
-use Rattle.std.proofs.Common.{◌≡◌, ℕ, cond, List, codes, Option, None, Some, Result, Ok, Err, refl}
-use Rattle.std.proofs.Common.{ap, ◌∙◌}
+use Rattle.std.proofs.Common.{◌≡◌, ◌==◌, ◌&&◌, ◌||◌, ℕ, cond, List, codes, Option, None, Some}
+use Rattle.std.proofs.Common.{Result, Ok, Err, refl, ap, ◌∙◌}
 use Rattle.std.specs.FinMap as map
+use Rattle.std.specs.Str.{bytes_eq}
 use Rattle.tk_handle.specs.ClientId.{client_in}
 use Rattle.tk_handle.specs.ConsentId.{consent_in}
 use Rattle.tk_handle.specs.LoginId.{login_in}
@@ -19,6 +20,7 @@ use Rattle.tk_store.specs.FactSet.{FactSet}
 use Rattle.tk_store.specs.Walk.{above}
 use Rattle.tk_ledger.specs.Clients.{consent_for}
 use Rattle.tk_ledger.specs.Logins.{login_view}
+use Rattle.tk_ledger.specs.Secrets.{last_turn, is_set, is_secret_at}
 use Rattle.tk_ledger.specs.SignOuts.{is_signed_out}
 use Rattle.tk_ledger.specs.SubjectWalk.{consents_of, logins_of}
 use Rattle.tk_ledger.specs.ViewFields.{ClientFields, ConsentFields, LoginFields}
@@ -46,12 +48,16 @@ use Rattle.tk_authorize.specs.Administered.{consent_names, withdrawn_at, withdra
 use Rattle.tk_authorize.specs.Administered.{withdrawal_names, signed_out_by, sign_out_names}
 use Rattle.tk_authorize.specs.Administered.{administered_at, administered_of}
 use Rattle.tk_authorize.specs.Administration.{administered_by, administration_of}
+use Rattle.tk_authorize.specs.ClientParams.{client_asked, digest_asked}
 use Rattle.tk_authorize.specs.Chosen.{chosen, consented_again, held_or_given}
 use Rattle.tk_authorize.specs.Approval.{approval_by_consent, approval_of}
 use Rattle.tk_authorize.specs.Asked.{asked_of}
 use Rattle.tk_authorize.specs.Authorization.{decided_by, authorization_of, kept_state}
 use Rattle.tk_authorize.specs.Listing.{after_named, listed_by, listing_of}
 use Rattle.tk_authorize.specs.Logouts.{ended_at, logged_out_to, logged_out_by, logout_names}
+use Rattle.tk_authorize.specs.SecretChanges.{first_secret, set_at, changed_once, ended_if}
+use Rattle.tk_authorize.specs.SecretChanges.{changed_as, changed_to, changed_from, changed_at}
+use Rattle.tk_authorize.specs.SecretChanges.{changed_by, change_names}
 use Rattle.tk_authorize.specs.SubjectListing as subjects
 use Rattle.tk_authorize.specs.SubjectListing.{subject_of}
 use Rattle.tk_authorize.specs.Judged.{judged_at, target_of, judged_by_redirect, judged_by_view}
@@ -59,6 +65,8 @@ use Rattle.tk_authorize.specs.Judged.{judged_by_client, judged_by_id, target_nam
 use Rattle.tk_authorize.specs.declared.admin_refusal.AdminRefusal.{AdminRefusal}
 use Rattle.tk_authorize.specs.declared.admin_refusal.AdminRefusal.TheVariants.{DuplicateParameter}
 use Rattle.tk_authorize.specs.declared.admin_refusal.AdminRefusal.TheVariants.{MalformedSubject}
+use Rattle.tk_authorize.specs.declared.admin_refusal.AdminRefusal.TheVariants.{UnknownClient}
+use Rattle.tk_authorize.specs.declared.admin_refusal.AdminRefusal.TheVariants.{WrongOld}
 use Rattle.tk_authorize.specs.declared.administered.Administered.{Administered}
 use Rattle.tk_authorize.specs.declared.administered.Administered.TheVariants as administered
 use Rattle.tk_authorize.specs.declared.asked.Asked.{Asked}
@@ -117,6 +125,7 @@ module _ (F G : FactSet) (views : (d : Dot) → client_view F d ≡ client_view 
   id_same rules params subject None = refl
   id_same rules params subject (Some id) = client_same rules params subject (client_in id)
 
+-- two sets of facts with the same clients and consents decide an authorisation request alike
 pub authorizations_same : (F G : FactSet) (place : Place) (now : ℕ) (words : List ℕ)
     (request : RequestFields)
     → ((d : Dot) → client_view F d ≡ client_view G d)
@@ -137,6 +146,9 @@ module _ (F G : FactSet) (now : ℕ) (views : (d : Dot) → client_view F d ≡ 
     (outs : (subject : List ℕ) (moment : ℕ)
     → is_signed_out F subject moment ≡ is_signed_out G subject moment)
     (logouts : (d : Dot) → ended_at F d (login_view F now d) ≡ ended_at G d (login_view G now d))
+    (turns : (d : Dot) → last_turn F d ≡ last_turn G d)
+    (secrets : (d : Dot) (turn : ℕ) (digest : List ℕ)
+    → is_set F d turn digest ≡ is_set G d turn digest)
   where
     shown_same : (r : Result Dot AdminRefusal) → shown_by F r ≡ shown_by G r
     shown_same (Err why) = refl
@@ -184,6 +196,55 @@ module _ (F G : FactSet) (now : ℕ) (views : (d : Dot) → client_view F d ≡ 
     logged_out_same None = refl
     logged_out_same (Some id) = logged_out_to_same (login_in id)
 
+    -- a change of a secret
+    held_same : (d : Dot) (first digest : List ℕ)
+        → is_secret_at F d first (last_turn F d) digest
+        ≡ is_secret_at G d first (last_turn G d) digest
+    held_same d first digest =
+        ap (λ turn. is_secret_at F d first turn digest) (turns d)
+        ∙ ap (λ t. ((last_turn G d == 0) && bytes_eq first digest) || t)
+        (secrets d (last_turn G d) digest)
+
+    once_same : (d : Dot) (first digest : List ℕ)
+        → changed_once F now d first digest ≡ changed_once G now d first digest
+    once_same d first digest = λ i. cond (held_same d first digest i) (administered.HasSecret d)
+        (set_at now d digest (turns d i) 1)
+
+    ended_same : (d : Dot) (digest old : List ℕ)
+        → ended_if F now d digest old ≡ ended_if G now d digest old
+    ended_same d digest old =
+        ap (λ turn. cond (bytes_eq old (codes "ended")) (set_at now d digest turn 2)
+        (administered.Refused WrongOld)) (turns d)
+
+    changed_as_same : (d : Dot) (first digest : List ℕ) (old : Option (List ℕ))
+        → changed_as F now d first digest old ≡ changed_as G now d first digest old
+    changed_as_same d first digest None = once_same d first digest
+    changed_as_same d first digest (Some old) = ended_same d digest old
+
+    changed_to_same : (d : Dot) (first : List ℕ) (r : Result (List ℕ) AdminRefusal)
+        (old : Option (List ℕ)) → changed_to F now d first r old ≡ changed_to G now d first r old
+    changed_to_same d first (Err why) old = refl
+    changed_to_same d first (Ok digest) old = changed_as_same d first digest old
+
+    changed_from_same : (d : Dot) (first secret old : Option (List ℕ))
+        → changed_from F now d first secret old ≡ changed_from G now d first secret old
+    changed_from_same d None secret old = refl
+    changed_from_same d (Some first) secret old =
+        changed_to_same d first (digest_asked secret) old
+
+    changed_at_same : (d : Dot) (secret old : Option (List ℕ)) (o : Option ClientFields)
+        → changed_at F now d secret old o ≡ changed_at G now d secret old o
+    changed_at_same d secret old None = refl
+    changed_at_same d secret old (Some view) =
+        ap (λ (x : Administered). cond view.live x (administered.Refused UnknownClient))
+        (changed_from_same d (first_secret view.client_kind) secret old)
+
+    changed_same : (secret old : Option (List ℕ)) (r : Result Dot AdminRefusal)
+        → changed_by F now secret old r ≡ changed_by G now secret old r
+    changed_same secret old (Err why) = refl
+    changed_same secret old (Ok d) = ap (changed_at F now d secret old) (views d)
+        ∙ changed_at_same d secret old (client_view G d)
+
     administered_same : (e : Endpoint) (params : Pairs)
         → administered_at e F now params ≡ administered_at e G now params
     administered_same endpoint.Authorize params = refl
@@ -194,6 +255,11 @@ module _ (F G : FactSet) (now : ℕ) (views : (d : Dot) → client_view F d ≡ 
     administered_same endpoint.ShowClient params = shown_same (client_named params)
     administered_same endpoint.ListClients params = refl
     administered_same endpoint.Retire params = retired_same (client_named params)
+    administered_same endpoint.ChangeSecret params =
+        ap (λ (x : Administered).
+        cond (has_twice change_names params) (administered.Refused DuplicateParameter) x)
+        (changed_same (value_of (codes "secret") params) (value_of (codes "old") params)
+        (client_asked (value_of (codes "client_id") params)))
     administered_same endpoint.Consent params =
         ap (λ (x : Administered).
         cond (has_twice consent_names params) (administered.Refused DuplicateParameter) x)
@@ -235,24 +301,32 @@ module _ (F G : FactSet)
   chosen_same choices (administered.SignsOut sign_out) = refl
   chosen_same choices (administered.LogsOut login revocation) = refl
   chosen_same choices (administered.AlreadyEnded login) = refl
+  chosen_same choices (administered.SetsSecret secret) = refl
+  chosen_same choices (administered.HasSecret client) = refl
 
+-- two sets of facts with the same clients, consents, sign-outs, secrets and endings of logins
+-- decide an administration request alike
 pub administrations_same : (F G : FactSet) (place : Place) (now : ℕ) (request : RequestFields)
     → ((d : Dot) → client_view F d ≡ client_view G d)
     → ((d : Dot) → consent_view F d ≡ consent_view G d)
     → ((subject : List ℕ) (moment : ℕ)
     → is_signed_out F subject moment ≡ is_signed_out G subject moment)
     → ((d : Dot) → ended_at F d (login_view F now d) ≡ ended_at G d (login_view G now d))
+    → ((d : Dot) → last_turn F d ≡ last_turn G d)
+    → ((d : Dot) (turn : ℕ) (digest : List ℕ) → is_set F d turn digest ≡ is_set G d turn digest)
     → ((client : Dot) (subject scope : List ℕ)
     → consent_for F client subject scope ≡ consent_for G client subject scope)
     → administration_of F place now request ≡ administration_of G place now request
-administrations_same F G place now request views consents outs logouts grants =
+administrations_same F G place now request views consents outs logouts turns secrets grants =
     ap (λ (a : Administered). administered_by place (chosen F place.choices a))
-    (administered_same F G now views consents outs logouts request.endpoint request.params)
+    (administered_same F G now views consents outs logouts turns secrets request.endpoint
+    request.params)
     ∙ ap (administered_by place)
     (chosen_same F G grants place.choices (administered_of G now request))
 
 -- ---- pages of clients
 
+-- two sets of facts with the same clients decide a request for a page of clients alike
 pub listings_same : (F G : FactSet) (params : Pairs)
     → ((d : Dot) → client_view F d ≡ client_view G d) → listing_of F params ≡ listing_of G params
 listings_same F G params views = by_cursor (after_named params)
@@ -264,6 +338,8 @@ listings_same F G params views = by_cursor (after_named params)
 
 -- ---- pages of what subjects have
 
+-- two sets of facts with the same consents, logins and sign-outs of each subject decide a request
+-- for what a subject has alike
 pub subjects_same : (F G : FactSet) (now : ℕ) (params : Pairs)
     → ((subject : List ℕ) → consents_of F subject ≡ consents_of G subject)
     → ((subject : List ℕ) → logins_of F now subject ≡ logins_of G now subject)

@@ -1,5 +1,6 @@
 -- The judgement of an administration request: the cases of each endpoint, in their order (own;
--- RFC 6749, 2 for clients, 3.3 for scopes). That of a logout is in specs/Logouts.
+-- RFC 6749, 2 for clients, 3.3 for scopes). That of a logout is in specs/Logouts, that of a change
+-- of a secret in specs/SecretChanges.
 --   registered_of     POST /admin/client
 --   shown_of          GET /admin/client
 --   retired_of        POST /admin/retire
@@ -10,13 +11,10 @@
 use Rattle.std.specs.Prelude.{
   ℕ,
   Bool,
-  ◌&&◌,
   ◌==◌,
-  nat_le,
   List,
   [],
   ◌∷◌,
-  length,
   codes,
   Option,
   Some,
@@ -27,9 +25,8 @@ use Rattle.std.specs.Prelude.{
   Err,
   if◌then◌else◌,
 }
-use Rattle.std.specs.List.{list_all, slice_split}
+use Rattle.std.specs.List.{slice_split}
 use Rattle.std.specs.Str.{bytes_eq}
-use Rattle.sha2.specs.Sha256.{sha256}
 use Rattle.tk_handle.specs.declared.dot.Dot.{Dot}
 use Rattle.tk_handle.specs.ClientId.{client_in}
 use Rattle.tk_handle.specs.ConsentId.{consent_in}
@@ -43,7 +40,7 @@ use Rattle.tk_fact.specs.declared.client_kind.ClientKind.TheVariants.{
   Keeping,
 }
 use Rattle.tk_fact.specs.declared.client_lives.ClientLives.{ClientLives}
-use Rattle.tk_fact.specs.Subject.{is_visible, is_subject}
+use Rattle.tk_fact.specs.Subject.{is_subject}
 use Rattle.tk_store.specs.FactSet.{FactSet}
 use Rattle.tk_ledger.specs.SignOuts.{is_signed_out}
 use Rattle.tk_ledger.specs.Views.{client_view, consent_view}
@@ -53,8 +50,10 @@ use Rattle.tk_message.specs.declared.request.Endpoint.{Endpoint}
 use Rattle.tk_message.specs.declared.request.Endpoint.TheVariants as endpoint
 use Rattle.tk_message.specs.RequestFields.{RequestFields}
 use Rattle.tk_message.specs.ScopeAsked.{scope_asked}
+use Rattle.tk_authorize.specs.ClientParams.{client_asked, digest_asked}
 use Rattle.tk_authorize.specs.Lives.{lives_sent, lives_allowed}
 use Rattle.tk_authorize.specs.Logouts.{logged_out_of}
+use Rattle.tk_authorize.specs.SecretChanges.{changed_of}
 use Rattle.tk_authorize.specs.declared.admin_refusal.AdminRefusal.{AdminRefusal}
 use Rattle.tk_authorize.specs.declared.admin_refusal.AdminRefusal.TheVariants.{
   DuplicateParameter,
@@ -62,8 +61,6 @@ use Rattle.tk_authorize.specs.declared.admin_refusal.AdminRefusal.TheVariants.{
   UnknownKind,
   WrongRefresh,
   UnwantedSecret,
-  MissingSecret,
-  MalformedSecret,
   MalformedScope,
   BadRedirects,
   UnknownClient,
@@ -86,24 +83,10 @@ use Rattle.tk_authorize.specs.declared.administered.Administered.TheVariants.{
 
 -- ---- add a client
 
--- the greatest number of bytes of a client's secret (own)
-abbrev pub max_secret_bytes : ℕ
-max_secret_bytes = 128
-
--- the secret has 1 to 128 visible bytes (own)
-abbrev pub is_secret : List ℕ → Bool
-is_secret secret = nat_le 1 (length secret) && nat_le (length secret) max_secret_bytes
-    && list_all is_visible secret
-
 -- the kind of a public client, for which no secret may be sent (RFC 6749, 2.1)
 abbrev pub public_kind : Option (List ℕ) → Result ClientKind AdminRefusal
 public_kind None = Ok Public
 public_kind (Some secret) = Err UnwantedSecret
-
--- the digest of a required secret: facts keep the digest alone (own)
-abbrev pub digest_asked : Option (List ℕ) → Result (List ℕ) AdminRefusal
-digest_asked None = Err MissingSecret
-digest_asked (Some secret) = if is_secret secret then Ok (sha256 secret) else Err MalformedSecret
 
 -- the kind of a confidential client, with the digest of its secret (RFC 6749, 2.1)
 abbrev pub confidential_kind : Result (List ℕ) AdminRefusal → Result ClientKind AdminRefusal
@@ -214,16 +197,6 @@ registered_of params =
     (value_of (codes "secret") params) (lives_sent params)
 
 -- ---- the client that an id names: show it, retire it
-
--- the dot of a client id, or a refusal if the text is no client id (own)
-abbrev pub client_by : Option Dot → Result Dot AdminRefusal
-client_by None = Err UnknownClient
-client_by (Some d) = Ok d
-
--- the dot of a required client id (own)
-abbrev pub client_asked : Option (List ℕ) → Result Dot AdminRefusal
-client_asked None = Err MissingParameter
-client_asked (Some id) = client_by (client_in id)
 
 -- the names of the parameters that GET /admin/client and POST /admin/retire know (own)
 abbrev pub client_names : List (List ℕ)
@@ -382,6 +355,7 @@ administered_at endpoint.AddClient F now params = registered_of params
 administered_at endpoint.ShowClient F now params = shown_of F params
 administered_at endpoint.ListClients F now params = Refused UnknownEndpoint
 administered_at endpoint.Retire F now params = retired_of F params
+administered_at endpoint.ChangeSecret F now params = changed_of F now params
 administered_at endpoint.Consent F now params = consented_of F params
 administered_at endpoint.Withdraw F now params = withdrawn_of F params
 administered_at endpoint.SignOut F now params = signed_out_of F now params

@@ -13,9 +13,11 @@ use Rattle.tk_fact.specs.declared.body.Body.TheVariants.{
   ConsentWithdrawn,
   SubjectOut,
   TokenRevoked,
+  SecretSet,
 }
 use Rattle.tk_fact.specs.declared.client_added.ClientAdded as added
 use Rattle.tk_fact.specs.declared.consent_given.ConsentGiven as given
+use Rattle.tk_fact.specs.declared.secret_set.SecretSet as set
 use Rattle.tk_fact.specs.declared.subject_out.SubjectOut as out
 use Rattle.tk_fact.specs.declared.token_revoked.TokenRevoked as revoked
 use Rattle.tk_store.specs.FactSet.{FactSet}
@@ -50,6 +52,8 @@ use Rattle.tk_authorize.specs.declared.administered.Administered.TheVariants.{
   SignsOut,
   LogsOut,
   AlreadyEnded,
+  SetsSecret,
+  HasSecret,
 }
 use Rattle.tk_authorize.specs.Administered.{administered_of}
 use Rattle.tk_authorize.specs.Chosen.{chosen}
@@ -63,6 +67,8 @@ code_of refusal.WrongRefresh = InvalidRequest
 code_of refusal.UnwantedSecret = InvalidRequest
 code_of refusal.MissingSecret = InvalidRequest
 code_of refusal.MalformedSecret = InvalidRequest
+code_of refusal.WrongOld = InvalidRequest
+code_of refusal.TooManyTurns = InvalidRequest
 code_of refusal.WrongLife = InvalidRequest
 code_of refusal.MalformedScope = InvalidScope
 code_of refusal.BadRedirects = InvalidRequest
@@ -127,8 +133,15 @@ decided_ended login revocation = record {
   made = Some (TokenRevoked revocation);
 }
 
+-- a secret of a client is set (own; RFC 6749, 2.3.1)
+abbrev pub decided_set : set.SecretSet → Decision
+decided_set secret = record {
+  reply = json_reply status.Created (client_body secret.client);
+  made = Some (SecretSet secret);
+}
+
 -- the decision by a judgement. A subject that is signed out already makes no fact, and neither does
--- a login that is ended already (own)
+-- a login that is ended already, or a secret that the client has already (own)
 abbrev pub administered_by : Place → Administered → Decision
 administered_by place (Refused why) = refused (code_of why)
 administered_by place (Registers client) = decided_registered place client
@@ -141,6 +154,8 @@ administered_by place (AlreadyOut subject) = answered (json_reply status.Ok (sub
 administered_by place (SignsOut sign_out) = decided_out sign_out
 administered_by place (LogsOut login revocation) = decided_ended login revocation
 administered_by place (AlreadyEnded login) = answered (json_reply status.Ok (login_body login))
+administered_by place (SetsSecret secret) = decided_set secret
+administered_by place (HasSecret client) = answered (json_reply status.Ok (client_body client))
 
 -- the decision of an administration request (own)
 abbrev pub administration_of : FactSet → Place → ℕ → RequestFields → Decision

@@ -31,7 +31,8 @@ approval_by_subject F client asked (Some subject) =
     (consent_for F client subject asked.scope)
     else Err denial.MalformedSubject
 
--- the approval of what the parameters request. A denial for the parameters comes before others
+-- the approval of what the parameters request (RFC 6749, 4.1.1). A denial for the parameters is
+-- returned before one for the subject or the consent (own)
 abbrev pub approval_of : FactSet → Dot → Option (List ℕ) → Result Asked Denial
     → Result Approval Denial
 approval_of F client subject (Err why) = Err why

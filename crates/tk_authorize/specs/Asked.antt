@@ -62,7 +62,7 @@ asked_by_type rules client_kind whole params (Some name) =
 abbrev pub is_printable : ℕ → Bool
 is_printable b = nat_le 32 b && nat_le b 126
 
--- each byte of the state, if there is one, may be in a state
+-- each byte of the state, if there is one, may be in a state (RFC 6749, 4.1.1 and appendix A.5)
 abbrev pub is_state : Option (List ℕ) → Bool
 is_state None = true
 is_state (Some text) = list_all is_printable text

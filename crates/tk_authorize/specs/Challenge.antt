@@ -75,7 +75,8 @@ read_challenge rules method text =
     then Err denial.UnsupportedChallengeMethod
     else read_known method text
 
--- the challenge by the method and the text that were sent
+-- the challenge that was sent, with its method; if none was sent, `None` or a denial (RFC 7636,
+-- 4.3)
 abbrev pub challenge_sent : ChallengeRules → ClientKind → Option (List ℕ) → Option (List ℕ)
     → Result (Option ChallengeFields) Denial
 challenge_sent rules client_kind method None = without_challenge rules client_kind method

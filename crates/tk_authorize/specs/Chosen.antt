@@ -25,30 +25,32 @@ use Rattle.tk_authorize.specs.declared.administered.Administered.TheVariants.{
 }
 use Rattle.tk_authorize.specs.declared.admin_refusal.AdminRefusal.TheVariants.{BadRedirects}
 
--- the URIs that the region registers: absolute URLs of any scheme, but none at any port; or only
--- URIs of the kinds
+-- the region may register the URIs: by no choice of kinds, absolute URLs of any scheme, but none at
+-- any port; by a choice, only URIs of the kinds chosen (own)
 abbrev pub may_register : Option RedirectKinds → List (List ℕ) → Bool
 may_register None uris = list_all is_absolute uris
 may_register (Some kinds) uris = list_all (is_listed kinds) uris
 
--- a client is added, if the region registers each of its URIs
+-- a client is added if the region may register each of its URIs, and is otherwise refused for its
+-- redirection URIs (own)
 abbrev pub registered_among : Option RedirectKinds → added.ClientAdded → Administered
 registered_among kinds client =
     if may_register kinds client.redirects then Registers client else Refused BadRedirects
 
--- the consent that is held, if there is one, or else the new one
+-- a held consent, if there is one, serves in place of the new one (own)
 abbrev pub held_or_given : Option Dot → given.ConsentGiven → Administered
 held_or_given None consent = Consents consent
 held_or_given (Some held) consent = HasConsent held
 
--- a consent is given: a new one each time; or the first live consent of the subject to the client
--- that covers the scope serves, by dot, if one is held
+-- a consent is given: by the choice `New` a new one each time; by `Held` the first live consent, by
+-- dot, of the subject to the client that covers the scope serves, if there is one (own)
 abbrev pub consented_again : FactSet → ConsentReuse → given.ConsentGiven → Administered
 consented_again F New consent = Consents consent
 consented_again F Held consent =
     held_or_given (consent_for F consent.client consent.subject consent.scope) consent
 
--- the judgement by the choices
+-- the judgement after the region's choices: a client passes the choice of URIs, a consent the
+-- choice of reuse, and any other judgement stays (own)
 abbrev pub chosen : FactSet → Choices → Administered → Administered
 chosen F choices (Registers client) = registered_among choices.redirects client
 chosen F choices (Consents consent) = consented_again F choices.consent consent

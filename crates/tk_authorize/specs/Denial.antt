@@ -5,7 +5,8 @@ use Rattle.tk_message.specs.declared.error_code.ErrorCode.TheVariants as code
 use Rattle.tk_authorize.specs.declared.denial.Denial.{Denial}
 use Rattle.tk_authorize.specs.declared.denial.Denial.TheVariants as denial
 
--- the error code of a denial. A response type, a scope and a consent have codes of their own
+-- the error code of a denial (RFC 6749, 4.1.2.1; RFC 7636, 4.4.1). A response type, a scope and a
+-- consent have codes of their own
 abbrev pub denial_code : Denial → ErrorCode
 denial_code denial.DuplicateParameter = code.InvalidRequest
 denial_code denial.MalformedState = code.InvalidRequest

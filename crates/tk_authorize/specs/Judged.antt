@@ -82,7 +82,7 @@ judged_by_id F rules params subject None = Refused refusal.MissingClient
 judged_by_id F rules params subject (Some id) =
     judged_by_client F rules params subject (client_in id)
 
--- the names of the parameters that decide where the reply goes
+-- the names of the parameters that decide where the reply goes (RFC 6749, 4.1.2.1)
 abbrev pub target_names : List (List ℕ)
 target_names = codes "client_id" ∷ codes "redirect_uri" ∷ []
 

@@ -11,6 +11,8 @@
 --   Lives               lives_sent, the lives that a new client is registered with
 --   Administered        administered_of, the cases of each endpoint in their order
 --   Logouts             logged_out_of, the cases of the end of a login
+--   ClientParams        client_asked, digest_asked, the client and the secret that are named
+--   SecretChanges       changed_of, the cases of the change of a secret
 --   Chosen              chosen, a judgement by the region's choices
 --   Administration      administration_of, the decision of a request
 --   Listing             listing_of, the decision of a request for a page of clients
@@ -23,6 +25,7 @@ pub mod Asked
 pub mod Authorization
 pub mod Challenge
 pub mod Chosen
+pub mod ClientParams
 pub mod Denial
 pub mod Judged
 pub mod Listing
@@ -30,5 +33,6 @@ pub mod Lives
 pub mod Logouts
 pub mod Refusal
 pub mod Registered
+pub mod SecretChanges
 pub mod SoundAdministered
 pub mod SubjectListing

@@ -5,7 +5,8 @@ use Rattle.tk_message.specs.declared.error_code.ErrorCode.TheVariants.{InvalidRe
 use Rattle.tk_authorize.specs.declared.refusal.Refusal.{Refusal}
 use Rattle.tk_authorize.specs.declared.refusal.Refusal.TheVariants as refusal
 
--- the error code of a refusal: `invalid_request` for each
+-- the error code of a refusal in place: `invalid_request` for each (own; RFC 6749, 4.1.2.1 gives
+-- such an error no code)
 abbrev pub refusal_code : Refusal → ErrorCode
 refusal_code refusal.DuplicateClientOrRedirect = InvalidRequest
 refusal_code refusal.MissingClient = InvalidRequest

@@ -3,7 +3,7 @@
 use Rattle.std.specs.Prelude.{◌≡◌, None}
 use Rattle.tk_fact.specs.Check.{refusal_of}
 use Rattle.tk_fact.specs.declared.body.Body.TheVariants.{ClientAdded, ConsentGiven, SubjectOut}
-use Rattle.tk_fact.specs.declared.body.Body.TheVariants.{TokenRevoked}
+use Rattle.tk_fact.specs.declared.body.Body.TheVariants.{TokenRevoked, SecretSet}
 use Rattle.tk_authorize.specs.declared.administered.Administered.{Administered}
 use Rattle.tk_authorize.specs.declared.administered.Administered.TheVariants.{
   Refused,
@@ -17,9 +17,12 @@ use Rattle.tk_authorize.specs.declared.administered.Administered.TheVariants.{
   SignsOut,
   LogsOut,
   AlreadyEnded,
+  SetsSecret,
+  HasSecret,
 }
 
--- the client, the consent, the sign-out or the revocation in the judgement passes its check
+-- the client, the consent, the sign-out, the revocation or the secret in the judgement passes its
+-- check (own)
 abbrev pub IsSoundAdministered : Administered → Type 0
 IsSoundAdministered (Refused why) = Unit {0}
 IsSoundAdministered (Registers client) = refusal_of (ClientAdded client) ≡ None
@@ -32,3 +35,5 @@ IsSoundAdministered (AlreadyOut subject) = Unit {0}
 IsSoundAdministered (SignsOut sign_out) = refusal_of (SubjectOut sign_out) ≡ None
 IsSoundAdministered (LogsOut login revocation) = refusal_of (TokenRevoked revocation) ≡ None
 IsSoundAdministered (AlreadyEnded login) = Unit {0}
+IsSoundAdministered (SetsSecret set) = refusal_of (SecretSet set) ≡ None
+IsSoundAdministered (HasSecret client) = Unit {0}

@@ -6,7 +6,8 @@ ghost use Rattle.tk_authorize.specs.Administration.{code_of};
 use tk_message::ErrorCode;
 
 /// The reason why an administration request is refused (own): the first that holds, in the order
-/// that `specs/Administered.antt`, `Logouts.antt` or a listing has for the endpoint.
+/// that `specs/Administered.antt`, `Logouts.antt`, `SecretChanges.antt` or a listing has for the
+/// endpoint.
 #[derive(Clone, Copy)]
 pub(crate) enum AdminRefusal {
     /// A parameter that the endpoint knows occurs twice.
@@ -17,12 +18,16 @@ pub(crate) enum AdminRefusal {
     UnknownKind,
     /// The parameter `refresh` is not `kept`, or the client is not confidential (RFC 9700, 2.2.2).
     WrongRefresh,
-    /// A secret was sent for a public client (RFC 6749, 2.1).
+    /// A public client was to get a secret (RFC 6749, 2.1).
     UnwantedSecret,
     /// No secret was sent for a client of another kind.
     MissingSecret,
     /// The secret is not 1 to 128 visible ASCII bytes.
     MalformedSecret,
+    /// The parameter `old` is not `ended`.
+    WrongOld,
+    /// The secret of the client was changed as often as a secret can be.
+    TooManyTurns,
     /// A life is no number of seconds, 0 or above its range, or one was sent for a resource server.
     WrongLife,
     /// The scope can't be read (RFC 6749, 3.3).
@@ -30,7 +35,7 @@ pub(crate) enum AdminRefusal {
     /// There is no redirection URI, there are too many, or one may not be registered (RFC 6749,
     /// 3.1.2).
     BadRedirects,
-    /// No client has the id; for a new consent, the client may also be retired.
+    /// No client has the id; for a new consent or secret, the client may also be retired.
     UnknownClient,
     /// The subject is not 1 to 128 visible ASCII bytes.
     MalformedSubject,
@@ -59,6 +64,8 @@ impl AdminRefusal {
             | AdminRefusal::UnwantedSecret
             | AdminRefusal::MissingSecret
             | AdminRefusal::MalformedSecret
+            | AdminRefusal::WrongOld
+            | AdminRefusal::TooManyTurns
             | AdminRefusal::WrongLife
             | AdminRefusal::BadRedirects
             | AdminRefusal::MalformedSubject => ErrorCode::InvalidRequest,

@@ -2,7 +2,8 @@
 
 use crate::admin_refusal::AdminRefusal;
 use tk_fact::{
-    ClientAdded, ClientKind, ClientLives, ConsentGiven, Subject, SubjectOut, TokenRevoked,
+    ClientAdded, ClientKind, ClientLives, ConsentGiven, SecretSet, Subject, SubjectOut,
+    TokenRevoked,
 };
 use tk_handle::Dot;
 use tk_scope::Scope;
@@ -28,6 +29,9 @@ pub(crate) enum Administered {
     LogsOut(Dot, TokenRevoked),
     // The login is dead already, or its client or consent isn't live.
     AlreadyEnded(Dot),
+    SetsSecret(SecretSet),
+    // The client has the secret at its last turn.
+    HasSecret(Dot),
 }
 
 // A client, as an administrator sees it.
@@ -49,6 +53,7 @@ use crate::clients::{retire, show};
 use crate::consents::{consent, withdraw};
 use crate::logins::log_out;
 use crate::registration::register;
+use crate::secrets::change_secret;
 use crate::sign_outs::sign_out;
 use std::alloc::{AllocError, Global};
 use tk_handle::Moment;
@@ -76,6 +81,7 @@ pub(crate) fn administer(
         Endpoint::AddClient => register(alloc, &request.params),
         Endpoint::ShowClient => show(alloc, ledger, &request.params),
         Endpoint::Retire => Ok(retire(ledger, &request.params)),
+        Endpoint::ChangeSecret => Ok(change_secret(ledger, now, &request.params)),
         Endpoint::Consent => consent(alloc, ledger, &request.params),
         Endpoint::Withdraw => Ok(withdraw(ledger, &request.params)),
         Endpoint::SignOut => sign_out(alloc, ledger, now, &request.params),

@@ -3,7 +3,7 @@
 ghost use Rattle.std.specs.Prelude.{◌≡◌, IfOk};
 ghost use Rattle.tk_store.specs.StoreFields.{held_facts};
 ghost use Rattle.tk_message.specs.Decision.{answered, Passes};
-ghost use Rattle.tk_message.specs.Bodies.{login_body, subject_body};
+ghost use Rattle.tk_message.specs.Bodies.{client_body, login_body, subject_body};
 ghost use Rattle.tk_message.specs.Reply.{json_reply};
 ghost use Rattle.tk_authorize.specs.Administration as spec;
 ghost use Rattle.tk_authorize.specs.SoundAdministered.{IsSoundAdministered};
@@ -12,8 +12,8 @@ use crate::administered::{Administered, ShownClient, administer};
 use crate::chosen::choose;
 use std::alloc::{AllocError, Global};
 use tk_fact::{
-    Body, ClientAdded, ClientRetired, ConsentGiven, ConsentWithdrawn, Subject, SubjectOut,
-    TokenRevoked,
+    Body, ClientAdded, ClientRetired, ConsentGiven, ConsentWithdrawn, SecretSet, Subject,
+    SubjectOut, TokenRevoked,
 };
 use tk_handle::{Dot, Moment};
 use tk_ledger::Ledger;
@@ -22,11 +22,11 @@ use tk_message::{Decision, JsonReply, Place, Request, StatusCode};
 /// Decides an administration request at a moment (own). Returns the reply, and the fact that the
 /// request makes, if any.
 ///
-/// Administrators add, show and retire clients, give and withdraw consents, sign subjects out
-/// everywhere, and end logins. The region's choices say which redirection URIs a new client may
-/// have, and whether a consent is given again if one that is held is good. A request for another
-/// endpoint is `not_found`. Whether the sender may administer is not examined: the front end must
-/// see to that. Returns an error if memory runs out.
+/// Administrators add, show and retire clients, change their secrets, give and withdraw consents,
+/// sign subjects out everywhere, and end logins. The region's choices say which redirection URIs a
+/// new client may have, and whether a consent is given again if one that is held is good. A request
+/// for another endpoint is `not_found`. Whether the sender may administer is not examined: the
+/// front end must see to that. Returns an error if memory runs out.
 pub fn decide_admin(
     alloc: Global,
     ledger: &Ledger,
@@ -67,6 +67,8 @@ fn decide_by(
         Administered::SignsOut(sign_out) => decide_out(alloc, sign_out),
         Administered::LogsOut(login, revocation) => decide_ended(alloc, login, revocation),
         Administered::AlreadyEnded(login) => decide_already_ended(alloc, login),
+        Administered::SetsSecret(secret) => decide_set(alloc, secret),
+        Administered::HasSecret(client) => decide_has(alloc, client),
     }
 }
 
@@ -196,5 +198,27 @@ fn decide_already_ended(alloc: Global, login: Dot) -> Result<Decision, AllocErro
         ≡ answered (json_reply StatusCode.Ok (login_body login))) }
 {
     let reply = JsonReply::Login(login).reply(alloc)?;
+    Ok(Decision::answer(reply))
+}
+
+// Sets a secret of a client.
+fn decide_set(alloc: Global, secret: SecretSet) -> Result<Decision, AllocError>
+    requires { IsSoundAdministered (Administered.SetsSecret secret) }
+    ensures value { IfOk result (λ d. d ≡ spec.decided_set secret) }
+    ensures passes { IfOk result (λ d. Passes d.made) }
+{
+    let reply = JsonReply::Client(StatusCode::Created, secret.client).reply(alloc)?;
+    Ok(Decision {
+        reply,
+        made: Some(Body::SecretSet(secret)),
+    })
+}
+
+// Names a client that has the secret already, without a fact.
+fn decide_has(alloc: Global, client: Dot) -> Result<Decision, AllocError>
+    ensures { IfOk result (λ d. d
+        ≡ answered (json_reply StatusCode.Ok (client_body client))) }
+{
+    let reply = JsonReply::Client(StatusCode::Ok, client).reply(alloc)?;
     Ok(Decision::answer(reply))
 }

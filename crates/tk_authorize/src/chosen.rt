@@ -36,7 +36,9 @@ pub(crate) fn choose(
         | Administered::AlreadyOut(_)
         | Administered::SignsOut(_)
         | Administered::LogsOut(_, _)
-        | Administered::AlreadyEnded(_) => Ok(judged),
+        | Administered::AlreadyEnded(_)
+        | Administered::SetsSecret(_)
+        | Administered::HasSecret(_) => Ok(judged),
     }
 }
 

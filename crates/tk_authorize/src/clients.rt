@@ -1,7 +1,6 @@
 //! Judgements of requests that show or retire a client.
 
 ghost use Rattle.std.specs.Prelude.{◌≡◌, IfOk, Ok as Found};
-ghost use Rattle.std.specs.Option.{option_copied};
 ghost use Rattle.tk_store.specs.StoreFields.{held_facts};
 ghost use Rattle.tk_params.specs.Params.{has_twice};
 ghost use Rattle.tk_authorize.specs.Administered as spec;
@@ -9,8 +8,9 @@ ghost use Rattle.tk_authorize.specs.SoundAdministered.{IsSoundAdministered};
 
 use crate::admin_refusal::AdminRefusal;
 use crate::administered::{Administered, ShownClient};
+use crate::client_params::client_asked;
 use std::alloc::{AllocError, Global};
-use tk_handle::{Dot, read_client};
+use tk_handle::Dot;
 use tk_ledger::Ledger;
 use tk_message::Params;
 
@@ -85,17 +85,4 @@ fn is_id_twice(params: &Params) -> bool
 {
     let names = ["client_id"];
     params.has_twice(&names)
-}
-
-// Returns the dot of a client id, if one was sent.
-fn client_asked(id: Option<&str>) -> Result<Dot, AdminRefusal>
-    ensures { result ≡ spec.client_asked (option_copied id.entry) }
-{
-    let Some(id) = id else {
-        return Err(AdminRefusal::MissingParameter);
-    };
-    match read_client(id.as_bytes()) {
-        Some(client) => Ok(client),
-        None => Err(AdminRefusal::UnknownClient),
-    }
 }

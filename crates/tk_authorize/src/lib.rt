@@ -6,17 +6,17 @@
 //! code is issued for. Then the judgement becomes the reply, and the fact if a code is issued.
 //!
 //! `decide_admin` (own) decides a request to an endpoint under `/admin/`: clients are added, shown
-//! and retired, consents are given and withdrawn, subjects are signed out everywhere, logins are
-//! ended. An `AdminRefusal` is the first case of the endpoint that held; `decide_clients` lists
-//! clients, and `decide_subject` what a subject has.
+//! and retired, their secrets are changed, consents are given and withdrawn, subjects are signed
+//! out everywhere, logins are ended. An `AdminRefusal` is the first case of the endpoint that held;
+//! `decide_clients` lists clients, and `decide_subject` what a subject has.
 //!
 //! Who has signed in, and what the subject consents to, is reported by the front end. Who may send
 //! requests to `/admin/` is left to the deployment.
 //!
 //! In reading order: `Refusal`, `Denial`, `challenge`, `Asked`, `Approval`, `Judged`,
-//! `decide_authorize`; then `AdminRefusal`, `lives`, `registration`, `clients`, `consents`,
-//! `sign_outs`, `logins`, `Administered`, `chosen`, `decide_admin`, `decide_clients`,
-//! `decide_subject`. `specs/Lib.antt` lists the definitions.
+//! `decide_authorize`; then `AdminRefusal`, `client_params`, `lives`, `registration`, `clients`,
+//! `secrets`, `consents`, `sign_outs`, `logins`, `Administered`, `chosen`, `decide_admin`,
+//! `decide_clients`, `decide_subject`. `specs/Lib.antt` lists the definitions.
 #![tactic(auto)]
 
 mod admin_refusal;
@@ -27,6 +27,7 @@ mod asked;
 mod authorization;
 mod challenge;
 mod chosen;
+mod client_params;
 mod clients;
 mod consents;
 mod denial;
@@ -36,6 +37,7 @@ mod lives;
 mod logins;
 mod refusal;
 mod registration;
+mod secrets;
 mod sign_outs;
 mod subject_listing;
 

@@ -1,26 +1,22 @@
 //! Judgements of requests that add a client (RFC 6749, 2).
 
 ghost use Rattle.std.specs.Prelude.{◌≡◌, IfOk, IsTrue, Ok as Found, Some, map};
-ghost use Rattle.std.specs.List.{list_all, slice_split};
+ghost use Rattle.std.specs.List.{slice_split};
 ghost use Rattle.std.specs.Option.{option_copied};
 ghost use Rattle.tk_fact.specs.Check.{are_lives};
-ghost use Rattle.tk_fact.specs.Subject.{is_visible};
 ghost use Rattle.tk_params.specs.Params.{has_twice};
 ghost use Rattle.tk_authorize.specs.Administered as spec;
 ghost use Rattle.tk_authorize.specs.SoundAdministered.{IsSoundAdministered};
 
 use crate::admin_refusal::AdminRefusal;
 use crate::administered::Administered;
+use crate::client_params::digest_asked;
 use crate::lives::{lives_allowed, lives_sent};
-use sha2::{Digest, Sha256};
 use std::alloc::{AllocError, Global};
 use tk_fact::{ClientAdded, ClientKind, ClientLives};
 use tk_match::{RedirectError, Redirects};
 use tk_message::Params;
 use tk_scope::{Scope, ScopeError};
-
-/// The greatest number of bytes of a client's secret (own).
-const MAX_SECRET_BYTES: usize = 128;
 
 // Judges a request to add a client.
 pub(crate) fn register(alloc: Global, params: &Params) -> Result<Administered, AllocError>
@@ -195,33 +191,6 @@ fn resource_kind(digest: Result<[u8; 32], AdminRefusal>) -> Result<ClientKind, A
         Ok(digest) => Ok(ClientKind::Resource(digest)),
         Err(why) => Err(why),
     }
-}
-
-// Returns the digest of the secret, which is required.
-fn digest_asked(secret: Option<&str>) -> Result<[u8; 32], AdminRefusal>
-    ensures { result ≡ spec.digest_asked (option_copied secret.entry) }
-{
-    let Some(secret) = secret else {
-        return Err(AdminRefusal::MissingSecret);
-    };
-    if !is_secret(secret.as_bytes()) {
-        return Err(AdminRefusal::MalformedSecret);
-    }
-    Ok(Sha256::digest(secret.as_bytes()))
-}
-
-// Returns whether a secret has 1 to 128 visible bytes.
-fn is_secret(secret: &[u8]) -> bool
-    ensures { result ≡ spec.is_secret secret.now }
-{
-    (1..=MAX_SECRET_BYTES).contains(&secret.len()) && is_all_visible(secret)
-}
-
-// Returns whether all bytes are visible ASCII.
-fn is_all_visible(secret: &[u8]) -> bool
-    ensures { result ≡ list_all is_visible secret.now }
-{
-    secret.iter().all(|b| (0x21..=0x7e).contains(b))
 }
 
 // ---- the lives, the scope and the redirection URIs

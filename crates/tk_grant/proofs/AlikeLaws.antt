@@ -198,6 +198,7 @@ module _ (place : Place) (now : ℕ) (words : List ℕ) where
     by_caller params (caller.Client client) =
         by_type params client (value_of (codes "grant_type") params)
 
+    -- a token request is decided alike if its sender is
     pub grant_alike : (request : RequestFields)
         → caller_of (held_facts P) known_names request
         ≡ caller_of (held_facts Q) known_names request
@@ -207,6 +208,7 @@ module _ (place : Place) (now : ℕ) (words : List ℕ) where
         same
         ∙ by_caller request.params (caller_of (held_facts Q) known_names request)
 
+-- stores whose statuses, clients and callers are alike decide token requests alike
 pub grants_alike : (P Q : StoreFields) (place : Place) (now : ℕ) (words : List ℕ)
     (request : RequestFields)
     → ((h : Handle) → AnsweredAlike now h (status_here P now h) (status_here Q now h))

@@ -391,6 +391,7 @@ granted_within F place now words (judged.Refreshes grant) g = (
   cut now (lives_at place grant).access grant.family_end,
 )
 
+-- what a grant mints ends with its family at the latest
 pub grants_within : (P : StoreFields) (place : Place) (now : ℕ) (words : List ℕ)
     (request : RequestFields)
     → IfSome (grant_of P place now words request).made (IsWithin (held_facts P))

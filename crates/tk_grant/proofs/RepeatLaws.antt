@@ -79,6 +79,7 @@ known_minted F now h s body m k held mints =
           ∙ ap (λ (y : MintedFields). y.scope) same,
     )
 
+-- a refresh that is repeated gets the reply that was given to it
 pub repeats_reply : RepeatsReply
 repeats_reply P Q place now later words request generation grant body reply judged made held
     repeats =
@@ -107,6 +108,7 @@ without_refresh now a b (Some s) None none = refl
 without_refresh now a b None (Some t) none = refl
 without_refresh now a b None None none = refl
 
+-- a refresh by a client that keeps its refresh token is no repeat
 pub refreshes_anew : RefreshesAnew
 refreshes_anew Q later dot words fact held =
     let b = refresh_handle dot words in

@@ -46,7 +46,7 @@ use Rattle.tk_grant.specs.declared.judged.Judged.TheVariants.{
 use Rattle.tk_grant.specs.Judged.{judged_of}
 use Rattle.tk_grant.specs.Refusal.{refusal_code}
 
--- the earlier of two moments
+-- the earlier of two moments (own)
 abbrev pub earlier : ℕ → ℕ → ℕ
 earlier a b = if nat_le a b then a else b
 
@@ -72,7 +72,7 @@ refresh_handle next words = record {
   words = slice_index words 3 ∷ slice_index words 4 ∷ slice_index words 5 ∷ [];
 }
 
--- the access token that a fact mints: its digest, its expiry and its scope
+-- the access token that a fact mints (RFC 6749, 5.1): its digest, its expiry and its scope
 abbrev pub access_token : Place → ℕ → List ℕ → Grant → MintedToken
 access_token place now words grant = record {
   digest = digest_of (access_handle (next_in place) words);
@@ -80,7 +80,7 @@ access_token place now words grant = record {
   scope = grant.access;
 }
 
--- the refresh token that a fact mints: its digest, its expiry and its scope
+-- the refresh token that a fact mints (RFC 6749, 5.1 and 6): its digest, its expiry and its scope
 abbrev pub refresh_token : Place → ℕ → List ℕ → Grant → MintedToken
 refresh_token place now words grant = record {
   digest = digest_of (refresh_handle (next_in place) words);
@@ -150,6 +150,6 @@ granted_by place now words (Refreshes grant) = record {
   made = Some (AccessRefreshed (access_refresh place now words grant));
 }
 
--- the decision of a token request
+-- the decision of a token request (RFC 6749, 5.1 and 5.2)
 abbrev pub grant_of : StoreFields → Place → ℕ → List ℕ → RequestFields → Decision
 grant_of P place now words request = granted_by place now words (judged_of P now request)

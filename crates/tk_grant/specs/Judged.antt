@@ -54,7 +54,7 @@ known_names =
     ∷ codes "client_secret" ∷ codes "code_verifier"
     ∷ codes "refresh_token" ∷ codes "scope" ∷ []
 
--- the judgement of a token request
+-- the judgement of a token request (RFC 6749, 4.1.3, 5.2 and 6)
 abbrev pub judged_of : StoreFields → ℕ → RequestFields → Judged
 judged_of P now request =
     judged_by_caller P now request.params (caller_of (held_facts P) known_names request)

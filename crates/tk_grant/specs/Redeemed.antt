@@ -57,7 +57,7 @@ redeemed_by lives params standing =
       refresh = standing.scope;
     })
 
--- the judgement of the code at the gate
+-- the judgement of the code at the gate (RFC 6749, 4.1.3; RFC 7636, 4.6)
 abbrev pub redeemed_of : Option ClientLives → Pairs → Gate → Judged
 redeemed_of lives params (Shut why) = Refused why
 redeemed_of lives params (Reuse id) = Reused id

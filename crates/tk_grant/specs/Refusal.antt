@@ -5,8 +5,8 @@ use Rattle.tk_message.specs.declared.error_code.ErrorCode.TheVariants as code
 use Rattle.tk_grant.specs.declared.refusal.Refusal.{Refusal}
 use Rattle.tk_grant.specs.declared.refusal.Refusal.TheVariants as refusal
 
--- the error code of a refusal: `invalid_grant` for a code or refresh token that can't be redeemed,
--- whatever the reason
+-- the error code of a refusal (RFC 6749, 5.2): `invalid_grant` for a code or refresh token that
+-- can't be redeemed, whatever the reason
 abbrev pub refusal_code : Refusal → ErrorCode
 refusal_code refusal.DuplicateParameter = code.InvalidRequest
 refusal_code refusal.MixedCredentials = code.InvalidRequest

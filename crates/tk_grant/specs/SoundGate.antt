@@ -6,6 +6,7 @@ use Rattle.tk_grant.specs.declared.gate.Gate.{Gate}
 use Rattle.tk_grant.specs.declared.gate.Gate.TheVariants.{Shut, Reuse, Open}
 
 -- a token that is reused is a code or refresh token, and the family of an open gate has not ended
+-- (own)
 abbrev pub IsSoundGate : ℕ → Gate → Type 0
 IsSoundGate now (Shut why) = Unit {0}
 IsSoundGate now (Reuse id) = is_used_once id.kind ≡ true

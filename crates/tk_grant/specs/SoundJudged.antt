@@ -12,7 +12,7 @@ use Rattle.tk_grant.specs.declared.judged.Judged.TheVariants.{
 }
 
 -- a token that is reused is a code or refresh token; the family of a grant has not ended, and the
--- generation of a rotation is in range
+-- generation of a rotation is in range (own)
 abbrev pub IsSoundJudged : ℕ → Judged → Type 0
 IsSoundJudged now (Refused why) = Unit {0}
 IsSoundJudged now (Reused id) = is_used_once id.kind ≡ true

@@ -19,7 +19,7 @@ use Rattle.tk_fact.specs.declared.code_issued.CodeIssued.{CodeIssued}
 use Rattle.tk_store.specs.FactSet.{FactSet}
 use Rattle.tk_ledger.specs.Tokens.{links_in, issued_at, minted_in}
 
--- a code was issued at the dot, and its family ends at the moment
+-- a code was issued at the dot, and its family ends at the moment (own)
 abbrev pub IsCodeOf : FactSet → Dot → ℕ → Type 0
 IsCodeOf F c moment =
     (code : CodeIssued) × (issued_at (map.get F) c ≡ Some code) × (moment ≡ code.family_end)
@@ -33,7 +33,7 @@ IsRotatable F parent generation =
 -- a redemption is of a code that was issued, and a rotation of a refresh token that was minted
 -- under a code, a generation before; the tokens of both end with the family of that code at the
 -- latest. A reuse is of a token that was minted. An access token that is refreshed is for a refresh
--- token under a code, and ends with the family of that code at the latest
+-- token under a code, and ends with the family of that code at the latest (own)
 abbrev pub IsWithin : FactSet → Body → Type 0
 IsWithin F (CodeRedeemed f) =
     (moment : ℕ) × IsCodeOf F f.code moment

@@ -62,15 +62,18 @@ reached_in subject m ((d, SubjectOut f) ∷ fs) =
     (reached_in subject m fs) (bytes_eq f.subject subject)
 reached_in subject m ((d, b) ∷ fs) = reached_in subject m fs
 
+-- a subject is signed out at a moment exactly if the last sign-out reaches it
 pub reached : (F : FactSet) (subject : List ℕ) (m : ℕ)
     → is_signed_out F subject m ≡ reaches (last_sign_out F subject) m
 reached F subject m = reached_in subject m (map.entries F)
 
+-- what reaches exactly the moments at which the subject is signed out is the last sign-out
 pub last_is : (F : FactSet) (subject : List ℕ) (last : Option ℕ)
     → ((m : ℕ) → is_signed_out F subject m ≡ reaches last m) → last ≡ last_sign_out F subject
 last_is F subject last says = reaches_one last (last_sign_out F subject)
     (λ m. sym (says m) ∙ reached F subject m)
 
+-- two sets of facts that sign a subject out at the same moments have the same last sign-out of it
 pub last_sign_out_same : (F G : FactSet) (subject : List ℕ)
     → ((m : ℕ) → is_signed_out F subject m ≡ is_signed_out G subject m)
     → last_sign_out F subject ≡ last_sign_out G subject

@@ -16,10 +16,12 @@ use Rattle.tk_handle.specs.declared.dot.Dot.{Dot}
 use Rattle.tk_handle.specs.ClientId.{client_text}
 use Rattle.tk_message.specs.Page.{page_size, listed, cursor_of}
 
+-- a page of no entries has no items
 pub listed_none : {X : Type 0} (body : Dot × X → Data) (n : ℕ) → listed body n [] ≡ no_items
 listed_none body zero = refl
 listed_none body (suc n) = refl
 
+-- behind no entries there is no cursor
 pub cursor_none : (X : Type 0) (n : ℕ) (at : Option Dot) → cursor_of {X = X} n at [] ≡ None
 cursor_none X zero at = refl
 cursor_none X (suc n) at = refl
@@ -40,6 +42,8 @@ tokens_more {X} body t u all n m c cs more left is written whole =
     (sym is)
     ∙ whole
 
+-- the cursor of a page that begins with an entry is that of the page of the others, one shorter,
+-- behind that entry
 pub cursor_more : {X : Type 0} (n m : ℕ) (at last : Option Dot) (c : Dot × X)
     (cs more : List (Dot × X))
     → n ≡ suc m → more ≡ c ∷ cs
@@ -47,9 +51,11 @@ pub cursor_more : {X : Type 0} (n m : ℕ) (at last : Option Dot) (c : Dot × X)
 cursor_more n m at last c cs more left is whole =
     ap (λ (k : ℕ). cursor_of k at (c ∷ cs)) (sym left) ∙ ap (cursor_of n at) (sym is) ∙ whole
 
+-- a page that is not full has room for one entry and the rest
 pub one_left : (k : ℕ) → k < page_size → page_size - k ≡ suc (page_size - (k + 1))
 one_left k below = omega (arith, below)
 
+-- a full page has room for no entry
 pub none_left : (k : ℕ) → page_size ≤ k → page_size - k ≡ zero
 none_left k full = omega (arith, full)
 
@@ -64,12 +70,15 @@ opened_of t u v page name h k = rw (k, h) (simp append_assoc)
 abbrev pub opened : List Token
 opened = token.begin_object ∷ token.key (codes "clients") ∷ token.begin_array ∷ []
 
+-- the tokens of a page of clients without a cursor, and the end of its object, are those of its
+-- outline
 pub whole_none : (t : List Token) (page : Items) → t ≡ opened ++ items_tokens (items_outline page)
     → t ++ token.end_object ∷ []
     ≡ json_tokens
     (outline (json.object (json.member (codes "clients") (json.array page) json.no_members)))
 whole_none t page h = ap (λ x. x ++ token.end_object ∷ []) h
 
+-- the tokens of a page of clients, its cursor and the end of its object are those of its outline
 pub whole_some : (t u : List Token) (page : Items) (d : Dot)
     → t ≡ opened ++ items_tokens (items_outline page)
     → u ≡ t ++ token.key (codes "next") ∷ token.string (client_text d) ∷ []

@@ -28,6 +28,7 @@ tail_written consent login out subject =
     ++ (number_written (codes "signed_out") out
     ++ (token.key (codes "subject") ∷ token.string subject ∷ token.end_object ∷ [])))
 
+-- the tokens that are written of what a subject has are those of the page's outline
 pub page_written : (consents logins : Items) (consent login : Option Dot) (out : Option ℕ)
     (subject : List ℕ)
     → token.begin_object ∷ (array_written (codes "consents") consents

@@ -1,10 +1,9 @@
 -- The client that credentials prove (RFC 6749, 2.3 and 3.2.1).
---   is_digest_of    a digest is that of a secret
---   proves          a secret is that of a client of some kind
+--   accepts         a secret is good for a client
+--   proves          a secret, or its absence, proves a client of some kind
 --   authenticated   the live client that credentials prove
 use Rattle.std.specs.Prelude.{ℕ, Bool, true, false, ◌&&◌, List, Option, Some, None, if◌then◌else◌}
 use Rattle.std.specs.Option.{option_and_then}
-use Rattle.std.specs.Str.{bytes_eq}
 use Rattle.sha2.specs.Sha256.{sha256}
 use Rattle.tk_handle.specs.declared.dot.Dot.{Dot}
 use Rattle.tk_handle.specs.ClientId.{client_in}
@@ -16,35 +15,37 @@ use Rattle.tk_fact.specs.declared.client_kind.ClientKind.TheVariants.{
   Keeping,
 }
 use Rattle.tk_store.specs.FactSet.{FactSet}
+use Rattle.tk_ledger.specs.Secrets.{is_good_secret}
 use Rattle.tk_ledger.specs.Views.{client_view}
 use Rattle.tk_ledger.specs.ViewFields.{ClientFields}
 use Rattle.tk_params.specs.Credentials.{CredentialsFields}
 use Rattle.tk_message.specs.declared.authentication.Auth.{Auth}
 use Rattle.tk_message.specs.declared.authentication.Auth.TheVariants.{Client, Invalid}
 
--- the digest is that of the secret
-abbrev pub is_digest_of : List ℕ → Option (List ℕ) → Bool
-is_digest_of digest None = false
-is_digest_of digest (Some secret) = bytes_eq (sha256 secret) digest
+-- a secret is sent, and is good for the client, which was registered with the secret of the first
+-- digest (RFC 6749, 2.3.1)
+abbrev pub accepts : FactSet → Dot → List ℕ → Option (List ℕ) → Bool
+accepts F d first None = false
+accepts F d first (Some secret) = is_good_secret F d first (sha256 secret)
 
--- a public client proves itself without a secret, another client by its own (RFC 6749, 2.3.1)
-abbrev pub proves : ClientKind → Option (List ℕ) → Bool
-proves Public None = true
-proves Public (Some secret) = false
-proves (Confidential digest) secret = is_digest_of digest secret
-proves (Resource digest) secret = is_digest_of digest secret
-proves (Keeping digest) secret = is_digest_of digest secret
+-- a public client proves itself without a secret, another client by a good one (RFC 6749, 2.3.1)
+abbrev pub proves : FactSet → Dot → ClientKind → Option (List ℕ) → Bool
+proves F d Public None = true
+proves F d Public (Some secret) = false
+proves F d (Confidential first) secret = accepts F d first secret
+proves F d (Resource first) secret = accepts F d first secret
+proves F d (Keeping first) secret = accepts F d first secret
 
--- the client at the dot, if it is live and the secret is its own
-abbrev pub authenticated_as : Dot → Option (List ℕ) → Option ClientFields → Auth
-authenticated_as d secret None = Invalid
-authenticated_as d secret (Some client) =
-    if client.live && proves client.client_kind secret then Client d else Invalid
+-- the client at the dot, if it is live and the secret proves it
+abbrev pub authenticated_as : FactSet → Dot → Option (List ℕ) → Option ClientFields → Auth
+authenticated_as F d secret None = Invalid
+authenticated_as F d secret (Some client) =
+    if client.live && proves F d client.client_kind secret then Client d else Invalid
 
--- the client at the dot, if there is one, it is live, and the secret is its own
+-- the client at the dot, if there is one, it is live, and the secret proves it
 abbrev pub authenticated_at : FactSet → Option (List ℕ) → Option Dot → Auth
 authenticated_at F secret None = Invalid
-authenticated_at F secret (Some d) = authenticated_as d secret (client_view F d)
+authenticated_at F secret (Some d) = authenticated_as F d secret (client_view F d)
 
 -- the live client that the credentials prove
 abbrev pub authenticated : FactSet → CredentialsFields → Auth

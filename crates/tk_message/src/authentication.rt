@@ -26,7 +26,7 @@ use tk_params::Credentials;
 /// Returns the live client that the credentials prove (RFC 6749, 2.3.1).
 ///
 /// A public client proves itself by its id, without a secret. Another client proves itself by its
-/// secret, which is compared by SHA-256. No memory is allocated.
+/// secret of the last turn or of the turn before, compared by SHA-256. No memory is allocated.
 pub fn authenticate(ledger: &Ledger, credentials: &Credentials<'_>) -> Auth
     ensures { result ≡ spec.authenticated (held_facts ledger.now) credentials.now }
 {
@@ -46,36 +46,41 @@ fn client_named(id: Option<&str>) -> Option<Dot>
     }
 }
 
-// Returns the client that was added at the dot, if it is live and the secret is its own.
+// Returns the client that was added at the dot, if it is live and the secret is good.
 fn authenticate_at(ledger: &Ledger, at: Dot, secret: Option<&str>) -> Auth
     ensures { result ≡ spec.authenticated_at (held_facts ledger.now) (option_copied secret.entry)
         (Some at) }
 {
     match ledger.client(at) {
-        Some(client) if client.live && proves(client.client_kind, secret) => Auth::Client(at),
+        Some(client) if client.live && proves(ledger, at, client.client_kind, secret) => {
+            Auth::Client(at)
+        }
         Some(_) => Auth::Invalid,
         None => Auth::Invalid,
     }
 }
 
-// Returns whether the secret is that of a client of this kind.
-fn proves(client_kind: &ClientKind, secret: Option<&str>) -> bool
-    ensures { result ≡ spec.proves client_kind.now (option_copied secret.entry) }
+// Returns whether the secret, or its absence, proves the client of this kind.
+fn proves(ledger: &Ledger, client: Dot, client_kind: &ClientKind, secret: Option<&str>) -> bool
+    ensures { result ≡ spec.proves (held_facts ledger.now) client client_kind.now
+        (option_copied secret.entry) }
 {
     match client_kind {
         ClientKind::Public => secret.is_none(),
-        ClientKind::Confidential(digest) => is_digest_of(digest, secret),
-        ClientKind::Resource(digest) => is_digest_of(digest, secret),
-        ClientKind::Keeping(digest) => is_digest_of(digest, secret),
+        ClientKind::Confidential(first) => accepts(ledger, client, first, secret),
+        ClientKind::Resource(first) => accepts(ledger, client, first, secret),
+        ClientKind::Keeping(first) => accepts(ledger, client, first, secret),
     }
 }
 
-// Returns whether the digest is that of the secret.
-fn is_digest_of(digest: &[u8; 32], secret: Option<&str>) -> bool
-    ensures { result ≡ spec.is_digest_of digest.now (option_copied secret.entry) }
+// Returns whether a secret was sent, and is good for the client. `first` is the digest of the
+// secret with which the client was registered.
+fn accepts(ledger: &Ledger, client: Dot, first: &[u8; 32], secret: Option<&str>) -> bool
+    ensures { result ≡ spec.accepts (held_facts ledger.now) client first.now
+        (option_copied secret.entry) }
 {
     match secret {
-        Some(secret) => Sha256::digest(secret.as_bytes()) == *digest,
+        Some(secret) => ledger.accepts(client, first, &Sha256::digest(secret.as_bytes())),
         None => false,
     }
 }

@@ -22,6 +22,8 @@ pub enum Endpoint {
     ListClients,
     /// POST `/admin/retire`: retire a client.
     Retire,
+    /// POST `/admin/secret`: change the secret of a client.
+    ChangeSecret,
     /// POST `/admin/consent`: give a client a subject's consent.
     Consent,
     /// POST `/admin/withdraw`: withdraw a consent.

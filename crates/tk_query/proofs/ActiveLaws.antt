@@ -83,6 +83,7 @@ quiet_by_kind P seen now client_kind asker h kind.Refresh e n =
     quiet P seen now client_kind asker h kind.Refresh (status_here P now h) refl
     (no_code_either h.id.kind e) n
 
+-- a token that is not active is inactive to everybody
 pub says_nothing : (P : StoreFields) (seen : RefreshSeen) (now : ℕ) (client_kind : ClientKind)
     (asker : Dot) (h : Handle)
     → ¬ IsActive (map.get (held_facts P)) now h
@@ -99,6 +100,7 @@ hidden_by_status digest asker Wrong = refl
 hidden_by_status digest asker (Broken t) = refl
 hidden_by_status digest asker (Known s) = refl
 
+-- where clients alone see refresh tokens, one is inactive to a resource server
 pub hides_refresh : (P : StoreFields) (now : ℕ) (digest : List ℕ) (asker : Dot) (h : Handle)
     → h.id.kind ≡ kind.Refresh → told_to P ByClient now (Resource digest) asker h ≡ inactive_reply
 hides_refresh P now digest asker h is =
@@ -185,6 +187,7 @@ loud_by_kind P seen now client_kind asker h a s t kind.Access may e =
 loud_by_kind P seen now client_kind asker h a s t kind.Refresh may e =
     loud_as P seen now client_kind asker h a s t kind.Refresh may
 
+-- an active token that the asker sees is told with its fields
 pub says_active : (P : StoreFields) (seen : RefreshSeen) (now : ℕ) (client_kind : ClientKind)
     (asker : Dot) (h : Handle) (a : IsActive (map.get (held_facts P)) now h)
     → sees seen client_kind h.id.kind asker a.issued.client ≡ true

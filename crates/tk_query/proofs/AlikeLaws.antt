@@ -145,6 +145,7 @@ module _ (P Q : StoreFields) (seen : RefreshSeen) (now : ℕ)
       told_by_client params asker (client_view (held_facts P) asker)
       ∙ ap (introspected_by_client Q seen now params asker) (views asker)
 
+-- stores whose statuses, clients and callers are alike introspect alike
 pub introspections_alike : (P Q : StoreFields) (seen : RefreshSeen) (now : ℕ)
     (request : RequestFields)
     → ((h : Handle) → AnsweredAlike now h (status_here P now h) (status_here Q now h))
@@ -373,6 +374,7 @@ module _ (P Q : StoreFields) (place : Place) (now : ℕ)
   by_caller (caller.Client client) sender =
       by_text client sender (value_of (codes "token") request.params) refl
 
+-- stores whose statuses, clients and callers are alike revoke alike, or revoke anew
 pub revocations_alike : (P Q : StoreFields) (place : Place) (now : ℕ) (request : RequestFields)
     → ((h : Handle) → AnsweredAlike now h (status_here P now h) (status_here Q now h))
     → ((k : TokenId) (digest : List ℕ) (client : Dot)

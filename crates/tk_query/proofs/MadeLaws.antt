@@ -24,6 +24,7 @@ revoked_alone (Done why) = tt
 revoked_alone Later = tt
 revoked_alone (Revokes fact) = (fact, refl)
 
+-- a revocation makes no other fact than that of a token revoked
 pub revokes_alone : (P : StoreFields) (place : Place) (now : ℕ) (request : RequestFields)
     → IfSome (revocation_of P place now request).made Revoking
 revokes_alone P place now request = revoked_alone

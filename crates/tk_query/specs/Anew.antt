@@ -30,7 +30,7 @@ use Rattle.tk_query.specs.Revoked.{revocation_of, may_revoke_unseen, is_own}
 use Rattle.tk_query.specs.declared.revoked.Revocation.{Revocation}
 use Rattle.tk_query.specs.declared.revoked.Revocation.TheVariants.{Revokes, Later}
 
--- the token was minted, and its expiry is later than the moment
+-- the token was minted, and its expiry is later than the moment (own)
 abbrev pub IsEarly : ℕ → Status → Type 0
 IsEarly now Unseen = ⊥
 IsEarly now Wrong = ⊥
@@ -53,7 +53,7 @@ revoked_first choice sender fact =
     if may_revoke_unseen choice sender then Revokes fact else Later
 
 -- the token is not seen by the store, though by its facts the sender revoked it before; and the
--- decision is that of a first revocation
+-- decision is that of a first revocation (own)
 pub record IsAnew (P : StoreFields) (place : Place) (now : ℕ) (request : RequestFields)
     (d : Decision) : Type 0 where
   pub client : Dot

@@ -58,6 +58,7 @@ shows_refresh ByAll = true
 shows_refresh ByClient = false
 
 -- resource servers see tokens of the kind: access tokens, and refresh tokens by the region's choice
+-- (own)
 abbrev pub servers_see : RefreshSeen → Kind → Bool
 servers_see seen kind.Code = true
 servers_see seen kind.Access = true
@@ -71,7 +72,7 @@ sees seen (Confidential digest) k asker client = is_same_dot client asker
 sees seen (Resource digest) k asker client = servers_see seen k
 sees seen (Keeping digest) k asker client = is_same_dot client asker
 
--- the outcome for a token that is live: a code is never active
+-- the outcome for a token that is live (RFC 7662, 2.2): a code is never active (own)
 abbrev pub active : Kind → StandingFields → Introspected
 active kind.Code s = Inactive
 active kind.Access s = Access s
@@ -93,7 +94,7 @@ introspected_by_status seen client_kind asker k (Broken expiry) = Inactive
 introspected_by_status seen client_kind asker k (Known s) =
     introspected_by_standing seen client_kind asker k s
 
--- the outcome by the kind of the handle: a code is inactive
+-- the outcome by the kind of the handle (RFC 7662, 2.2): a code is inactive (own)
 abbrev pub introspected_by_kind : StoreFields → RefreshSeen → ℕ → ClientKind → Dot → Handle → Kind
     → Introspected
 introspected_by_kind P seen now client_kind asker h kind.Code = Inactive
@@ -127,7 +128,8 @@ introspected_as P seen now params asker (Resource digest) =
 introspected_as P seen now params asker (Keeping digest) =
     introspected_by_text P seen now (Keeping digest) asker (value_of (codes "token") params)
 
--- the outcome for an authenticated client. Such a client was added: `None` never happens
+-- the outcome for an authenticated client (RFC 7662, 2.1). Such a client was added: `None` never
+-- happens
 abbrev pub introspected_by_client : StoreFields → RefreshSeen → ℕ → Pairs → Dot
     → Option ClientFields → Introspected
 introspected_by_client P seen now params asker None = Refused refusal.InvalidClient

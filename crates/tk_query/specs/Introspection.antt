@@ -31,7 +31,7 @@ told Inactive = inactive_reply
 told (Access s) = json_reply Ok (standing_body access_body s)
 told (Refresh s) = json_reply Ok (standing_body refresh_body s)
 
--- the reply to an introspection request
+-- the reply to an introspection request (RFC 7662, 2.2)
 abbrev pub introspection_of : StoreFields → RefreshSeen → ℕ → RequestFields → ReplyFields
 introspection_of P seen now request =
     told

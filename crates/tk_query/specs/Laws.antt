@@ -35,7 +35,7 @@ use Rattle.tk_query.specs.Revocation.{revocation_of}
 use Rattle.tk_query.specs.Introspected.{introspected_by_handle, sees}
 use Rattle.tk_query.specs.Introspection.{told, introspection_of}
 
--- the reply for an active token of the kind: a code is never active
+-- the reply for an active token of the kind (RFC 7662, 2.2): a code is never active (own)
 abbrev pub told_by_kind : Kind → Dot → ℕ → ℕ → List ℕ → List ℕ → ReplyFields
 told_by_kind kind.Code client expiry start scope subject = inactive_reply
 told_by_kind kind.Access client expiry start scope subject =
@@ -43,13 +43,13 @@ told_by_kind kind.Access client expiry start scope subject =
 told_by_kind kind.Refresh client expiry start scope subject =
     json_reply Ok (refresh_body client expiry start scope subject)
 
--- the reply to a client of the given kind for a handle
+-- the reply to a client of the given kind for a handle (RFC 7662, 2.2)
 abbrev pub told_to : StoreFields → RefreshSeen → ℕ → ClientKind → Dot → Handle → ReplyFields
 told_to P seen now client_kind asker h =
     told (introspected_by_handle P seen now client_kind asker (Some h))
 
 -- the reply for an active token that the sender may see has the client and subject of the code, and
--- the expiry, start and scope of the fact that minted the token
+-- the expiry, start and scope of the fact that minted the token (RFC 7662, 2.2)
 abbrev pub SaysActive : Type 0
 SaysActive =
     (P : StoreFields) (seen : RefreshSeen) (now : ℕ) (client_kind : ClientKind) (asker : Dot)
@@ -58,7 +58,7 @@ SaysActive =
     → told_to P seen now client_kind asker h ≡ told_by_kind h.id.kind a.issued.client
     a.minted.expiry a.minted.start a.minted.scope a.issued.subject
 
--- the reply for a token that is not active is that it is not, whoever asks
+-- the reply for a token that is not active is that it is not, whoever asks (RFC 7662, 2.2)
 abbrev pub SaysNothing : Type 0
 SaysNothing =
     (P : StoreFields) (seen : RefreshSeen) (now : ℕ) (client_kind : ClientKind) (asker : Dot)
@@ -66,7 +66,7 @@ SaysNothing =
     → told_to P seen now client_kind asker h ≡ inactive_reply
 
 -- if the client that a refresh token is of sees it alone, the reply to a resource server is that it
--- is not active, whether or not it is
+-- is not active, whether or not it is (own)
 abbrev pub HidesRefresh : Type 0
 HidesRefresh = (P : StoreFields) (now : ℕ) (digest : List ℕ) (asker : Dot) (h : Handle)
     → h.id.kind ≡ kind.Refresh → told_to P ByClient now (Resource digest) asker h ≡ inactive_reply
@@ -74,7 +74,7 @@ HidesRefresh = (P : StoreFields) (now : ℕ) (digest : List ℕ) (asker : Dot) (
 -- ---- two stores that answer each handle alike
 
 -- two stores that answer each handle alike, and have the same clients, give equal replies to an
--- introspection request
+-- introspection request (own)
 abbrev pub IntrospectionsAlike : Type 0
 IntrospectionsAlike = (P Q : StoreFields) (seen : RefreshSeen) (now : ℕ) (request : RequestFields)
     → ((h : Handle) → AnsweredAlike now h (status_here P now h) (status_here Q now h))
@@ -85,7 +85,7 @@ IntrospectionsAlike = (P Q : StoreFields) (seen : RefreshSeen) (now : ℕ) (requ
 -- P and Q answer each handle alike, and have the same clients. Q has each revocation that P has,
 -- and P has each one that Q has of a token that is known and hasn't expired. Then they decide a
 -- revocation request alike, unless the token is not seen and Q alone has its revocation: there P
--- decides as if it was the first
+-- decides as if it was the first (own)
 abbrev pub RevocationsAlike : Type 0
 RevocationsAlike = (P Q : StoreFields) (place : Place) (now : ℕ) (request : RequestFields)
     → ((h : Handle) → AnsweredAlike now h (status_here P now h) (status_here Q now h))

@@ -24,7 +24,8 @@ revoked_by (Done why) = answered (empty_reply Ok)
 revoked_by Later = postponed
 revoked_by (Revokes fact) = record { reply = empty_reply Ok; made = Some (TokenRevoked fact) }
 
--- the decision of a revocation request. Of the place, the region's number and choices count
+-- the decision of a revocation request (RFC 7009, 2.1 and 2.2). Of the place, the region's number
+-- and choices count
 abbrev pub revocation_of : StoreFields → Place → ℕ → RequestFields → Decision
 revocation_of P place now request =
     revoked_by (revoked_by_caller P place now request.params

@@ -57,7 +57,7 @@ use Rattle.tk_query.specs.declared.revoked.Revocation.{Revocation}
 use Rattle.tk_query.specs.declared.revoked.Revocation.TheVariants.{Refused, Done, Revokes, Later}
 
 -- the fact that the client revoked the token of the kind at the handle's dot, by the handle's
--- digest
+-- digest (own)
 abbrev pub revocation_of : Handle → Kind → Dot → TokenRevoked
 revocation_of h k client =
     record { token = record { dot = h.id.dot; kind = k }; digest = digest_of h; client = client }
@@ -74,7 +74,7 @@ proves_secret (Confidential digest) = true
 proves_secret (Resource digest) = true
 proves_secret (Keeping digest) = true
 
--- the sender proved a secret. A sender was added: `None` never happens
+-- the sender proved a secret (own). A sender was added: `None` never happens
 abbrev pub is_authenticated : Option ClientFields → Bool
 is_authenticated None = false
 is_authenticated (Some client) = proves_secret client.client_kind
@@ -120,7 +120,7 @@ revoked_by_status F choice is_own now fact (Broken expiry) =
 revoked_by_status F choice is_own now fact (Known s) =
     if nat_le s.expiry now then Done idle.Past else revoked_by_state F fact s.client s.state
 
--- the token would be of the region with the number
+-- the token would be of the region with the number (own)
 abbrev pub is_own : ℕ → Handle → Bool
 is_own number h = h.id.dot.region == number
 
