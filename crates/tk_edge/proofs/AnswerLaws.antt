@@ -49,6 +49,7 @@ use Rattle.tk_edge.specs.Terms.{TermsFields}
 use Rattle.tk_edge.specs.declared.tell.Fault.{Fault}
 use Rattle.tk_edge.specs.declared.tell.Fault.TheVariants.{Read, Write, Log, Memory}
 
+-- a refusal is answered by its code and the methods that are allowed
 pub refused : (why : Refusal) (code : ErrorCode) (reply : ReplyFields) (allowed : Option (List ℕ))
     (result : Result AnswerFields AllocError)
     → code ≡ code_of why → reply ≡ error_reply code → allowed ≡ allowed_by why
@@ -59,15 +60,18 @@ refused why code reply allowed (Ok a) code_is reply_is allowed_is is =
     ∙ ap (λ (r : ReplyFields). rendered r (allowed_by why) None) (reply_is ∙ ap error_reply code_is)
 refused why code reply allowed (Err e) code_is reply_is allowed_is is = tt
 
+-- a region that is as before gained nothing
 pub gains_nothing : (r : RegionFields) → Gains r None r
 gains_nothing r = record { number = refl; settings = refl; facts = refl }
 
+-- an answer without a fact leaves the region
 pub answers_nothing : (r : RegionFields) (told : AnswerFields)
     (result : Result AnswerFields AllocError)
     → IfOk result (λ a. a ≡ told) → AnswersBy r told None result r
 answers_nothing r told (Ok a) h = (h, gains_nothing r, tt)
 answers_nothing r told (Err e) h = refl
 
+-- a request is answered by the reply that the region prepared
 pub answers_request : (terms : TermsFields) (r : RegionFields) (now : ℕ) (words : List ℕ)
     (request : RequestFields) (p : PreparedFields) (result : Result AnswerFields AllocError)
     (new : RegionFields)
@@ -157,6 +161,7 @@ module _ (asked : Asked) (came : Arrival) (old new : RegionFields) (log : Change
   Told sent result = RepliesTo sent asked.terms asked.now asked.words came
       (record { before = old; after = new }) log still writer sealed result
 
+  -- a request that ended with a status was served so
   pub served : (status : StatusCode) → Told (bundle_to_log asked.log_taken came) (Ok status)
       → IsServed asked (record { before = old; after = new }) log still writer sealed
       (Ok (Done status))
@@ -184,6 +189,7 @@ module _ (asked : Asked) (came : Arrival) (old new : RegionFields) (log : Change
       by (Request request) true arrives told = inl (told.1, told.2)
       by (Notice notice) true arrives told = inl (told.1, told.2)
 
+  -- a request that ended with a fault was served so
   pub faulted : (fault : Fault) → Told (bundle_to_log asked.log_taken came) (Err fault)
       → IsServed asked (record { before = old; after = new }) log still writer sealed (Err fault)
   faulted Read told = absurd

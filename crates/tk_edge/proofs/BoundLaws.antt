@@ -14,6 +14,7 @@ form_within All size le = omega (arith, le)
 form_within Clients size le = le
 form_within Admin size le = le
 
+-- a body that may be sent to a path is within the limit of the reach
 pub size_within : (reach : Reach) (posted : Posted) (size : ℕ) → MayPost reach posted
     → size ≤ limit_of posted → size ≤ body_limit reach.paths
 size_within reach (Form endpoint) size h le = form_within reach.paths size le

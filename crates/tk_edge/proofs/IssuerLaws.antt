@@ -27,6 +27,7 @@ pairs_grow form (pair ∷ pairs) some =
 parts : (form : List ℕ) → 0 < length form → separator form ≡ 38 ∷ []
 parts form some = ap (λ b. cond b (38 ∷ []) []) (lt-ltb 0 (length form) some)
 
+-- a redirect with its issuer is one with a further parameter
 pub adds_iss : AddsIssuer
 adds_iss issuer uri first others =
     let form = extend_pairs [] (first ∷ others) in
@@ -45,6 +46,7 @@ adds_iss issuer uri first others =
     ∙ ap (λ s. uri ++ joint uri ∷ ((form ++ s) ++ iss)) (sym (parts form long))
     ∙ ap (λ f. uri ++ joint uri ∷ f) (sym more)
 
+-- a redirect with its issuer leads where the redirect did
 pub leads_same : LeadsAlike
 leads_same F params None reply leads = leads
 leads_same F params (Some issuer) reply leads = by reply.location leads

@@ -46,6 +46,7 @@ pub begun : (logged : Option (List ℕ)) (log : Change) → logged ≢ None
 begun None log some front = absurd (some refl)
 begun (Some bytes) log some front = front
 
+-- a bundle that the terms refuse changes nothing
 pub refused_lost : RefusedIsLost
 refused_lost terms now old new bytes taken why is h =
     by taken (subst (λ r. PushesBy r old bytes taken new) is h)
@@ -64,10 +65,12 @@ none_outside : (items : Items) → has_outside accept_all items ≡ false
 none_outside [] = refl
 none_outside (i ∷ items) = none_outside items
 
+-- the terms that accept all refuse no bundle
 pub all_accepted : AcceptsAll
 all_accepted now None = refl
 all_accepted now (Some b) = ap (first_refusal false) (none_outside b.items)
 
+-- a bundle that the terms don't refuse is taken in as the region does
 pub taken_as : TakesAsRegion
 taken_as terms now old new bytes taken is h =
     by taken (subst (λ r. PushesBy r old bytes taken new) is h)

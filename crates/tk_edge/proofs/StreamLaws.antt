@@ -53,12 +53,14 @@ use Rattle.tk_edge.specs.declared.reach.PathSet.{PathSet}
 use Rattle.tk_edge.specs.declared.reach.PathSet.TheVariants.{Clients, Admin, All}
 use Rattle.tk_edge.specs.declared.refusal.Refusal.TheVariants.{ShortBody}
 
+-- a form is in the front of the bytes, whatever follows
 pub form_in_front : (front rest : List ℕ) (size : ℕ) → size ≤ length front
     → (nat_le size (length (front ++ rest)) ≡ true) × (take size (front ++ rest) ≡ take size front)
 form_in_front front rest size fits =
     let long : size ≤ length (front ++ rest) = omega (arith, fits, length-append front rest) in
     (le-leb size (length (front ++ rest)) long, take-append-le size front rest fits)
 
+-- a head that is judged arrives as its judgement says
 pub judged_same : (reach : Reach) (h : RequestHead) (rest method target : List ℕ) (judged : Judged)
     → method ≡ h.method → target ≡ h.target
     → judged ≡ judged_of reach method target (map name_and_value h.fields)
@@ -70,6 +72,7 @@ judged_same reach h rest method target judged em et ej =
     ∙ ap (λ t. judged_of reach h.method t pairs) et)
     ∙ ap (λ t. arrival_by t pairs rest (judged_of reach h.method h.target pairs)) et
 
+-- bytes have one meaning
 pub has_one_meaning : HasOneMeaning
 has_one_meaning reach bytes a b (inl (none, p)) (inl (none-2, q)) = p ∙ sym q
 has_one_meaning reach bytes a b (inl (none, p)) (inr (h, rest, reads, has, q)) = absurd (none h has)
@@ -99,6 +102,7 @@ speaks target pairs rest (Body posted n) e =
       | false ↦ λ e. absurd (cc)
     ]) e
 
+-- silence is no byte
 pub silent_is_empty : (reach : Reach) (bytes : List ℕ) → IsArrival reach bytes Silence → bytes ≡ []
 silent_is_empty reach [] came = refl
 silent_is_empty reach (b ∷ bytes) (inl (none, e)) = absurd (cc)
@@ -106,6 +110,7 @@ silent_is_empty reach (b ∷ bytes) (inr (h, rest, reads, has, e)) =
     absurd (speaks h.target (map name_and_value h.fields) rest
     (judged_of reach h.method h.target (map name_and_value h.fields)) e)
 
+-- where nothing is heard, no byte came
 pub hears_nothing : (reach : Reach) (known : Option (List ℕ)) (came : Arrival) → came ≡ Silence
     → Arrives reach known came → (bytes : List ℕ) → known ≡ Some bytes → bytes ≡ []
 hears_nothing reach known came silent arrives bytes is =
@@ -152,10 +157,11 @@ admin_may reach text =
     pick reach (bytes_eq text (codes "/admin/client")) (Some path.Client) _ tt
     (pick reach (bytes_eq text (codes "/admin/clients")) (Some path.Clients) _ tt
     (pick reach (bytes_eq text (codes "/admin/retire")) (Some path.Retire) _ tt
+    (pick reach (bytes_eq text (codes "/admin/secret")) (Some path.Secret) _ tt
     (pick reach (bytes_eq text (codes "/admin/consent")) (Some path.Consent) _ tt
     (pick reach (bytes_eq text (codes "/admin/withdraw")) (Some path.Withdraw) _ tt
     (pick reach (bytes_eq text (codes "/admin/signout")) (Some path.SignOut) _ tt
-    (logins_may reach text))))))
+    (logins_may reach text)))))))
 
 sync_may : (reach : Reach) (text : List ℕ) → reach.paths ≡ All → MayServeIf reach (sync_named text)
 sync_may reach text on =
@@ -322,6 +328,7 @@ headless_may : (reach : Reach) (bytes : List ℕ) → MayArrive reach (headless 
 headless_may reach [] = tt
 headless_may reach (b ∷ bytes) = tt
 
+-- no exchange arrives unless all paths are served, and no notice unless that is
 pub all_heard : HearsAll
 all_heard reach bytes came (inl (none, p)) =
     subst (MayArrive reach) (sym p) (headless_may reach bytes)

@@ -24,8 +24,9 @@ use Rattle.tk_message.specs.declared.request.Endpoint.{Endpoint}
 use Rattle.tk_message.specs.declared.request.Endpoint.TheVariants as endpoint
 use Rattle.tk_edge.specs.declared.path.Path.{Path}
 use Rattle.tk_edge.specs.declared.path.Path.TheVariants.{Authorize, Token, Introspect, Revoke}
-use Rattle.tk_edge.specs.declared.path.Path.TheVariants.{Client, Retire, Consent, Withdraw, SignOut}
-use Rattle.tk_edge.specs.declared.path.Path.TheVariants.{Subject, Logout, Vector, Pull, Push}
+use Rattle.tk_edge.specs.declared.path.Path.TheVariants.{Client, Retire, Secret, Consent}
+use Rattle.tk_edge.specs.declared.path.Path.TheVariants.{Withdraw, SignOut, Subject}
+use Rattle.tk_edge.specs.declared.path.Path.TheVariants.{Logout, Vector, Pull, Push}
 use Rattle.tk_edge.specs.declared.path.Path.TheVariants as paths
 use Rattle.tk_edge.specs.declared.path.Method.{Method}
 use Rattle.tk_edge.specs.declared.path.Method.TheVariants.{Get, Post}
@@ -68,6 +69,7 @@ admin_named path =
     if bytes_eq path (codes "/admin/client") then Some Client
     else if bytes_eq path (codes "/admin/clients") then Some paths.Clients
     else if bytes_eq path (codes "/admin/retire") then Some Retire
+    else if bytes_eq path (codes "/admin/secret") then Some Secret
     else if bytes_eq path (codes "/admin/consent") then Some Consent
     else if bytes_eq path (codes "/admin/withdraw") then Some Withdraw
     else if bytes_eq path (codes "/admin/signout") then Some SignOut
@@ -148,6 +150,7 @@ post_service Revoke = form_for endpoint.Revoke
 post_service Client = form_for endpoint.AddClient
 post_service paths.Clients = None
 post_service Retire = form_for endpoint.Retire
+post_service Secret = form_for endpoint.ChangeSecret
 post_service Consent = form_for endpoint.Consent
 post_service Withdraw = form_for endpoint.Withdraw
 post_service SignOut = form_for endpoint.SignOut

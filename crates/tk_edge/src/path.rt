@@ -29,6 +29,8 @@ pub enum Path {
     Clients,
     /// Retires a client, `/admin/retire` (own).
     Retire,
+    /// Changes the secret of a client, `/admin/secret` (own).
+    Secret,
     /// Adds a consent, `/admin/consent` (own).
     Consent,
     /// Withdraws a consent, `/admin/withdraw` (own).
@@ -209,6 +211,9 @@ fn admin_named(path: &[u8]) -> Option<Path>
     if is_named(path, b"/admin/retire") {
         return Some(Path::Retire);
     }
+    if is_named(path, b"/admin/secret") {
+        return Some(Path::Secret);
+    }
     if is_named(path, b"/admin/consent") {
         return Some(Path::Consent);
     }
@@ -302,6 +307,7 @@ impl Path {
             Path::Revoke => form_for(Endpoint::Revoke),
             Path::Client => form_for(Endpoint::AddClient),
             Path::Retire => form_for(Endpoint::Retire),
+            Path::Secret => form_for(Endpoint::ChangeSecret),
             Path::Consent => form_for(Endpoint::Consent),
             Path::Withdraw => form_for(Endpoint::Withdraw),
             Path::SignOut => form_for(Endpoint::SignOut),

@@ -55,10 +55,12 @@ last_under r k =
     let most = all_under r k (map.entries r.facts.slots) (AllIn-entries r.facts.slots) in
     omega arith
 
+-- the next serial of a capped region is a serial
 pub next_under : (r : RegionFields) → IsCapped r
     → next_serial r.facts.slots r.number ≤ greatest_serial
 next_under r k = let most = last_under r k in omega (arith, k.low)
 
+-- a region without facts is capped
 pub capped_empty : (r : RegionFields) → r.facts ≡ empty_store → r.settings.cap ≤ greatest_cap
     → IsCapped r
 capped_empty r none low = record {
@@ -143,6 +145,7 @@ module _ (n : ℕ) (s : SettingsFields) (P Q : StoreFields)
         low = k.low;
       }
 
+  -- a region stays capped with the items of a bundle, none of which is its own
   pub capped_taken : (o : Option BundleFields) (result : Result ℕ TakeError)
       → TakesIn P next o result Q → IsCapped changed
   capped_taken None (Err Malformed) t = same t
@@ -159,6 +162,7 @@ module _ (n : ℕ) (s : SettingsFields) (P Q : StoreFields)
   ]
   capped_taken (Some b) (Ok m) t = taken b.horizon b.items t.0 t.2.0
 
+  -- a region stays capped with a fact that it made
   pub capped_added : (f : Dot × Body) → IsNextFact r f → Q ≡ with_fact P f.0 f.1 → IsCapped changed
   capped_added f i is =
       subst (λ (R : StoreFields). IsCapped (record { number = n; settings = s; facts = R }))
@@ -210,6 +214,7 @@ module _ (n : ℕ) (s : SettingsFields) where
       })
       steps.1
 
+  -- a region stays capped after a slice of a prune
   pub capped_sliced : (P Q : StoreFields) (moment : ℕ) (after : Option Dot) (count : ℕ)
       (slice : Slice)
       → IsCappedWith P → PrunesSome P moment after count slice Q → IsCappedWith Q

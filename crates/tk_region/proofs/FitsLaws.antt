@@ -60,11 +60,14 @@ all_pass [] h = tt
 all_pass ((d, Held b) ∷ items) h = (none (refusal_of b) h.0.0.1, all_pass items h.1)
 all_pass ((d, Skipped) ∷ items) h = (tt, all_pass items h.1)
 
+-- a bundle has at most 1,024 items
 pub fits_few : (b : BundleFields) → bundle.Fits b → length b.items ≤ 1024
 fits_few b fits = items_few b fits
 
+-- no two items of a bundle have one dot
 pub fits_differ : (b : BundleFields) → bundle.Fits b → Differs b.items
 fits_differ b fits = differs b.items (items_rise b fits)
 
+-- each fact of a bundle passes its check
 pub fits_pass : (b : BundleFields) → bundle.Fits b → AllPass b.items
 fits_pass b fits = all_pass b.items (items_fit b fits)

@@ -10,6 +10,7 @@ use Rattle.tk_region.specs.RegionFields.{RegionFields, Gains}
 use Rattle.tk_region.specs.Step.{PreparedFields, IsNextFact}
 
 module _ (r R : RegionFields) (p P : PreparedFields) (same_region : r ≡ R) (same : p ≡ P) where
+  -- the fact that was prepared is the region's next
   pub next_given : (f : Dot × Body) → p.fact ≡ Some f → IfSome P.fact (IsNextFact R)
       → IsNextFact r f
   next_given f is given =
@@ -18,6 +19,7 @@ module _ (r R : RegionFields) (p P : PreparedFields) (same_region : r ≡ R) (sa
       let here = subst (λ (P : PreparedFields). IfSome P.fact (IsNextFact r)) (sym same) there in
       subst (λ (o : Option (Dot × Body)). IfSome o (IsNextFact r)) is here
 
+  -- a region gains the fact that was prepared
   pub gains_next : (f : Dot × Body) (Q : StoreFields) → p.fact ≡ Some f
       → Q ≡ with_fact r.facts f.0 f.1
       → Gains R P.fact (record { number = r.number; settings = r.settings; facts = Q })
@@ -28,6 +30,7 @@ module _ (r R : RegionFields) (p P : PreparedFields) (same_region : r ≡ R) (sa
       let prepared = subst (λ (P : PreparedFields). Gains r P.fact new) same made in
       subst (λ (R : RegionFields). Gains R P.fact new) same_region prepared
 
+  -- a region gains nothing if no fact was prepared
   pub gains_none : p.fact ≡ None → Gains R P.fact R
   gains_none is =
       let none : Gains R None R = record { number = refl; settings = refl; facts = refl } in

@@ -45,6 +45,7 @@ added_one : (P Q : StoreFields) (f : Dot × Body) (a : Added) → AddsTo P f (Ok
 added_one P Q f a adds =
     one_item P Q (f.0, Held f.1) (added_joins P Q f f a refl adds) (added_horizon P Q f (Ok a) adds)
 
+-- a fact that is added is put into the store
 pub puts_fact : (P Q : StoreFields) (f : Dot × Body) (r : Result Added AddError) → AddsTo P f r Q
     → Puts P (f.0, Held f.1) r Q
 puts_fact P Q f (Ok added.New) adds = (adds.0, added_one P Q f added.New adds)
@@ -67,6 +68,7 @@ skipped_one : (P Q : StoreFields) (d : Dot) (a : Added) → Skips P d (Ok a) Q
 skipped_one P Q d a skips =
     one_item P Q (d, Skipped) (skipped_joins P Q d a skips) (skipped_horizon P Q d (Ok a) skips)
 
+-- a dot that is skipped puts its mark into the store
 pub puts_mark : (P Q : StoreFields) (d : Dot) (r : Result Added AddError) → Skips P d r Q
     → Puts P (d, Skipped) r Q
 puts_mark P Q d (Ok added.New) skips = (skips.0, skipped_one P Q d added.New skips)
@@ -89,15 +91,18 @@ pub item_of_fact : (i : Dot × Slot) (f : Dot × Body) → fact_of i ≡ Some f 
 item_of_fact (d, Held b) f h = ap (λ (g : Dot × Body). (g.0, Held g.1)) (some_injective (d, b) f h)
 item_of_fact (d, Skipped) f h = absurd (none_is_not_some f h)
 
+-- an item without a fact is a mark
 pub item_of_mark : (i : Dot × Slot) → fact_of i ≡ None → i ≡ (i.0, Skipped)
 item_of_mark (d, Held b) h = absurd (none_is_not_some (d, b) (sym h))
 item_of_mark (d, Skipped) h = refl
 
+-- an item at a free dot makes one more known dot
 pub counted_new : (P Q : StoreFields) (e : Dot × Slot) → map.get P.slots e.0 ≡ None
     → Q ≡ items_taken P (e ∷ []) → map.len P.slots + 1 ≡ map.len Q.slots
 counted_new P Q e none is = sym (ap (λ (R : StoreFields). map.len R.slots) is
     ∙ len_new P.slots e.0 (joined_slot (map.get P.slots e.0) e.1) none)
 
+-- an item at a known dot makes no more known dots
 pub counted_held : (P Q : StoreFields) (e : Dot × Slot) → IsSome (map.get P.slots e.0)
     → Q ≡ items_taken P (e ∷ []) → map.len P.slots ≡ map.len Q.slots
 counted_held P Q e known is =
@@ -122,6 +127,7 @@ abbrev pub AllPass : Items → Type 0
 AllPass [] = Unit {0}
 AllPass (i ∷ items) = Passes i.1 × AllPass items
 
+-- the fact of an item at a place passes its check
 pub passes_at : (items : Items) (i : ℕ) (e : Dot × Slot) → AllPass items → i < length items
     → Passes (get_or items i e).1
 passes_at [] i e all lt = absurd (omega arith)
@@ -162,12 +168,14 @@ module _ (P Q : StoreFields) (items : Items) (i : ℕ) (e : Dot × Slot) (is : e
       ∙ sym (ap (with_slots P.slots) (take_at_read items i e within).1
       ∙ with_slots-append P.slots (take i items) (get_or items i e ∷ []))
 
+  -- one more item is taken in
   pub taken_more : (R : StoreFields) → R ≡ items_taken Q (e ∷ [])
       → R ≡ items_taken P (take (i + 1) items)
   taken_more R more =
       more ∙ ap (λ (X : StoreFields). items_taken X (e ∷ [])) so_far
       ∙ ap (λ (S : Slots). record { slots = S; horizon = P.horizon }) one_more
 
+  -- the next item agrees with what was taken in so far
   pub agrees_now : Differs items → AgreesWith P.slots items
       → SlotAgrees (map.get Q.slots e.0) (Some e.1)
   agrees_now differs agree =
@@ -176,6 +184,7 @@ module _ (P Q : StoreFields) (items : Items) (i : ℕ) (e : Dot × Slot) (is : e
       SlotAgrees (map.get X.slots (get_or items i e).0) (Some (get_or items i e).1)) (sym so_far)
       (agrees_at P.slots items i e differs agree within))
 
+  -- the fact of the next item passes its check
   pub passes_now : AllPass items → Passes e.1
   passes_now all = subst (λ (x : Dot × Slot). Passes x.1) (sym is) (passes_at items i e all within)
 
@@ -192,6 +201,7 @@ at_end P Q items i past so_far = so_far ∙ ap (items_taken P) (whole i items pa
 
 -- ---- the horizon
 
+-- raising the horizon leaves the slots
 pub raised_slots : (P : StoreFields) (h : Option ℕ) → (raised P h).slots ≡ P.slots
 raised_slots P None = refl
 raised_slots P (Some moment) = refl
@@ -202,6 +212,7 @@ pub raised_agrees : (P Q : StoreFields) (h : Option ℕ) (items : Items) → Q �
 raised_agrees P Q h items is agree = subst (λ (S : Slots). AgreesWith S items)
     (sym (ap (λ (R : StoreFields). R.slots) is ∙ raised_slots P h)) agree
 
+-- raising the horizon and taking in the items is taking in the bundle
 pub raised_takes : (P Q R : StoreFields) (b : BundleFields) (r : Result ℕ TakeError)
     → Q ≡ raised P b.horizon
     → Takes Q (record { horizon = None; runs = b.runs; items = b.items }) r R → Takes P b r R

@@ -12,6 +12,7 @@ use Rattle.tk_message.specs.declared.request.Endpoint.TheVariants.{Revoke, AddCl
 use Rattle.tk_message.specs.declared.request.Endpoint.TheVariants.{Retire, Consent, Withdraw}
 use Rattle.tk_message.specs.declared.request.Endpoint.TheVariants.{ListClients, SignOut}
 use Rattle.tk_message.specs.declared.request.Endpoint.TheVariants.{ShowSubject, Logout}
+use Rattle.tk_message.specs.declared.request.Endpoint.TheVariants.{ChangeSecret}
 use Rattle.tk_message.specs.RequestFields.{RequestFields}
 use Rattle.tk_message.specs.Decision.{answered, refused}
 use Rattle.tk_authorize.specs.Administration.{administration_of}
@@ -35,6 +36,8 @@ decision_by ShowClient P place now words request =
     administration_of (held_facts P) place now request
 decision_by ListClients P place now words request = listing_of (held_facts P) request.params
 decision_by Retire P place now words request = administration_of (held_facts P) place now request
+decision_by ChangeSecret P place now words request =
+    administration_of (held_facts P) place now request
 decision_by Consent P place now words request = administration_of (held_facts P) place now request
 decision_by Withdraw P place now words request = administration_of (held_facts P) place now request
 decision_by SignOut P place now words request = administration_of (held_facts P) place now request

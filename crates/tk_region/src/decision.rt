@@ -37,6 +37,7 @@ pub(crate) fn decide_endpoint(
         Endpoint::AddClient
         | Endpoint::ShowClient
         | Endpoint::Retire
+        | Endpoint::ChangeSecret
         | Endpoint::Consent
         | Endpoint::Withdraw
         | Endpoint::SignOut

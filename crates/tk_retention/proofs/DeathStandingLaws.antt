@@ -65,6 +65,8 @@ module _ (P : StoreFields) (U F : FactSet) (S : StandsFor P U F) where
     not_before = s.not_before;
   }
 
+  -- a token under a code that ended by the facts stood for ended by those held, or the code's
+  -- family is over
   pub ended_held : (c : Dot) (k : TokenId) → IsEnded (map.get F) k
       → IsMintedUnder (map.get U) k.dot c → IsEnded (map.get H) k ⊎ IsOver U P.horizon c
   ended_held c k e under =
@@ -152,6 +154,8 @@ module _ (P : StoreFields) (U F : FactSet) (S : StandsFor P U F) where
         ]
       ]
 
+  -- a token under a code that is used by the facts stood for is used by those held, or the code's
+  -- family is over
   pub used_held : (c : Dot) (k : TokenId) → IsUsed (links_in (map.get F)) k
       → IsUnder (links_in (map.get U)) k.dot c
       → IsUsed (links_in (map.get H)) k ⊎ IsOver U P.horizon c

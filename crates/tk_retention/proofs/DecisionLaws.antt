@@ -40,7 +40,8 @@ use Rattle.tk_region.specs.Step.{early_in, prepared_by, prepared_of}
 use Rattle.tk_retention.specs.Decides.{DecidesFor}
 use Rattle.tk_retention.specs.StandsFor.{StandsFor, AreSound}
 use Rattle.tk_retention.proofs.LastingLaws.{client_view_same, consent_view_same, consent_for_same}
-use Rattle.tk_retention.proofs.LastingLaws.{signed_out_same, revoked_up, caller_same}
+use Rattle.tk_retention.proofs.LastingLaws.{signed_out_same, last_turn_same, is_set_same}
+use Rattle.tk_retention.proofs.LastingLaws.{revoked_up, caller_same}
 use Rattle.tk_retention.proofs.LoginStandsLaws.{subject_consents_same, subject_logins_same}
 use Rattle.tk_retention.proofs.LoginStandsLaws.{logout_same}
 use Rattle.tk_retention.proofs.EarlyRevocationLaws.{revoked_early}
@@ -74,7 +75,8 @@ module _ (P : StoreFields) (U F : FactSet) (S : StandsFor P U F) (sound : AreSou
   administered request =
       administrations_same H F place now request (client_view_same P U F S)
       (consent_view_same P U F S) (signed_out_same P U F S)
-      (logout_same P U F S sound now soon) (consent_for_same P U F S)
+      (logout_same P U F S sound now soon) (last_turn_same P U F S) (is_set_same P U F S)
+      (consent_for_same P U F S)
       ∙ ap (λ (G : FactSet). administration_of G place now request) (sym back)
 
   -- the decision is equal, or that of a first revocation
@@ -117,6 +119,7 @@ module _ (P : StoreFields) (U F : FactSet) (S : StandsFor P U F) (sound : AreSou
       listings_same H F request.params (client_view_same P U F S)
       ∙ ap (λ (G : FactSet). listing_of G request.params) (sym back))
   by_endpoint endpoint.Retire request = inl (administered request)
+  by_endpoint endpoint.ChangeSecret request = inl (administered request)
   by_endpoint endpoint.Consent request = inl (administered request)
   by_endpoint endpoint.Withdraw request = inl (administered request)
   by_endpoint endpoint.SignOut request = inl (administered request)
@@ -126,6 +129,7 @@ module _ (P : StoreFields) (U F : FactSet) (S : StandsFor P U F) (sound : AreSou
       ∙ ap (λ (G : FactSet). subject_of G now request.params) (sym back))
   by_endpoint endpoint.Logout request = inl (administered request)
 
+-- from the horizon on, each request is decided by the store as by the facts for which it stands
 pub decision_stands : (P : StoreFields) (U F : FactSet) → StandsFor P U F → AreSound U
     → (place : Place) (now : ℕ) → P.horizon ≤ now → (words : List ℕ) (request : RequestFields)
     → DecidesFor F place now words request (decision_of P place now words request)
@@ -135,6 +139,8 @@ decision_stands P U F S sound place now soon words request =
 never_before : (now horizon : ℕ) → horizon ≤ now → nat_lt now horizon ≡ false
 never_before now horizon le = grind (arith, nat_tests)
 
+-- from the horizon on, what a region prepares of a request is prepared of a decision for the facts
+-- for which it stands
 pub region_stands : (r : RegionFields) (U F : FactSet) → StandsFor r.facts U F → AreSound U
     → (now : ℕ) → r.facts.horizon ≤ now → (words : List ℕ) (request : RequestFields)
     → (d : Decision) × DecidesFor F (place_in r) now words request d

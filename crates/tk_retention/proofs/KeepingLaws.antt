@@ -32,6 +32,7 @@ use Rattle.tk_retention.specs.StandsFor.{SlotStands, StandsFor, AreSound, AddsOn
 use Rattle.tk_retention.proofs.OverLaws.{none_some}
 use Rattle.tk_retention.proofs.StandingLaws.{at_skipped, held_made, held_part}
 
+-- a token that is minted by some facts is minted by more facts
 pub minted_more : (F G : FactSet) → IsSubset F G → (k : TokenId) (o : Option MintedFields)
     → minted_in (map.get F) k ≡ o → o ≢ None → minted_in (map.get G) k ≢ None
 minted_more F G w k None h some = absurd (some refl)
@@ -68,6 +69,7 @@ may_more U V w t s h d may = record {
           over = (let a = o.over in omega (arith, a, h));
         }))
 
+-- a slot that stands for a body still does with more facts and at a later moment
 pub slot_more : (U V : FactSet) → IsSubset U V → (t s : ℕ) → t ≤ s
     → (d : Dot) (o : Option Slot) (p : Option Body) → SlotStands U t d o p → SlotStands V s d o p
 slot_more U V w t s h d None p x = x
@@ -232,6 +234,7 @@ module _ (U V : FactSet) (d : Dot) (b : Body) (A : AddsOne U d b V) (sound : Are
             (trail_old q under.path c ne under.leads.0, sym (links_old c away) ∙ under.leads.1);
       }
 
+  -- facts that are sound stay sound with one more that meets its family
   pub sound_stays : MeetsFamily U d V → AreSound V
   sound_stays meets = record {
     ends = λ k m c code other minted under is. elim (cases_dots k.dot d) [

@@ -52,6 +52,8 @@ module _ (P : StoreFields) (U F : FactSet) (S : StandsFor P U F) where
 
   -- ---- consents
 
+  -- the live consents of a subject are the same by the facts held and by those that the store
+  -- stands for
   pub subject_consents_same : (subject : List ℕ) → consents_of H subject ≡ consents_of F subject
   subject_consents_same subject = consents_same H F subject
       (λ d. ap (live_by subject) (consent_view_same P U F S d))
@@ -185,6 +187,7 @@ module _ (P : StoreFields) (U F : FactSet) (S : StandsFor P U F) where
         by_code None at = inl at
         by_code (Some x) at = inr (at ∙ sym (issued_up d x at) ∙ is)
 
+    -- the login of a code is the same by the facts held and by those that the store stands for
     pub login_view_same : login_view H now d ≡ login_view F now d
     login_view_same = by_code (issued_at (map.get F) d) refl
       where
@@ -276,6 +279,8 @@ module _ (P : StoreFields) (U F : FactSet) (S : StandsFor P U F) where
         by_login None at = refl
         by_login (Some login) at = by_state login at login.state refl
 
+  -- the logins of a subject are the same by the facts held and by those that the store stands for,
+  -- from the horizon on
   pub subject_logins_same : AreSound U → (now : ℕ) → P.horizon ≤ now → (subject : List ℕ)
       → logins_of H now subject ≡ logins_of F now subject
   subject_logins_same sound now soon subject =

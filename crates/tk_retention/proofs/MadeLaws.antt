@@ -142,6 +142,8 @@ codes_alone U f = (none, refl, λ reuse same. absurd (cc), λ g same. cc)
     none kind.Access other = refl
     none kind.Refresh other = refl
 
+-- a fact that is within its family, by some of the facts made, meets its family among all facts
+-- made
 pub meets : (F U V : FactSet) (d : Dot) (b : Body) → IsSubset F U → AddsOne U d b V → IsWithin F b
     → MeetsFamily U d V
 meets F U V d (body.CodeRedeemed f) part adds within =

@@ -40,6 +40,7 @@ pub record IsOver (U : FactSet) (t : ℕ) (c : Dot) : Type 0 where
 
 -- ---- small facts
 
+-- an option is not both absent and present
 pub none_some : {A : Type 0} (o : Option A) (a : A) → o ≡ None → o ≡ Some a → ⊥
 none_some o a n s = none_is_not_some a (sym n ∙ s)
 
@@ -53,6 +54,7 @@ kept_linked d (body.RefreshRotated r) l k h e =
     ap (λ (x : TokenId). x.dot) (sym (some_injective _ k e))
 kept_linked d b l k h e = absurd (none_is_not_some l h)
 
+-- the token that a link mints is at the link's dot
 pub grant_dot : (d : Dot) (l : Link) → (grant_at d l).dot ≡ d
 grant_dot d Code = refl
 grant_dot d (Redeems c) = refl
@@ -63,23 +65,28 @@ used_named Code k h = absurd (none_is_not_some k h)
 used_named (Redeems c) k h = ap (λ (x : TokenId). Some x.dot) (some_injective _ k h)
 used_named (Rotates p g) k h = ap (λ (x : TokenId). Some x.dot) (some_injective _ k h)
 
+-- the token that a link uses is at the dot that the link names
 pub use_named : (o : Option Link) (k : TokenId) (l : Link) (p : Dot) → use_of o ≡ Some k
     → o ≡ Some l → named_by l ≡ Some p → k.dot ≡ p
 use_named None k l p u e n = absurd (none_is_not_some k u)
 use_named (Some m) k l p u e n =
     some_injective k.dot p (sym (used_named m k u) ∙ ap named_by (some_injective m l e) ∙ n)
 
+-- the link at a dot is the link of the body there
 pub link_from : (o : Option Body) (b : Body) → o ≡ Some b → (l : Link)
     → option_and_then link_of o ≡ Some l → link_of b ≡ Some l
 link_from o b h l e = sym (ap (option_and_then link_of) h) ∙ e
 
+-- what uses a token is a link
 pub used_link : (o : Option Link) (k : TokenId) → use_of o ≡ Some k → (l : Link) × (o ≡ Some l)
 used_link None k h = absurd (none_is_not_some k h)
 used_link (Some l) k h = (l, refl)
 
+-- what is under a code at a dot is so at an equal dot
 pub under_at : (f : Links) (d e c : Dot) → d ≡ e → IsUnder f d c → IsUnder f e c
 under_at f d e c same u = subst (λ (q : Dot). IsUnder f q c) same u
 
+-- a code whose family ended by the moment is over, also by an equal dot
 pub over_at : (U : FactSet) (t : ℕ) (b c : Dot) (code : issued.CodeIssued) → b ≡ c
     → issued_at (map.get U) b ≡ Some code → code.family_end ≤ t → IsOver U t c
 over_at U t b c code same is over =
@@ -91,6 +98,7 @@ issues_link None code h = absurd (none_is_not_some code h)
 issues_link (Some (body.CodeIssued c)) code h = refl
 issues_link (Some b) code h = absurd (none_is_not_some code h)
 
+-- what is minted under a code at a dot is so at an equal dot
 pub minted_to : (body_at : Bodies) (d e c : Dot) → d ≡ e → IsMintedUnder body_at d c
     → IsMintedUnder body_at e c
 minted_to body_at d e c same u = subst (λ (q : Dot). IsMintedUnder body_at q c) same u
@@ -114,6 +122,7 @@ barren_anchor : (d : Dot) (b : Body) → mints b ≡ false → anchor_of d b ≡
 barren_anchor d (body.AccessRefreshed f) h = absurd (true≢false h)
 barren_anchor d b h = refl
 
+-- the anchor of a dot is that of the body there
 pub anchor_here : (body_at : Bodies) (d : Dot) (b : Body) → body_at d ≡ Some b
     → anchor_in body_at d ≡ anchor_of d b
 anchor_here body_at d b h = ap (anchor_by d) h
@@ -128,6 +137,7 @@ under_mints body_at d c under none =
     let link = link_under (links_in body_at) d c here in
     barren_unlinked body_at d link.0 link.1 none
 
+-- a body at a dot that is minted under a code mints
 pub minting : (body_at : Bodies) (d c : Dot) (b : Body) → body_at d ≡ Some b
     → IsMintedUnder body_at d c → mints b ≡ true
 minting body_at d c b here under = elim (cases_Bool (mints b)) [

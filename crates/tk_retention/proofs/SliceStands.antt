@@ -122,6 +122,7 @@ module _ (P : StoreFields) (U F : FactSet) (S : StandsFor P U F) where
     }
     names_soundly b q here names skipped = absurd (none_is_not_some q names)
 
+    -- a fact that may go, by what the store knows, may be skipped by all facts made
     pub goes_soundly : Goes P d → MaySkip (map.get U) P.horizon d
     goes_soundly (inl may) =
         may_more H U (held_made P U F S) P.horizon P.horizon (omega arith) d may
@@ -254,6 +255,7 @@ module _ (P : StoreFields) (U F : FactSet) (S : StandsFor P U F) where
       inr (ap (λ (x : TokenId). Some x.dot) (some_injective _ k h))
   own_or_named d b k h = absurd (none_is_not_some k h)
 
+  -- as long as a fact that may be skipped, by the facts stood for, is not skipped, some fact may go
   pub progresses : (d : Dot) → MaySkip (map.get F) P.horizon d → is_skipped P.slots d ≢ true
       → (e : Dot) × Goes P e
   progresses d may off = elim (cases_Bool (is_skipped P.slots may.token.dot)) [
@@ -306,6 +308,7 @@ steps_stand P Q U F S sound [] is = subst (λ (R : StoreFields). StandsFor R U F
 steps_stand P Q U F S sound (d ∷ ds) steps =
     steps_stand (with_skipped P d) Q U F (step_stands P U F S sound d steps.0) sound ds steps.1
 
+-- a store of which a slice was pruned stands for the same facts
 pub slice_stands : (old new : StoreFields) (moment : ℕ) (after : Option Dot) (count : ℕ)
     (slice : Slice) (U F : FactSet)
     → PrunesSome old moment after count slice new → StandsFor old U F → AreSound U

@@ -68,29 +68,36 @@ module _ (P : StoreFields) (U F : FactSet) (S : StandsFor P U F) where
   abbrev H : FactSet
   H = held_facts P
 
+  -- at a skipped dot F has what all facts made have
   pub at_skipped : (d : Dot) → is_skipped P.slots d ≡ true → map.get F d ≡ map.get U d
   at_skipped d h = (skipped_stands U P.horizon d (map.get P.slots d) (map.get F d) (S d) h).0
 
+  -- a skipped dot is one that may be skipped by all facts made at the horizon
   pub may_skip : (d : Dot) → is_skipped P.slots d ≡ true → MaySkip (map.get U) P.horizon d
   may_skip d h = (skipped_stands U P.horizon d (map.get P.slots d) (map.get F d) (S d) h).1
 
+  -- at a dot that is not skipped F has what the store holds
   pub at_held : (d : Dot) → is_skipped P.slots d ≡ false → map.get F d ≡ map.get H d
   at_held d h =
       held_stands U P.horizon d (map.get P.slots d) (map.get F d) (S d) h ∙ sym (get_held P.slots d)
 
+  -- at a skipped dot the store holds no fact
   pub apart : (d : Dot) → is_skipped P.slots d ≡ true → map.get H d ≡ None
   apart d h = get_held P.slots d ∙ slot_apart (map.get P.slots d) h
 
+  -- each fact held was made
   pub held_made : IsSubset H U
   held_made d b h = held_slot_made U P.horizon d (map.get P.slots d) (map.get F d) (S d) b
       (sym (get_held P.slots d) ∙ h)
 
+  -- each fact of F was made
   pub all_made : IsSubset F U
   all_made d b h = elim (cases_Bool (is_skipped P.slots d)) [
     | inl skipped ↦ sym (at_skipped d skipped) ∙ h
     | inr held ↦ held_made d b (sym (at_held d held) ∙ h)
   ]
 
+  -- each fact held is one of F
   pub held_part : IsSubset H F
   held_part d b h = elim (cases_Bool (is_skipped P.slots d)) [
     | inl skipped ↦ absurd (none_some (map.get H d) b (apart d skipped) h)
@@ -120,11 +127,13 @@ module _ (P : StoreFields) (U F : FactSet) (S : StandsFor P U F) where
       ∙ sym (anchor_here (map.get U) d may.fact may.here) in
       over_from U P.horizon may.token.dot a c may.why own (under-minted (map.get U) a c under)
 
+  -- what is under a code by F is so by all facts made
   pub made_up : (d c : Dot) → IsUnder (links_in (map.get F)) d c
       → IsUnder (links_in (map.get U)) d c
   made_up d c u =
       IsUnder-within (links_in (map.get F)) (links_in (map.get U)) (links-below F U all_made) d c u
 
+  -- a link of F under a code is held, or the code's family is over
   pub link_held : (d c : Dot) (l : Link) → links_in (map.get F) d ≡ Some l
       → IsUnder (links_in (map.get U)) d c
       → (links_in (map.get H) d ≡ Some l) ⊎ IsOver U P.horizon c
@@ -235,6 +244,8 @@ module _ (P : StoreFields) (U F : FactSet) (S : StandsFor P U F) where
           absurd (barren_unlinked (map.get U) e l at
           (subst (λ (x : Dot). MintsNothing (map.get U) x) own none))
 
+  -- a token under a code that is used twice by F is so by the facts held, or the code's family is
+  -- over
   pub twice_held : (c : Dot) (k : TokenId) → IsTwice (links_in (map.get F)) k
       → IsUnder (links_in (map.get U)) k.dot c
       → IsTwice (links_in (map.get H)) k ⊎ IsOver U P.horizon c
@@ -247,6 +258,7 @@ module _ (P : StoreFields) (U F : FactSet) (S : StandsFor P U F) where
     ]
   ]
 
+  -- a reuse seen by F of a token under a code is held, or the code's family is over
   pub reuse_held : (c : Dot) (k : TokenId) → IsReused (map.get F) k
       → IsUnder (links_in (map.get U)) k.dot c → IsReused (map.get H) k ⊎ IsOver U P.horizon c
   reuse_held c k s under = elim (cases_Bool (is_skipped P.slots s.place)) [
@@ -268,6 +280,7 @@ module _ (P : StoreFields) (U F : FactSet) (S : StandsFor P U F) where
         (ap (λ (x : TokenId). x.dot) (token ∙ s.token)) (under-minted (map.get U) k.dot c under))
   ]
 
+  -- a token that F minted under a code is minted by the facts held, or the code's family is over
   pub mint_held : (c : Dot) (k : TokenId) (m : MintedFields) → minted_in (map.get F) k ≡ Some m
       → IsMintedUnder (map.get U) k.dot c
       → (minted_in (map.get H) k ≡ Some m) ⊎ IsOver U P.horizon c
@@ -277,6 +290,7 @@ module _ (P : StoreFields) (U F : FactSet) (S : StandsFor P U F) where
         inl (ap (option_and_then (λ (b : Body). minted_of b k.kind)) (sym (at_held k.dot held)) ∙ h)
   ]
 
+  -- a code that F issued is issued by the facts held, or its family is over
   pub code_held : (c : Dot) (code : issued.CodeIssued) → issued_at (map.get F) c ≡ Some code
       → (issued_at (map.get H) c ≡ Some code) ⊎ IsOver U P.horizon c
   code_held c code is = elim (cases_Bool (is_skipped P.slots c)) [

@@ -84,6 +84,7 @@ lost_known F now h b m root over past = (
 
 -- ---- small facts
 
+-- a kind is Code, or another
 pub code_or_not : (k : Kind) → (k ≡ kind.Code) ⊎ (k ≢ kind.Code)
 code_or_not kind.Code = inl refl
 code_or_not kind.Access = inr (λ e. cc)
@@ -139,6 +140,7 @@ code_root F k m is h none =
     (root-complete F k.dot k.dot code.0
     (under-minted (map.get F) k.dot k.dot (code_under F k.dot code.0 code.1)) code.1)
 
+-- a code issued by some facts is issued by more
 pub issued_below : (F G : FactSet) → IsSubset F G → (c : Dot) (code : issued.CodeIssued)
     → issued_at (map.get F) c ≡ Some code → issued_at (map.get G) c ≡ Some code
 issued_below F G w c code is = (let x = from_some issued_in (map.get F c) code is in

@@ -60,6 +60,7 @@ module _ (P : StoreFields) (U F : FactSet) (S : StandsFor P U F) where
   module _ (now : ℕ) (soon : P.horizon ≤ now) (root : Root)
       (issues : issued_at (map.get F) root.code ≡ Some root.issued)
       (early : now < root.issued.family_end) where
+    -- a family that is not over at the moment was not over at the horizon
     pub never_over : IsOver U P.horizon root.code → ⊥
     never_over over =
         let same : over.code ≡ root.issued = some_injective over.code root.issued
@@ -130,6 +131,8 @@ module _ (P : StoreFields) (U F : FactSet) (S : StandsFor P U F) where
       state_same m = λ i. state_by (dead_same i) (live_client_same P U F S root.issued.client i)
           (live_consent_same i) (used_same i) (ended_same i) now k m root
 
+      -- the standing of a token whose family is not over is the same by the facts held and by those
+      -- that the store stands for
       pub standing_same : (b : Body) (m : MintedFields)
           → standing_in H now k b m root ≡ standing_in F now k b m root
       standing_same b m = (let state = state_same m in λ i. record {
@@ -330,6 +333,8 @@ module _ (P : StoreFields) (U F : FactSet) (S : StandsFor P U F) where
         (sym right)
         (by_mint b here held (minted_as (map.get F) h) refl))
 
+-- from the horizon on, the statuses of a handle by the store and by the facts stood for are
+-- answered alike
 pub status_stands : (P : StoreFields) (U F : FactSet) → StandsFor P U F → AreSound U → (now : ℕ)
     → P.horizon ≤ now → (h : Handle) → AnsweredAlike now h (status_here P now h) (status_in F now h)
 status_stands P U F S sound now soon h =

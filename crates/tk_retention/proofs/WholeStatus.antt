@@ -16,6 +16,7 @@ unskipped : (o : Option Body) → is_skipped_slot (option_map Held o) ≡ false
 unskipped None = refl
 unskipped (Some b) = refl
 
+-- the status of a handle by the whole store of a set of facts is that by the facts
 pub whole_status : (F : FactSet) (now : ℕ) (h : Handle)
     → status_here (whole_store F) now h ≡ status_in F now h
 whole_status F now h =

@@ -77,6 +77,7 @@ module _ (P : StoreFields) (place : Place) (now : ℕ) (words : List ℕ)
   made_within endpoint.ListClients = subst (λ (o : Option Body). IfSome o (IsWithin (held_facts P)))
       (sym (lists_alone (held_facts P) request.params)) tt
   made_within endpoint.Retire = administered
+  made_within endpoint.ChangeSecret = administered
   made_within endpoint.Consent = administered
   made_within endpoint.Withdraw = administered
   made_within endpoint.SignOut = administered
@@ -93,6 +94,7 @@ module _ (P : StoreFields) (place : Place) (now : ℕ) (words : List ℕ)
       by None x = tt
       by (Some b) x = x
 
+  -- the fact that is prepared of a decision is within its family, if the decision's is
   pub prepares_within : (cap : ℕ) (d : Decision) → MakesWithin (held_facts P) d
       → IfSome (prepared_by cap place d).fact (λ f. IsWithin (held_facts P) f.1)
   prepares_within cap d within =
