@@ -3,13 +3,14 @@
 //!
 //! `serving` has the tests of devices, `pieces` those of requests that haven't come whole, `frail`
 //! a device, and `talks` the requests. `reaches` has the tests of paths, `metrics` those of
-//! `/metrics`, and `lives` those of the lives of clients.
+//! `/metrics`, `lives` those of the lives of clients, and `secrets` those of their secrets.
 
 mod frail;
 mod lives;
 mod metrics;
 mod pieces;
 mod reaches;
+mod secrets;
 mod serving;
 mod talks;
 
@@ -21,8 +22,13 @@ use tk_region::{Region, Settings};
 
 // Returns an edge over region 1 without facts, with a program's default lives.
 fn new_edge(alloc: Global) -> Option<Edge> {
+    edge_of(alloc, 1)
+}
+
+// Returns such an edge over the region of this number.
+fn edge_of(alloc: Global, number: u16) -> Option<Edge> {
     let settings = Settings::new(60, 3_600, 86_400, 2_592_000, 1_000_000)?;
-    let number = RegionNumber::new(1)?;
+    let number = RegionNumber::new(number)?;
     Some(Edge::new(
         Region::new(alloc, number, settings),
         Terms::accept_all(alloc),

@@ -3,7 +3,8 @@
 //! These are the tests of tk_ledger and, in `forests`, of tk_family. `plain` is a ledger that walks
 //! its facts, by the functions of `walks`. `generated` and `histories` compare it with the ledger,
 //! the latter with facts skipped and families pruned; `subjects` has the comparison of what a
-//! subject has. In `refused` and `pruned` memory runs out.
+//! subject has, `secrets` that of the secrets of clients. In `refused` and `pruned` memory runs
+//! out.
 
 mod alike;
 mod checked;
@@ -20,6 +21,7 @@ mod pruned;
 mod refreshed;
 mod refused;
 mod same;
+mod secrets;
 mod sign_outs;
 mod subjects;
 mod walks;

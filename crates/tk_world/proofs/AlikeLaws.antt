@@ -73,6 +73,7 @@ kept_decides k place now words request = by request.endpoint
     by endpoint.ShowClient = refl
     by endpoint.ListClients = refl
     by endpoint.Retire = refl
+    by endpoint.ChangeSecret = refl
     by endpoint.Consent = refl
     by endpoint.Withdraw = refl
     by endpoint.SignOut = refl
@@ -87,10 +88,12 @@ module _ (n : ℕ) (settings : SettingsFields) (U : FactSet) (P : StoreFields) (
   abbrev region_of : StoreFields → RegionFields
   region_of R = record { number = n; settings = settings; facts = R }
 
+  -- two stores that know the same dots give a region the same next serial
   pub serials_same : next_serial P.slots n ≡ next_serial Q.slots n
   serials_same = next_same P.slots k.facts (stands_dots P U k.facts SP) n
       ∙ sym (next_same Q.slots k.facts (stands_dots Q U k.facts (kept_stands k U within)) n)
 
+  -- a region decides at the same place over either store
   pub places_same : place_in (region_of P) ≡ place_in (region_of Q)
   places_same = ap (λ (m : ℕ).
       record { number = n; next = m; lives = lives_of settings; choices = settings.choices })
@@ -156,6 +159,7 @@ module _ (n : ℕ) (settings : SettingsFields) (U : FactSet) (P : StoreFields) (
     Tells heard = TellsBy (region_of Q) k.facts now words heard
         (answer_by (region_of P) now words heard) (fact_by (region_of P) now words heard)
 
+    -- whatever was heard, the region over either store tells what the other tells
     pub tells_by : (heard : Arrival) → Tells heard
     tells_by Silence = inl (refl, refl)
     tells_by (Refused why) = inl (refl, refl)

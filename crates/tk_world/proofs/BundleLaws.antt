@@ -19,6 +19,7 @@ pub made_bundle : (bytes : List ℕ) (b : BundleFields) → bundle.Fits b → by
 made_bundle bytes b fits e =
     ap (λ (o : Option BundleFields). unwrap_or o no_bundle) (spelled_bundle bytes b fits e)
 
+-- bytes that spell a bundle can be read
 pub made_readable : (bytes : List ℕ)
     → ((b : BundleFields) × bundle.Fits b × (bytes ≡ bundle_bytes b)) → IsReadable bytes
 made_readable bytes made = spelled_bundle bytes made.0 made.1 made.2

@@ -31,15 +31,19 @@ use Rattle.tk_world.specs.Pages.{page_of}
 
 -- ---- pages
 
+-- the facts of a page are among those of the set
 pub AllIn-page : (F : FactSet) (v : Vector) (after : Option Dot) → AllIn F (page_of F v after).facts
 AllIn-page F v after = AllIn-take F 128 (beyond F v after) (AllIn-beyond F v after)
 
+-- a page has at most 128 facts
 pub short_page : (F : FactSet) (v : Vector) (after : Option Dot)
     → length (page_of F v after).facts ≤ 128
 short_page F v after = omega (arith, length-take 128 (beyond F v after))
 
 -- ---- regions
 
+-- what holds of the new value, and of the old one at any other number, holds of the value after an
+-- insert
 pub region_of_get : {A : Type 0} (m : map.FinMap nat_cmp A) (n : ℕ) (k : A) (r : ℕ)
     (P : Option A → Type 0)
     → (r ≡ n → P (Some k)) → ((r ≡ n → ⊥) → P (map.get m r)) → P (map.get (map.insert m n k) r)

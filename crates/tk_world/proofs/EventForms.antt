@@ -30,6 +30,7 @@ text_at fields i = (slice_index_or fields i (record { ref_ptr = (0, 0); now = []
 
 -- ---- the two ways to give fields
 
+-- the texts of one field
 pub one : (fs : List (Bor (List ℕ))) → length fs ≡ 1 → texts fs ≡ text_at fs 0 ∷ []
 one [] e = absurd (omega (arith, e))
 one (x ∷ []) e = refl
@@ -44,6 +45,7 @@ three : (fs : List (Bor (List ℕ))) → length fs ≡ 3
 three [] e = absurd (omega (arith, e))
 three (x ∷ fs) e = ap (λ l. x.now ∷ l) (two fs (omega (arith, e)))
 
+-- the texts of four fields
 pub four : (fs : List (Bor (List ℕ))) → length fs ≡ 4
     → texts fs ≡ text_at fs 0 ∷ text_at fs 1 ∷ text_at fs 2 ∷ text_at fs 3 ∷ []
 four [] e = absurd (omega (arith, e))
@@ -82,12 +84,14 @@ no_request_named name other form request h none same =
 -- ---- the fields of an event
 
 module _ (fs : List (Bor (List ℕ))) where
+  -- the fields of an event that opens a region
   pub open_there : (region : ℕ) → length fs ≡ 2 → text_at fs 0 ≡ codes "open"
       → region_in (text_at fs 1) ≡ Some region → IsEventForm (texts fs) (Open region)
   open_there region long name at =
       let at_region = region_found (text_at fs 1) region at in
       (rw (two fs long, name, at_region.1) refl, at_region.0)
 
+  -- the fields of an event that delivers a bundle
   pub deliver_there : (bundle region : ℕ) → length fs ≡ 3 → text_at fs 0 ≡ codes "deliver"
       → decimal_in (text_at fs 1) ≡ Some bundle → region_in (text_at fs 2) ≡ Some region
       → IsEventForm (texts fs) (Deliver bundle region)
@@ -96,6 +100,7 @@ module _ (fs : List (Bor (List ℕ))) where
       let at_region = region_found (text_at fs 2) region at in
       (rw (three fs long, name, given.spelled, at_region.1) refl, given.fits, at_region.0)
 
+  -- the fields of an event that pulls
   pub pull_there : (region : ℕ) (vector : Vector) (after : Option Dot) → length fs ≡ 4
       → text_at fs 0 ≡ codes "pull" → region_in (text_at fs 1) ≡ Some region
       → IsVectorText (text_at fs 2) vector → IsCursorText (text_at fs 3) after
@@ -110,6 +115,7 @@ module _ (fs : List (Bor (List ℕ))) where
         place,
       )
 
+  -- the fields of an event that prunes
   pub prune_there : (region horizon : ℕ) → length fs ≡ 3 → text_at fs 0 ≡ codes "prune"
       → region_in (text_at fs 1) ≡ Some region → moment_in (text_at fs 2) ≡ Some horizon
       → IsEventForm (texts fs) (Prune region horizon)
@@ -167,6 +173,7 @@ module _ (fs : List (Bor (List ℕ))) where
   deliver_only long name none (PruneSome region horizon after most) h =
       absurd (omega (arith, count fs _ h.1))
 
+  -- fields of a delivery without a region are no event
   pub deliver_bad_region : length fs ≡ 3 → text_at fs 0 ≡ codes "deliver"
       → region_in (text_at fs 2) ≡ None → IsNoEventForm (texts fs)
   deliver_bad_region long name none = deliver_only long name
@@ -193,11 +200,13 @@ module _ (fs : List (Bor (List ℕ))) where
   prune_only long name none (PruneSome region horizon after most) h =
       absurd (omega (arith, count fs _ h.1))
 
+  -- fields of a prune without a region are no event
   pub prune_bad_region : length fs ≡ 3 → text_at fs 0 ≡ codes "prune"
       → region_in (text_at fs 1) ≡ None → IsNoEventForm (texts fs)
   prune_bad_region long name none = prune_only long name
       (λ region horizon at is then late. no_region (text_at fs 1) region none is at)
 
+  -- fields of a prune without a moment are no event
   pub prune_bad_moment : length fs ≡ 3 → text_at fs 0 ≡ codes "prune"
       → moment_in (text_at fs 2) ≡ None → IsNoEventForm (texts fs)
   prune_bad_moment long name none = prune_only long name
@@ -225,11 +234,13 @@ module _ (fs : List (Bor (List ℕ))) where
   pull_only long name none (PruneSome region horizon after most) h =
       absurd (omega (arith, count fs _ h.1))
 
+  -- fields of a pull without a region are no event
   pub pull_bad_region : length fs ≡ 4 → text_at fs 0 ≡ codes "pull"
       → region_in (text_at fs 1) ≡ None → IsNoEventForm (texts fs)
   pull_bad_region long name none = pull_only long name
       (λ region vector after at is entries place. no_region (text_at fs 1) region none is at)
 
+  -- fields of a pull without a vector are no event
   pub pull_bad_vector : length fs ≡ 4 → text_at fs 0 ≡ codes "pull" → IsNoVectorText (text_at fs 2)
       → IsNoEventForm (texts fs)
   pull_bad_vector long name none =
@@ -278,6 +289,7 @@ module _ (fs : List (Bor (List ℕ))) where
   abbrev pub rest : List (Bor (List ℕ))
   rest = take (length fs - 3) (drop 3 fs)
 
+  -- fields of a request that no region, moment and request spell are no event
   pub request_bad : IsOther
       → ((region now : ℕ) (request : List ℕ) → text_at fs 1 ≡ decimal region → IsRegion region
       → text_at fs 2 ≡ decimal now → IsMoment now
@@ -288,6 +300,7 @@ module _ (fs : List (Bor (List ℕ))) where
       none region now request at is then late
       (subst (λ l. asked_of (text_at fs 0) (texts l) ≡ Some request) (sym (take_rest fs 3)) form))
 
+  -- the first three texts and the others are all texts
   pub with_rest : 3 ≤ length fs → text_at fs 0 ∷ text_at fs 1 ∷ text_at fs 2 ∷ texts rest ≡ texts fs
   with_rest long = ap (λ l. text_at fs 0 ∷ text_at fs 1 ∷ text_at fs 2 ∷ texts l) (take_rest fs 3)
       ∙ sym (three_up fs long)
@@ -329,10 +342,12 @@ module _ (at then place most : List ℕ) where
       let parts = h.1 in
       none region horizon (cc) h.2 (cc) h.3
 
+  -- fields of a slice of a prune without a region are no event
   pub slice_bad_region : region_in at ≡ None → IsNoEventForm slice_fields
   slice_bad_region none =
       slice_only (λ region horizon is here now late. no_region at region none here is)
 
+  -- fields of a slice of a prune without a moment are no event
   pub slice_bad_moment : moment_in then ≡ None → IsNoEventForm slice_fields
   slice_bad_moment none =
       slice_only (λ region horizon is here now late. no_moment then horizon none late now)
@@ -341,6 +356,7 @@ module _ (at then place most : List ℕ) where
 
 module _ (line : List ℕ) (fs : List (Bor (List ℕ)))
     (parts : texts fs ≡ slice_split is_space line) where
+  -- a printable line whose fields are those of an event is a line of this event
   pub line_there : (event : Event) → IsPrintable line
       → AllWithin (λ f. 0 < length f.now) fs 0 (length fs) → IsEventForm (texts fs) event
       → IsEventLine line event

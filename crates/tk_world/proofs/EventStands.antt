@@ -32,6 +32,7 @@ use Rattle.tk_world.proofs.StepStands.{pull_step_for, slice_step_for}
 
 -- ---- any event
 
+-- what an event did to a world is a step of each state for which the world stands
 pub step_for : (way : Way) (w : WorldFields) (e : Event) (o : Outcome) (new : WorldFields)
     → ActBy way w e o new → (U : FactSet) (s : State) → WorldStands w U s → StepFor way s e o new
 step_for way w (Open n) o new act U s S = open_step_for way w n o new act U s S
@@ -54,6 +55,7 @@ step_standing way w e o new act standing =
     let x = step_for way w e o new act standing.0 standing.1 standing.2 in
     (x.made, x.after, x.stands)
 
+-- a world stands for a state after a pull, if it did before
 pub pull_standing : (w : WorldFields) (r : ℕ) (v : Vector) (after : Option Dot) (o : Outcome)
     (new : WorldFields)
     → PullsAt w r v after o new → IsStanding w → IsStanding new
@@ -61,18 +63,21 @@ pull_standing w r v after o new act standing =
     let x = pull_step_for w r v after o new act standing.0 standing.1 standing.2 in
     (x.made, x.after_it, x.stands)
 
+-- a world stands for a state after a delivery, if it did before
 pub deliver_standing : (w : WorldFields) (i r : ℕ) (o : Outcome) (new : WorldFields)
     → DeliversAt w i r o new → IsStanding w → IsStanding new
 deliver_standing w i r o new act standing =
     let x = deliver_step_for in_place w i r o new act standing.0 standing.1 standing.2 in
     (x.made, x.after, x.stands)
 
+-- a world stands for a state after a prune, if it did before
 pub prune_standing : (w : WorldFields) (r moment : ℕ) (o : Outcome) (new : WorldFields)
     → PrunesAt w r moment o new → IsStanding w → IsStanding new
 prune_standing w r moment o new act standing =
     let x = prune_step_for in_place w r moment o new act standing.0 standing.1 standing.2 in
     (x.made, x.after, x.stands)
 
+-- a world stands for a state after a slice of a prune, if it did before
 pub slice_standing : (w : WorldFields) (r moment : ℕ) (after : Option Dot) (count : ℕ) (o : Outcome)
     (new : WorldFields)
     → PrunesSomeAt w r moment after count o new → IsStanding w → IsStanding new

@@ -129,13 +129,16 @@ module _ (P : StoreFields) (U F : FactSet) (S : StandsFor P U F) where
         by true = inr refl
         by false = inl refl
 
+    -- a page of the store has as many items as the page of its facts has facts
     pub page_length : length its_items ≡ length its_facts
     page_length = sym (length_dots its_items) ∙ ap length page_dots ∙ length_dots its_facts
 
+    -- the page of the store and the page of its facts end at the same dot
     pub page_last : (bundles.page_of P v after).last ≡ (page_of F v after).last
     page_last = ap (λ (ds : List Dot). slice_get ds (length its_items - 1)) page_dots
         ∙ ap (λ n. slice_get (map dot_of its_facts) (n - 1)) page_length
 
+    -- more follows the page of the store exactly if more follows the page of its facts
     pub page_more : (bundles.page_of P v after).more ≡ (page_of F v after).more
     page_more = ap (nat_lt max_items)
         (sym (length_dots (beyond P.slots v after)) ∙ ap length beyond_same
@@ -157,6 +160,7 @@ module _ (U V : FactSet) (within : IsSubset U V) where
       (h.0, item_more horizon f.0 i.1 f.1 h.1, items_more horizon is fs h.2)
   items_more horizon is fs h = absurd h
 
+  -- bundles stand for what was sent when more facts are made, too
   pub bundles_more : (bs : List BundleFields) (cs : List Sent) → BundlesStand U bs cs
       → BundlesStand V bs cs
   bundles_more [] [] h = tt
@@ -170,12 +174,14 @@ module _ (U V : FactSet) (within : IsSubset U V) where
   bundles_more bs cs h = absurd h
 
 module _ (U : FactSet) where
+  -- bundles stand for what was sent with one more bundle, if that stands for one more page
   pub bundles_and : (bs : List BundleFields) (cs : List Sent) (b : BundleFields) (c : Sent)
       → BundlesStand U bs cs → BundleStands U b c → BundlesStand U (bs ++ b ∷ []) (cs ++ c ∷ [])
   bundles_and [] [] b c h one = (one, tt)
   bundles_and (x ∷ bs) (y ∷ cs) b c h one = (h.0, bundles_and bs cs b c h.1 one)
   bundles_and bs cs b c h one = absurd h
 
+  -- there are as many bundles as pages that were sent
   pub bundles_length : (bs : List BundleFields) (cs : List Sent) → BundlesStand U bs cs
       → length bs ≡ length cs
   bundles_length [] [] h = refl
@@ -202,6 +208,7 @@ module _ (U : FactSet) where
   no_bundle_at (x ∷ bs) (y ∷ cs) (suc i) h at = no_bundle_at bs cs i h.1 at
   no_bundle_at bs cs i h at = absurd h
 
+  -- the first items stand for the first facts
   pub items_part : (horizon : Option ℕ) (k : ℕ) (is : Items) (fs : Facts)
       → ItemsStand U horizon is fs → ItemsStand U horizon (take k is) (take k fs)
   items_part horizon zero is fs h = tt

@@ -83,6 +83,7 @@ module _ {X : Type 0} where
   dots_bare [] = refl
   dots_bare (e ∷ es) = ap (λ (l : List Dot). e.0 ∷ l) (dots_bare es)
 
+  -- there are as many dots as entries
   pub length_dots : (es : List (Dot × X)) → length (map dot_of es) ≡ length es
   length_dots [] = refl
   length_dots (e ∷ es) = ap suc (length_dots es)
@@ -99,6 +100,7 @@ module _ {X : Type 0} where
         | false ↦ filter_dots p t same es
       ]
 
+  -- the dots of the first entries are the first dots
   pub take_dots : (k : ℕ) (es : List (Dot × X)) → map dot_of (take k es) ≡ take k (map dot_of es)
   take_dots zero es = refl
   take_dots (suc k) [] = refl
@@ -137,21 +139,25 @@ module _ {X Y : Type 0} (m : sets.FinMap dot_cmp X) (n : sets.FinMap dot_cmp Y)
   known_same = sets.same_map dot_cmp_total dot_cmp-IsAntisymmetric _ _
       (λ q. get_known m q ∙ zero_as (sets.get m q) (sets.get n q) (same q) ∙ sym (get_known n q))
 
+  -- two maps that know the same dots have the same dots in order
   pub dots_same : map dot_of (sets.entries m) ≡ map dot_of (sets.entries n)
   dots_same =
       sym (dots_bare (sets.entries m))
       ∙ ap (map dot_of) (sym (entries_known m) ∙ ap sets.entries known_same ∙ entries_known n)
       ∙ dots_bare (sets.entries n)
 
+  -- two maps that know the same dots have equally many entries
   pub len_same : sets.len m ≡ sets.len n
   len_same = sets.len-entries m ∙ sym (length_dots (sets.entries m)) ∙ ap length dots_same
       ∙ length_dots (sets.entries n) ∙ sym (sets.len-entries n)
 
+  -- two maps that know the same dots give a region the same next serial
   pub next_same : (r : ℕ) → next_serial m r ≡ next_serial n r
   next_same r = ap (λ x. x + 1)
       (last_dots r (sets.entries m) ∙ ap (last_of_dots r) dots_same
       ∙ sym (last_dots r (sets.entries n)))
 
+  -- two maps that know the same dots have the same dots beyond a vector and a cursor
   pub beyond_dots : (v : Vector) (after : Option Dot)
       → map dot_of (beyond m v after) ≡ map dot_of (beyond n v after)
   beyond_dots v after =

@@ -28,6 +28,7 @@ given : (test : ℕ → Bool) (n : ℕ) → n < 2 ^ 64 → test n ≡ true
     → passing test (decimal_in (decimal n)) ≡ Some n
 given test n fits t = ap (passing test) (decimal_back n fits) ∙ ap (λ b. cond b (Some n) None) t
 
+-- a text that is read as a region's number is the decimal form of a region's number
 pub region_found : (text : List ℕ) (n : ℕ) → region_in text ≡ Some n
     → IsRegion n × (text ≡ decimal n)
 region_found text n e =
@@ -37,6 +38,7 @@ region_found text n e =
     range : (n : ℕ) → is_region n ≡ true → IsRegion n
     range n t = grind (arith, nat_tests)
 
+-- a text that is read as a moment is the decimal form of a moment
 pub moment_found : (text : List ℕ) (n : ℕ) → moment_in text ≡ Some n
     → IsMoment n × (text ≡ decimal n)
 moment_found text n e =
@@ -46,6 +48,7 @@ moment_found text n e =
     range : (n : ℕ) → is_moment n ≡ true → IsMoment n
     range n t = grind (arith, nat_tests)
 
+-- a text that is read as no region's number is the decimal form of none
 pub no_region : (text : List ℕ) (n : ℕ) → region_in text ≡ None → IsRegion n → text ≢ decimal n
 no_region text n none range same = none_is_not_some n
     (sym none ∙ ap region_in same ∙ given is_region n (omega arith) (test n range))
@@ -53,6 +56,7 @@ no_region text n none range same = none_is_not_some n
     test : (n : ℕ) → IsRegion n → is_region n ≡ true
     test n h = grind (arith, nat_tests)
 
+-- a text that is read as no moment is the decimal form of none
 pub no_moment : (text : List ℕ) (n : ℕ) → moment_in text ≡ None → IsMoment n → text ≢ decimal n
 no_moment text n none range same = none_is_not_some n
     (sym none ∙ ap moment_in same ∙ given is_moment n (omega arith) (test n range))

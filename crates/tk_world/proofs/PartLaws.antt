@@ -92,6 +92,7 @@ module _ (way : Way) (w : WorldFields) (r : ℕ) (p q : EdgeFields) (asked : Ask
         made.next,
   )
 
+  -- what a carrier did to a region's edge is what the request did to the world
   pub request_act : {E : Type 0} (o : Result Outcome E) → Carries way p asked o q
       → Requests way w r asked o (with_store w r q.region.facts)
   request_act (Ok (Reply status bytes)) a = (
@@ -123,6 +124,7 @@ turned : (w : WorldFields) (r : ℕ) (P Q : StoreFields) → map.get w.regions r
     → Turns w r P Q (with_store w r Q)
 turned w r P Q at = record { is_open = at; changes = refl }
 
+-- a bundle that a region took in is a delivery in the world
 pub deliver_act : (w : WorldFields) (i r : ℕ) (p q : RegionFields) (b : BundleFields) (o : Outcome)
     → map.get w.regions r ≡ Some p.facts → slice_get w.bundles i ≡ Some b → TakesBundle p b o q
     → DeliversAt w i r o (with_store w r q.facts)
@@ -132,6 +134,7 @@ deliver_act w i r p q b Memory at there t =
     (p.facts, q.facts, turned w r p.facts q.facts at, b, there, t.1)
 deliver_act w i r p q b o at there t = absurd t
 
+-- a prune of a region is a prune in the world
 pub prune_act : (w : WorldFields) (r moment : ℕ) (p q : RegionFields) (o : Outcome)
     → map.get w.regions r ≡ Some p.facts → PrunesTo p moment o q
     → PrunesAt w r moment o (with_store w r q.facts)
@@ -142,6 +145,7 @@ prune_act w r moment p q Memory at t = (
 )
 prune_act w r moment p q o at t = absurd t
 
+-- a slice of a prune of a region is one in the world
 pub slice_act : (w : WorldFields) (r moment : ℕ) (after : Option Dot) (count : ℕ)
     (p q : RegionFields) (o : Outcome)
     → map.get w.regions r ≡ Some p.facts → PrunesSomeTo p moment after count o q
@@ -150,6 +154,7 @@ slice_act w r moment after count p q (PrunedSome slice) at t =
     (p.facts, q.facts, turned w r p.facts q.facts at, t.1)
 slice_act w r moment after count p q o at t = absurd t
 
+-- a page that a region made is a pull in the world
 pub pull_act : (w : WorldFields) (r : ℕ) (P : StoreFields) (v : Vector) (after : Option Dot)
     (o : Outcome) (bs : List BundleFields)
     → map.get w.regions r ≡ Some P → Pages (page_of P v after) w.bundles o bs
@@ -166,6 +171,7 @@ world settings rs bs = fields_of settings (entries_of rs) bs
 
 module _ (settings : SettingsFields) (rs : List EdgeFields) (bs : List BundleFields)
     (sorted : T (map.is_sorted nat_cmp (entries_of rs))) (r i : ℕ) where
+  -- at a gap of the list no region is open
   pub absent_at : IsGap nat_cmp (entries_of rs) r i
       → map.get (world settings rs bs).regions r ≡ None
   absent_at gap = get_at_gap nat_cmp_total (entries_of rs) sorted r i gap
@@ -182,6 +188,7 @@ module _ (settings : SettingsFields) (rs : List EdgeFields) (bs : List BundleFie
     opened_entries new h =
         ap entries_of h ∙ entries_insert rs i p ∙ ap (λ x. insert (entries_of rs) i (entry_of x)) is
 
+    -- a region that was put into the list is opened in the world
     pub open_act : (o : Outcome) (new : List EdgeFields) → Opens rs i p o new
         → OpensAt (world settings rs bs) r o (world settings new bs)
     open_act Opened new h = (
@@ -193,6 +200,7 @@ module _ (settings : SettingsFields) (rs : List EdgeFields) (bs : List BundleFie
     open_act Memory new h = (absent_at gap, ap (λ xs. world settings xs bs) h)
     open_act o new h = absurd h
 
+    -- the list stays sorted with the region that is opened
     pub sorted_new : (o : Outcome) (new : List EdgeFields) → Opens rs i p o new
         → T (map.is_sorted nat_cmp (entries_of new))
     sorted_new Opened new h = subst (λ es. T (map.is_sorted nat_cmp es))
@@ -201,6 +209,7 @@ module _ (settings : SettingsFields) (rs : List EdgeFields) (bs : List BundleFie
     sorted_new Memory new h = subst (λ xs. T (map.is_sorted nat_cmp (entries_of xs))) (sym h) sorted
     sorted_new o new h = absurd h
 
+    -- all regions have the world's settings, with the one that is opened too
     pub settings_new : (o : Outcome) (new : List EdgeFields) → Opens rs i p o new
         → HaveSettings settings rs → HaveSettings settings new
     settings_new Opened new h all = subst (HaveSettings settings) (sym h)
@@ -208,6 +217,7 @@ module _ (settings : SettingsFields) (rs : List EdgeFields) (bs : List BundleFie
     settings_new Memory new h all = subst (HaveSettings settings) (sym h) all
     settings_new o new h all = absurd h
 
+  -- at an entry of the list a region is open
   pub found_at : IsAt nat_cmp (entries_of rs) r i
       → IsSome (map.get (world settings rs bs).regions r)
   found_at at = found (map.get (world settings rs bs).regions r)
@@ -222,6 +232,7 @@ module _ (settings : SettingsFields) (rs : List EdgeFields) (bs : List BundleFie
     entry_is : entry_of p ≡ get_or (entries_of rs) i (entry_of p)
     entry_is = entry_at rs i p at.in_range is
 
+    -- the region at the entry has the store of its edge
     pub held_at : map.get (world settings rs bs).regions r ≡ Some p.region.facts
     held_at = get_at_place nat_cmp_total (entries_of rs) sorted r i at (entry_of p)
         ∙ ap (λ e. Some e.1) (sym entry_is)
@@ -254,10 +265,12 @@ module _ (settings : SettingsFields) (rs : List EdgeFields) (bs : List BundleFie
           ∙ ap (λ (n : ℕ). set (entries_of rs) i (n, q.region.facts))
           (number ∙ ap (λ (e : ℕ × StoreFields). e.0) entry_is)
 
+      -- the list stays sorted if an edge takes the place of one with its number
       pub sorted_after : T (map.is_sorted nat_cmp (entries_of (set rs i q)))
       sorted_after = subst (λ es. T (map.is_sorted nat_cmp es)) (sym after)
           (sorted_at_place nat_cmp_total (entries_of rs) sorted r i at q.region.facts (entry_of p))
 
+      -- all regions have the world's settings if an edge with them takes the place of one
       pub settings_after : HaveSettings settings (set rs i q)
       settings_after = settings_set settings rs i q (
         same.0 ∙ (settings_at settings rs i p at.in_range is all).0,
@@ -265,6 +278,7 @@ module _ (settings : SettingsFields) (rs : List EdgeFields) (bs : List BundleFie
         same.2 ∙ terms_at,
       ) all
 
+      -- the world after that has the store of the new edge at this region
       pub world_after : world settings (set rs i q) bs
           ≡ with_store (world settings rs bs) r q.region.facts
       world_after =
@@ -347,6 +361,7 @@ answered_part p q asked told seen is sealed ahead came =
       record { gains = a.2.1; next = a.2.2; sealed = sealed; terms = ahead },
     )
 
+-- a region that takes in a bundle keeps its number, and its edge is as open as before
 pub taken_number : (p q : EdgeFields) (b : BundleFields) (o : Outcome)
     → TakesBundle p.region b o q.region → q.sealed ≡ p.sealed → q.terms ≡ p.terms
     → (q.region.number ≡ p.region.number) × IsAsOpen p q
@@ -354,6 +369,7 @@ taken_number p q b (Took n) t sealed terms = (t.0.number, (t.0.settings, sealed,
 taken_number p q b Memory t sealed terms = (t.0.number, (t.0.settings, sealed, terms))
 taken_number p q b o t sealed terms = absurd t
 
+-- a region that is pruned keeps its number, and its edge is as open as before
 pub pruned_number : (p q : EdgeFields) (moment : ℕ) (o : Outcome)
     → PrunesTo p.region moment o q.region → q.sealed ≡ p.sealed → q.terms ≡ p.terms
     → (q.region.number ≡ p.region.number) × IsAsOpen p q
@@ -364,6 +380,7 @@ pruned_number p q moment Memory t sealed terms = (
 )
 pruned_number p q moment o t sealed terms = absurd t
 
+-- a region of which a slice is pruned keeps its number, and its edge is as open as before
 pub sliced_number : (p q : EdgeFields) (moment : ℕ) (after : Option Dot) (count : ℕ) (o : Outcome)
     → PrunesSomeTo p.region moment after count o q.region → q.sealed ≡ p.sealed → q.terms ≡ p.terms
     → (q.region.number ≡ p.region.number) × IsAsOpen p q

@@ -120,6 +120,8 @@ facts_of o = option_map_or (λ k. k.facts) o map.empty
 abbrev horizon_of : Option Kept → ℕ
 horizon_of o = option_map_or (λ k. k.horizon) o 0
 
+-- from the horizon on, the reply to an introspection depends only on the facts of its region, the
+-- moment and the request
 pub tells_of_sets : (old : State) (es : List Event) (os : List Outcome) (ss : List Facts)
     (new : State) (run : Run old es os ss new)
     → TellsOfSets old es os ss new run
@@ -146,6 +148,7 @@ tells_of_sets old es os ss new run i r now request status reply q from =
     held in
     subst (λ a. IsReplied a status reply) told (at.step.7.0, sym q.replied ∙ at.step.7.1)
 
+-- from their horizons on, regions with equal facts give equal replies
 pub introspect_alike : (old : State) (es : List Event) (os : List Outcome) (ss : List Facts)
     (new : State) (run : Run old es os ss new)
     → IntrospectAlike old es os ss new run
@@ -164,10 +167,12 @@ inactive : (P : StoreFields) (h : Handle) → ((now : ℕ) → ¬ IsActive (map.
 inactive P h never now =
     (never now, λ seen client_kind asker. says_nothing P seen now client_kind asker h (never now))
 
+-- a token that its client revoked is inactive wherever the revocation is held
 pub revoked_inactive : (store : ℕ → StoreFields) → RevokedInactive store
 revoked_inactive store r F within h ended =
     inactive (store r) h (λ now. ends.revoked_inactive F (held_facts (store r)) within now h ended)
 
+-- no token of a family with a bad grant is active wherever the facts of that are held
 pub families_inactive : (store : ℕ → StoreFields) → FamiliesInactive store
 families_inactive store r F within h d c bad under member =
     inactive (store r) h

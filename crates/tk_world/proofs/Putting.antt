@@ -41,6 +41,7 @@ lines_to (x ∷ es) (y ∷ os) (suc i) e o l m p q =
     append_assoc (line_text (x, y)) (lines_text (take i es) (take i os)) (line_text (e, o))
     ∙ ap (λ t. line_text (x, y) ++ t) (lines_to es os i e o (omega arith) (omega arith) p q)
 
+-- an output with the first lines and one more line has one more of the first lines
 pub lines_more : (old mid new : Option (List ℕ)) (es : List Event) (os : List Outcome) (i : ℕ)
     (e : Event) (o : Outcome)
     → i < length es → i < length os → e ≡ get_or es i e → o ≡ get_or os i o
@@ -51,6 +52,7 @@ lines_more old mid new es os i e o l m p q before here =
     (subst (Appends old new) (lines_to es os i e o l m p q)
     (Appends-trans old mid new _ _ before here))
 
+-- an output that fails in a line has a front of all lines
 pub lines_failed : (old mid new : Option (List ℕ)) (es : List Event) (os : List Outcome) (i : ℕ)
     (e : Event) (o : Outcome)
     → i < length es → i < length os → e ≡ get_or es i e → o ≡ get_or os i o

@@ -33,10 +33,12 @@ pub entry_at : (rs : List EdgeFields) (i : ℕ) (p : EdgeFields) → i < length 
 entry_at rs i p within is = ap entry_of is
     ∙ sym (get_or-map entry_of rs i p (entry_of p) (subst (λ n. i < n) (many rs) within))
 
+-- the entries after an edge was replaced are the old ones with that entry replaced
 pub entries_set : (rs : List EdgeFields) (i : ℕ) (q : EdgeFields)
     → entries_of (set rs i q) ≡ set (entries_of rs) i (entry_of q)
 entries_set rs i q = map-set entry_of rs i q
 
+-- the entries after an edge was inserted are the old ones with that entry inserted
 pub entries_insert : (rs : List EdgeFields) (i : ℕ) (q : EdgeFields)
     → entries_of (insert rs i q) ≡ insert (entries_of rs) i (entry_of q)
 entries_insert [] zero q = refl
@@ -101,6 +103,7 @@ in_entries : (rs : List EdgeFields) (r : Result ℕ ℕ) → IsSearchInRange r (
     → IsSearchInRange r (length (entries_of rs))
 in_entries rs r within = subst (IsSearchInRange r) (sym (many rs)) within
 
+-- a search by number in the list of edges finds the entry of a region, or its gap
 pub searched_entries : (rs : List EdgeFields) → T (map.is_sorted nat_cmp (entries_of rs))
     → (k : ℕ) (r : Result ℕ ℕ) → IsSearchInRange r (length rs)
     → IsBinarySearchResult (λ (edge : EdgeFields). nat_cmp edge.region.number k) rs r
@@ -112,6 +115,7 @@ searched_entries rs sorted k r within result =
 -- ---- settings
 
 module _ (settings : SettingsFields) where
+  -- an edge of the list has the world's settings
   pub settings_at : (rs : List EdgeFields) (i : ℕ) (p : EdgeFields) → i < length (entries_of rs)
       → p ≡ get_or rs i p → HaveSettings settings rs → IsOpen settings p
   settings_at rs i p within is all = subst (IsOpen settings) (sym is) (here rs i p within all)
@@ -122,12 +126,14 @@ module _ (settings : SettingsFields) where
       here (r ∷ rs) zero d within all = all.0
       here (r ∷ rs) (suc i) d within all = here rs i d (omega (arith, within)) all.1
 
+  -- all edges have the world's settings after one with them was set
   pub settings_set : (rs : List EdgeFields) (i : ℕ) (q : EdgeFields) → IsOpen settings q
       → HaveSettings settings rs → HaveSettings settings (set rs i q)
   settings_set [] i q same all = tt
   settings_set (r ∷ rs) zero q same all = (same, all.1)
   settings_set (r ∷ rs) (suc i) q same all = (all.0, settings_set rs i q same all.1)
 
+  -- all edges have the world's settings after one with them was inserted
   pub settings_insert : (rs : List EdgeFields) (i : ℕ) (q : EdgeFields) → IsOpen settings q
       → HaveSettings settings rs → HaveSettings settings (insert rs i q)
   settings_insert [] zero q same all = (same, tt)

@@ -92,6 +92,7 @@ module _ (w : WorldFields) (U : FactSet) (s : State) (S : WorldStands w U s) (r 
       neither : nat_lt now P.horizon ≡ nat_lt now 0
       neither = grind (arith, nat_tests, soon)
 
+      -- the region over the store and the one over all facts tell the same of what was heard
       pub tells_unpruned : TellsBy (region_with s r (unpruned kept)) stood now words heard
           (answer_by (region_at w r P) now words heard) (fact_by (region_at w r P) now words heard)
       tells_unpruned =
@@ -172,6 +173,7 @@ pub record AnswerFor (way : Way) (s : State) (r : ℕ) (asked : AskedFields) (o 
   pub answer : IsAnswer way s r asked o seen after
   pub stands : WorldStands new made after
 
+-- a request to a region of a world is answered in each state for which the world stands
 pub asked_for : (way : Way) (w : WorldFields) (r : ℕ) (asked : AskedFields) (o : Outcome)
     (new : WorldFields)
     → AnswersAt way w r asked o new → (U : FactSet) (s : State) → WorldStands w U s

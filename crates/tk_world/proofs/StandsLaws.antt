@@ -45,6 +45,7 @@ pub record OpenFor (w : WorldFields) (U : FactSet) (s : State) (r : ℕ)
   pub stands : StandsFor P U k.facts
   pub horizon : k.horizon ≡ P.horizon
 
+-- a region that is open in the world is open in the state
 pub open_for : (w : WorldFields) (U : FactSet) (s : State) → WorldStands w U s
     → (r : ℕ) (P : StoreFields) → map.get w.regions r ≡ Some P → OpenFor w U s r P
 open_for w U s S r P at = by (map.get s.regions r) refl
@@ -54,6 +55,7 @@ open_for w U s S r P at = by (map.get s.regions r) refl
     by None is x = absurd x
     by (Some k) is x = record { k = k; at = is; stands = x.0; horizon = x.1 }
 
+-- a region that is not open in the world is not open in the state
 pub closed_for : (w : WorldFields) (U : FactSet) (s : State) → WorldStands w U s → (r : ℕ)
     → map.get w.regions r ≡ None → map.get s.regions r ≡ None
 closed_for w U s S r at = by (map.get s.regions r)
@@ -63,6 +65,7 @@ closed_for w U s S r at = by (map.get s.regions r)
     by None x = refl
     by (Some k) x = absurd x
 
+-- if a region is open in the world, one is open in the state
 pub some_for : (w : WorldFields) (U : FactSet) (s : State) → WorldStands w U s → (r : ℕ)
     → IsSome (map.get w.regions r) → IsSome (map.get s.regions r)
 some_for w U s S r is = by (map.get w.regions r) (map.get s.regions r) (S.regions r) is
@@ -100,6 +103,7 @@ stands_put w U V s r P k S more consists sound stands level = record {
 
 -- ---- parts that stay
 
+-- a world that is as before stands for the state as before
 pub unchanged_stands : (w new : WorldFields) (U : FactSet) (s : State) → new ≡ w → WorldStands w U s
     → WorldStands new U s
 unchanged_stands w new U s same S = subst (λ (x : WorldFields). WorldStands x U s) (sym same) S
@@ -114,6 +118,7 @@ put_back w r P at = ap (λ (m : map.FinMap nat_cmp StoreFields).
 abbrev pub no_facts : FactSet
 no_facts = map.empty
 
+-- an empty store stands for no facts
 pub empty_stands : (U : FactSet) → StandsFor empty_store U no_facts
 empty_stands U d = subst (λ (o : Option Slot). SlotStands U 0 d o (map.get no_facts d))
     (sym (map.get-empty dot_cmp d)) (map.get-empty dot_cmp d)

@@ -53,6 +53,7 @@ pub record StepFor (way : Way) (s : State) (e : Event) (o : Outcome)
 
 -- ---- opening a region
 
+-- opening a region is a step of each state for which the world stands
 pub open_step_for : (way : Way) (w : WorldFields) (n : ℕ) (o : Outcome) (new : WorldFields)
     → OpensAt w n o new → (U : FactSet) (s : State) → WorldStands w U s
     → StepFor way s (Open n) o new
@@ -94,6 +95,7 @@ pub record PullFor (s : State) (r : ℕ) (v : Vector) (after : Option Dot) (o : 
   pub pulls : IsPull s r v after o seen after_it
   pub stands : WorldStands new made after_it
 
+-- a pull is a step of each state for which the world stands
 pub pull_step_for : (w : WorldFields) (r : ℕ) (v : Vector) (after : Option Dot) (o : Outcome)
     (new : WorldFields)
     → PullsAt w r v after o new → (U : FactSet) (s : State) → WorldStands w U s
@@ -185,6 +187,7 @@ taken_for w U s S r P Q x horizon moment is seen taken same stands all =
           ∙ ap (λ (R : StoreFields). R.horizon) (sym taken));
     }
 
+-- a delivery is a step of each state for which the world stands
 pub deliver_step_for : (way : Way) (w : WorldFields) (i r : ℕ) (o : Outcome) (new : WorldFields)
     → DeliversAt w i r o new → (U : FactSet) (s : State) → WorldStands w U s
     → StepFor way s (Deliver i r) o new
@@ -291,6 +294,7 @@ deliver_step_for way w i r o new act U s S = absurd act
 
 -- ---- a prune
 
+-- a prune is a step of each state for which the world stands
 pub prune_step_for : (way : Way) (w : WorldFields) (r moment : ℕ) (o : Outcome) (new : WorldFields)
     → PrunesAt w r moment o new → (U : FactSet) (s : State) → WorldStands w U s
     → StepFor way s (Prune r moment) o new
@@ -343,6 +347,7 @@ steps_horizon : (P Q : StoreFields) (ds : List Dot) → Steps P ds Q → Q.horiz
 steps_horizon P Q [] is = ap (λ (R : StoreFields). R.horizon) is
 steps_horizon P Q (d ∷ ds) steps = steps_horizon (with_skipped P d) Q ds steps.1
 
+-- a slice of a prune is a step of each state for which the world stands
 pub slice_step_for : (way : Way) (w : WorldFields) (r moment : ℕ) (after : Option Dot) (count : ℕ)
     (o : Outcome) (new : WorldFields)
     → PrunesSomeAt w r moment after count o new → (U : FactSet) (s : State) → WorldStands w U s

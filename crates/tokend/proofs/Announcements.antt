@@ -26,6 +26,7 @@ begins_later old mid new text more done begun = record {
   appended = Appends-trans old mid new text begun.front done begun.appended;
 }
 
+-- an output that got one text and then prints another one prints both
 pub prints_then : {A E : Type 0} (old mid new : Option (List ℕ)) (text more : List ℕ)
     (r : Result A E)
     → Appends old mid text → Prints r mid new more
@@ -34,6 +35,7 @@ prints_then old mid new text more (Ok x) done printed =
     Appends-trans old mid new text more done printed
 prints_then old mid new text more (Err e) done begun = begins_later old mid new text more done begun
 
+-- a front of a text is a front of a longer text
 pub prints_less : (old new : Option (List ℕ)) (text more : List ℕ) → AppendsFront old new text
     → AppendsFront old new (text ++ more)
 prints_less old new text more begun = begins_longer old new text more begun

@@ -39,6 +39,7 @@ Adds old made new = IsOkAnd made
     (λ s. (out-Command s).has_globals ≡ false
     → app_of new ≡ with_subcommand (app_of old) (app_of s).top)
 
+-- a command that got a subcommand is the old one with it
 pub made_added : {E : Type 0} (old sub : Command) (made r : Result Command E) → made ≡ Ok sub
     → IfOk r (λ c. AddsSubcommand old sub c)
     → IfOk r (Adds old made)

@@ -62,6 +62,7 @@ module _ (asked : Asked) (old new : RegionFields) (log : Change) (still : Type 0
   replied_grows (Some bytes) came result f h =
       pushed_grows asked.terms asked.now old new bytes h.0 h.1
 
+  -- a region only grows by a request that is served
   pub served_grows : (result : Result Served Fault)
       → IsServed asked (record { before = old; after = new }) log still writer sealed result
       → Grows old new
@@ -81,10 +82,12 @@ module _ (asked : Asked) (old new : RegionFields) (log : Change) (still : Type 0
 
 -- ---- a log that is unchanged, by less than the whole of it
 
+-- a reply that used the log did what follows from what it did
 pub uses_less : (P Q : Type 0) (answer : AnswerFields) (result : Result StatusCode Fault) → (P → Q)
     → UsesLog answer P result → UsesLog answer Q result
 uses_less P Q answer result f h = record { unused = λ none. f (h.unused none); fault = h.fault }
 
+-- a reply that wrote nothing to the log left what follows from what it left
 pub writes_less : (P Q : Type 0) (log writer : Change) (sealed : Bool) → (P → Q)
     → WritesNothing log P writer sealed → WritesNothing log Q writer sealed
 writes_less P Q log writer sealed f h = (h.0, h.1, h.2, f h.3)
@@ -143,6 +146,7 @@ runs_out_less P Q true asked region log writer sealed f (inr h) =
           (Err Memory) f h.2,
     )
 
+-- a request that was served left what follows from what it left
 pub served_less : (P Q : Type 0) (asked : Asked) (region : Step) (log writer : Change)
     (sealed : Bool) (result : Result Served Fault)
     → (P → Q)

@@ -78,6 +78,7 @@ unread_by asking edge Memory h = record {
 unread_by asking edge Write h = absurd h
 unread_by asking edge Log h = absurd h
 
+-- a connection that couldn't be read is decided by its fault, and nothing changes
 pub unread : (words : List ℕ) (log_taken : Bool) (edge : EdgeFields) (fault : Fault) (now : ℕ)
     → IsUnread fault
     → IsDecision words log_taken edge (record { end = Err fault; stays = false; reach = plain All; path = None; now = now; granted = None; again = None }) [] edge
@@ -125,6 +126,7 @@ decision_grows_by None words log_taken old ending logged new h =
           served_grows (asked_by (asked_of asking old) h.0 []) old.region new.region (gains logged) (logged ≡ []) (gains h.2) new.sealed ending.end (h.3.served e [] (λ _. refl))
     ] refl
 
+-- a region only grows by what is decided of a connection
 pub decision_grows : (words : List ℕ) (log_taken : Bool) (old : EdgeFields) (ending : Ending) (logged : List ℕ) (new : EdgeFields)
     → IsDecision words log_taken old ending logged new
     → Grows old.region new.region
@@ -138,6 +140,7 @@ pub as_served : (asking : Asking) (old new : EdgeFields) (found : Option (Served
     → FrontDecides asking old (Ok found) reply logged new → FrontDecides asking old (Ok (Some (served, taken))) reply logged new
 as_served asking old new found served taken reply logged is h = subst (λ o. FrontDecides asking old (Ok o) reply logged new) is h
 
+-- there is no fault if none is known
 pub none_of : (fault : Option Fault) → is_some fault ≡ false → fault ≡ None
 none_of None h = refl
 none_of (Some fault) h = absurd (clash h)
@@ -169,6 +172,7 @@ taken_some asking old taken h stays =
       | false ↦ λ e. let come = h.0 e in some_taken asking.reach asking.bytes come.0 taken come.1.takes stays
     ] refl
 
+-- an outcome takes no more bytes than have come
 pub outcome_within : (asking : Asking) (old : EdgeFields) (keeps : Bool) (served : Served) (taken : Taken) (outcome : Outcome)
     → IsTaken asking old taken → outcome ≡ outcome_by keeps served taken
     → taken_of outcome ≤ length asking.bytes
@@ -179,6 +183,7 @@ both_true : (a b : Bool) → (a && b) ≡ true → b ≡ true
 both_true true b e = e
 both_true false b e = absurd (clash (sym e))
 
+-- an outcome after which the connection goes on takes some bytes
 pub outcome_some : (asking : Asking) (old : EdgeFields) (keeps : Bool) (served : Served) (taken : Taken) (outcome : Outcome)
     → IsTaken asking old taken → outcome ≡ outcome_by keeps served taken
     → goes_on outcome ≡ true → 0 < taken_of outcome
@@ -186,6 +191,7 @@ outcome_some asking old keeps Nothing taken outcome h is on = absurd (clash (sym
 outcome_some asking old keeps (Done status) taken outcome h is on =
     subst (λ o. 0 < taken_of o) (sym is) (taken_some asking old taken h (both_true keeps taken.stays (sym (ap goes_on is) ∙ on)))
 
+-- a request that ended is one that was decided
 pub ends_decides : (old : Server) (bytes : List ℕ) (over keeps : Bool) (served : Served) (taken : Taken) (outcome : Outcome) (replied logged : List ℕ) (new : Server)
     → outcome ≡ outcome_by keeps served taken
     → Ends old bytes over outcome replied logged new → Decides old bytes over outcome replied logged new

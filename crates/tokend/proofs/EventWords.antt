@@ -14,6 +14,7 @@ each_pushed P (y ∷ ys) x each last zero = each zero
 each_pushed P (y ∷ ys) x each last (suc k) =
     each_pushed (λ n. P (suc n)) ys x (λ n. each (suc n)) last k
 
+-- each event has its words, with one more event that has its own
 pub words_pushed : (events : List Event) (event : Event)
     → ((k : ℕ) → IfSome (slice_get events k) (HasWords (words_at k)))
     → HasWords (words_at (length events)) event → (k : ℕ)
@@ -21,6 +22,7 @@ pub words_pushed : (events : List Event) (event : Event)
 words_pushed events event each last =
     each_pushed (λ k e. HasWords (words_at k) e) events event each last
 
+-- no event is too long, with one more that isn't
 pub short_pushed : (longest : Option ℕ) (events : List Event) (event : Event)
     → AreShort longest events → ¬ (IsTooLong longest event)
     → AreShort longest (events ++ event ∷ [])

@@ -26,6 +26,7 @@ use Rattle.tokend.specs.declared.fault.Fault.TheVariants.{CannotReadFile, Facts,
 use Rattle.tokend.specs.declared.fault.Fault.TheVariants.{PruneAhead, ScriptTooLong, SharedFolder}
 use Rattle.tokend.specs.declared.fault.Fault.TheVariants.{SocketFailed, SocketInUse, Words}
 
+-- a fault of bad bytes in a source is one of a source
 pub is_bad : (name : Text) (offset : ℕ) (fault : Fault) → IsBadSource name offset fault
     → IsSourceFault fault
 is_bad name offset (Facts why) h = tt
@@ -45,6 +46,7 @@ is_bad name offset (BadLine n) h = absurd h
 is_bad name offset Memory h = absurd h
 is_bad name offset Output h = absurd h
 
+-- a fault of a source that can't be read is one of a source
 pub is_unread : (name : Text) (fault : Fault) → IsUnreadSource name fault → IsSourceFault fault
 is_unread name (Facts why) h = tt
 is_unread name (Words error) h = absurd h
@@ -103,11 +105,13 @@ source_fault name known fault old new (inl h) = by h.0 h.2
     by (Ok cut) e = absurd (cc)
     by (Err why) told = is_told name why fault told
 
+-- a fault of the sources after the first is theirs
 pub later_fault : (cut : ℕ) (later : Result ℕ Fault) (fault : Fault)
     → Err fault ≡ with_cut cut later → later ≡ Err fault
 later_fault cut (Ok n) fault e = absurd (cc)
 later_fault cut (Err why) fault e = sym e
 
+-- a fault is no success
 pub no_error : (fault : Fault) (n : ℕ) → Err fault ≡ Ok n → ⊥
 no_error fault n e = absurd (cc)
 
@@ -122,6 +126,7 @@ each_fault (name ∷ more) input fault old new (inr h) =
     (subst (λ (r : Result ℕ Fault). PrintsEach more h.2 r h.1 new) (later_fault h.0 h.3 fault h.7)
     h.6)
 
+-- printing sources ends only with the faults of `tokend facts`
 pub facts_fault : (s : Sources) (input : Option (List ℕ)) (fault : Fault)
     (old new : Option (List ℕ))
     → PrintsSources s input (Err fault) old new → IsFactsFault fault
@@ -131,6 +136,7 @@ facts_fault s input fault old new h = by (map string_bytes s.names.items) h
     by [] h = source_fault _ input fault old new h
     by (name ∷ more) h = each_fault (name ∷ more) input fault old new h
 
+-- facts are printed once all sources are, and what was dropped is told
 pub all_printed : (s : Sources) (input : Option (List ℕ)) (r : Result ℕ Fault) (cut : ℕ)
     (mid : Option (List ℕ)) (output : Change) (faults : Writing)
     → r ≡ Ok cut
@@ -144,6 +150,7 @@ all_printed s input r cut mid output faults is h kept told = record {
   told = told;
 }
 
+-- if a source has a fault, the output has the lines before it
 pub fault_left : (s : Sources) (input : Option (List ℕ)) (r : Result ℕ Fault) (fault : Fault)
     (old mid new : Option (List ℕ))
     → r ≡ Err fault
@@ -174,6 +181,7 @@ fault_left s input r fault old mid new is h kept =
     of (BadLine n) f h = absurd f
     of Memory f h = absurd f
 
+-- if a source has a fault, that is one of `tokend facts`
 pub fault_of_sources : (s : Sources) (input : Option (List ℕ)) (r : Result ℕ Fault) (fault : Fault)
     (old mid : Option (List ℕ))
     → r ≡ Err fault
@@ -186,11 +194,13 @@ fault_of_sources s input r fault old mid is h =
 abbrev pub texts_in : Bor (List (Bor Text)) → List Text
 texts_in s = map (λ (v : Bor Text). v.now) s.now
 
+-- the values of an argument are those of its rows, or there are none
 pub rows_named : (f : Found) (id : Text) (r : Option (Bor (List (Bor Text))))
     → option_map texts_in r ≡ option_map raw_values (matched_of f id)
     → unwrap_or (option_map texts_in r) [] ≡ unwrap_or (all_of id (rows_of f)) []
 rows_named f id r e = ap (λ (o : Option (List Text)). unwrap_or o []) (e ∙ raw_values-rows f id)
 
+-- the values of an argument that was sent are those of its rows
 pub some_named : (f : Found) (id : Text) (r : Option (Bor (List (Bor Text))))
     (s : Bor (List (Bor Text)))
     → r ≡ Some s
@@ -200,6 +210,7 @@ some_named f id r s is e =
     ap (λ (o : Option (Bor (List (Bor Text)))). unwrap_or (option_map texts_in o) []) (sym is)
     ∙ rows_named f id r e
 
+-- an argument that was not sent has no values
 pub none_named : (f : Found) (id : Text) (r : Option (Bor (List (Bor Text)))) → r ≡ None
     → option_map texts_in r ≡ option_map raw_values (matched_of f id)
     → [] ≡ unwrap_or (all_of id (rows_of f)) []

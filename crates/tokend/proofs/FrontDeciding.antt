@@ -280,6 +280,7 @@ module _ (a n c w : List ℕ) (still : Type 0) (sealed : Bool) where
 
 -- ---- what serving the front of bytes decides
 
+-- yes is not no
 pub clash : true ≡ false → ⊥
 clash e = cc
 
@@ -379,6 +380,7 @@ module _ (asking : Asking) (old new : EdgeFields) (a n c w : List ℕ) (still : 
       let b = away_behind a n c w still new.sealed (Err fault) h in
       (b.0, [], b.1, unchanged same.1 ∙ sym (append-nil a), away (Err fault) shut same h)
 
+  -- what a front end's request came to is a decision, sealed or not
   pub front_decides : (result : Result (Option (Served × Taken)) Fault)
       → (old.sealed ≡ false → Fronts result)
       → (old.sealed ≡ true → IsFrontTurnedAway asking.bytes (memory c w) result)

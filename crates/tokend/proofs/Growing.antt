@@ -61,10 +61,12 @@ with_items_above P (Some moment) items agree =
 
 -- ---- regions
 
+-- a region that is as before has grown, by nothing
 pub grows_same : (old new : RegionFields) → new ≡ old → Grows old new
 grows_same old new same = subst (Grows old) (sym same)
     (record { number = refl; settings = refl; facts = same_store old.facts old.facts refl })
 
+-- a region that has grown twice has grown
 pub grows_twice : (old mid new : RegionFields) → Grows old mid → Grows mid new → Grows old new
 grows_twice old mid new h k = record {
   number = k.number ∙ h.number;

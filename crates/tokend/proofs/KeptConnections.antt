@@ -357,6 +357,7 @@ decision_stays : (words : List ℕ) (old : EdgeFields) (end : Ending) (logged : 
     → IsDecision words true old end logged new → old.sealed ≡ true → new.sealed ≡ true
 decision_stays words old end logged new h e = decision_stays_by end.again words old end logged new h e
 
+-- an edge that is sealed stays so through the decisions of a turn
 pub decisions_stay : (words : ChaCha) (old : EdgeFields) (ends : Endings) (records : List ℕ) (new : EdgeFields)
     → AreDecisions words true old ends records new → old.sealed ≡ true → new.sealed ≡ true
 decisions_stay words old [] records new h e = ap (λ (x : EdgeFields). x.sealed) h.0 ∙ e
@@ -372,6 +373,7 @@ turn_stays words old ends new h e = of h.log
     of (inl kept) = ap (λ (x : EdgeFields). x.sealed) kept.edge ∙ decisions_stay words old.edge ends h.records h.edge h.decided e
     of (inr lost) = ap (λ (x : EdgeFields). x.sealed) lost.edge
 
+-- an edge that is sealed stays so through turns
 pub turns_stay : (words : ChaCha) (old : Running) (turns : List Endings) (new : Running)
     → AreTurns words true old turns new → old.edge.sealed ≡ true → new.edge.sealed ≡ true
 turns_stay words old [] new same e = ap (λ (r : Running). r.edge.sealed) same ∙ e
@@ -389,6 +391,7 @@ decision_adds_by None words old end logged new h open_old open_new =
     served (Some []) (Some logged) old.region new.region asked refl (logged ≡ []) (gains h.2) end.end
     (subst (λ b. IsServed asked (record { before = old.region; after = new.region }) (gains logged) (logged ≡ []) (gains h.2) b end.end) open_new (h.3.served open_old [] (λ _. refl)))
 
+-- what a decision logs has what it added to the region
 pub decision_adds : (words : List ℕ) (old : EdgeFields) (end : Ending) (logged : List ℕ) (new : EdgeFields)
     → IsDecision words true old end logged new
     → old.sealed ≡ false → new.sealed ≡ false → Grows end.end (Some []) (Some logged) old.region.facts new.region.facts

@@ -134,6 +134,7 @@ log_is log news bundles logged fit is =
       torn = inl refl;
     })
 
+-- the log of bundles keeps all that the region held
 pub keeps_all : LogKeepsAll
 keeps_all olds region log h news logged bytes all are among_olds among_news new loaded dropped
     loads =
@@ -281,6 +282,7 @@ module _ (all back : List BundleFields) (rest cut : List ℕ) (torn : IsTorn cut
       of (y ∷ ys) fit left = none.1 y
           (fit.0, (log_bytes ys ++ cut, left ∙ append_assoc (bundle_bytes y) (log_bytes ys) cut))
 
+-- the log of bundles is loaded again
 pub loads_all : LogLoads
 loads_all olds region log h calm news logged bytes are new loaded empty fresh result loads =
     by result loads

@@ -42,6 +42,7 @@ joined_from u (Some (Held x)) (Held y) below = inl refl
 joined_from u (Some (Held x)) Skipped below = inr below
 joined_from u (Some Skipped) s below = inl refl
 
+-- a slot that comes from another by a third comes from it
 pub from_twice : (u r s t : Option Slot) → IsFrom u r s → IsFrom u s t → IsFrom u r t
 from_twice u r s t h (inr below) = inr below
 from_twice u r s t (inl same) (inl again) = inl (again ∙ same)
@@ -70,6 +71,7 @@ known_before prunes u r s (inl (inl same)) (inl some) = inl (λ none. some (same
 known_before prunes u r s (inl (inr below)) (inl some) = inr (below_known s u below some)
 known_before prunes u r s (inr gone) (inl some) = gone.2
 
+-- a slot that is left of another by a third is left of it
 pub left_twice : (prunes : Bool) (u r s t : Option Slot) → IsLeft prunes u r s → IsLeft prunes u s t
     → IsLeft prunes u r t
 left_twice prunes u r s t h (inl (inr below)) = inl (inr below)
@@ -172,6 +174,7 @@ unchanged_slot (Some Skipped) s e = refl
 unchanged_slot (Some (Held b)) (Held c) e = refl
 unchanged_slot (Some (Held b)) Skipped e = absurd (cc)
 
+-- if neither of two holds, each doesn't
 pub neither : (a b : Bool) → (a || b) ≡ false → (a ≡ false) × (b ≡ false)
 neither true b e = absurd (cc)
 neither false b e = (refl, e)

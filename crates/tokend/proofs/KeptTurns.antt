@@ -174,6 +174,7 @@ late_rest : (u : ℕ) (xs ys : List BundleFields) → NoneLater (xs ++ ys) u →
 late_rest u [] ys h = h
 late_rest u (x ∷ xs) ys h = late_rest u xs ys h.1
 
+-- all items of two lists of bundles are known if those of each are
 pub each_both : (U : Slots) (xs ys : List BundleFields) → EachBelow U xs → EachBelow U ys
     → EachBelow U (xs ++ ys)
 each_both U [] ys h k = k
@@ -184,6 +185,7 @@ with_both : (L : Slots) (xs ys : List BundleFields)
 with_both L [] ys = refl
 with_both L (x ∷ xs) ys = with_both (with_slots L x.items) xs ys
 
+-- two lists of bundles fit one after the other
 pub fits_both : (L : Slots) (xs ys : List BundleFields) → FitsEach L xs
     → FitsEach (with_each L xs) ys → FitsEach L (xs ++ ys)
 fits_both L [] ys h k = k
@@ -281,6 +283,7 @@ paused old new (inr (inr (inl loses))) = record {
     of U d (inl same) = inl (inl same)
     of U d (inr gone) = inr (loses.prunes, gone.0, inl gone.1)
 
+-- turns write bundles that have what they added to the region
 pub through : (words : ChaCha) (old : Running) (turns : List Endings) (new : Running) (l m : List ℕ)
     → AreTurns words true old turns new
     → old.log ≡ Some l → new.log ≡ Some m → old.edge.sealed ≡ false → new.edge.sealed ≡ false

@@ -27,6 +27,7 @@ use Rattle.tokend.specs.Loading.{TakesEach, TakesFront, TakesOne, front_end, log
 use Rattle.tokend.specs.declared.load.LoadFault.{LoadFault}
 use Rattle.tokend.specs.declared.load.LoadFault.TheVariants.{Malformed, Refused, Memory, Read}
 
+-- no bundle of a log is taken in before the first
 pub front_none : (region : RegionFields) (log : List ℕ) → TakesFront region log log region
 front_none region log = record { bundles = []; fit = tt; parts = refl; each = refl }
 
@@ -42,6 +43,7 @@ each_more old mid new [] b same takes =
     (new, subst (λ (r : RegionFields). (n : ℕ) × TakesAs r b (Ok n) new) same takes, refl)
 each_more old mid new (a ∷ more) b h takes = (h.0, h.1, each_more h.0 mid new more b h.2 takes)
 
+-- one more bundle of a log is taken in behind those before it
 pub front_more : (old mid new : RegionFields) (log rest more : List ℕ) (b : BundleFields)
     → TakesFront old log rest mid → bundle.Fits b
     → rest ≡ bundle_bytes b ++ more → ((n : ℕ) × TakesAs mid b (Ok n) new)
@@ -107,6 +109,7 @@ same_region : (old new : RegionFields) → new.number ≡ old.number → new.set
 same_region old new number settings facts =
     λ i. record { number = number i; settings = settings i; facts = facts i }
 
+-- a bundle that is taken in is one step of a load
 pub take_one : (offset : ℕ) (old new : RegionFields) (rest : List ℕ) (x : BundleFields × ℕ)
     (result : Result ℕ TakeError)
     → new.number ≡ old.number → new.settings ≡ old.settings → x.1 ≤ length rest → bundle.Fits x.0

@@ -31,11 +31,13 @@ use Rattle.tokend.proofs.KeptSlots.{IsFrom, below_more, from_twice, items_below,
 
 -- ---- bytes
 
+-- two lists of bundles that fit are one list of bundles that fit
 pub both_bundles : (xs ys : List BundleFields) → AreBundles xs → AreBundles ys
     → AreBundles (xs ++ ys)
 both_bundles [] ys a b = b
 both_bundles (x ∷ xs) ys a b = (a.0, both_bundles xs ys a.1 b)
 
+-- the bytes of two lists of bundles follow one another
 pub both_bytes : (xs ys : List BundleFields) → log_bytes (xs ++ ys) ≡ log_bytes xs ++ log_bytes ys
 both_bytes xs ys = flat_map-append bundle_bytes xs ys
 
@@ -59,6 +61,7 @@ pub record Parted (xs ys : List BundleFields) (rest cut : List ℕ) : Type 0 whe
   pub all : ys ≡ xs ++ more
   pub left : rest ≡ log_bytes more ++ cut
 
+-- a log that begins with some bundles and has others in all has the first among these
 pub parted : (xs ys : List BundleFields) (rest cut : List ℕ) → AreBundles xs → AreBundles ys
     → IsTorn cut → log_bytes xs ++ rest ≡ log_bytes ys ++ cut → Parted xs ys rest cut
 parted [] ys rest cut fx fy torn e = record { more = ys; fit = fy; all = refl; left = e }
@@ -108,6 +111,7 @@ abbrev pub NoneLater : List BundleFields → ℕ → Type 0
 NoneLater [] horizon = Unit {0}
 NoneLater (b ∷ more) horizon = IsNotLater b.horizon horizon × NoneLater more horizon
 
+-- the slots after items are taken in are the old ones with these items
 pub taken_slots : (P Q : StoreFields) (horizon : Option ℕ) (items : Items)
     → Q ≡ items_taken (raised P horizon) items → Q.slots ≡ with_slots P.slots items
 taken_slots P Q None items is = ap (λ (R : StoreFields). R.slots) is
@@ -148,6 +152,7 @@ horizon_from P Q (Some moment) items u is low =
     subst (λ n. n ≤ max P.horizon u) (sym (ap (λ (R : StoreFields). R.horizon) is))
     (no_later moment P.horizon u low)
 
+-- a horizon that is not later than a moment is not later than a later one
 pub later_more : (h : Option ℕ) (m n : ℕ) → m ≤ n → IsNotLater h m → IsNotLater h n
 later_more None m n le h = tt
 later_more (Some moment) m n le h = omega (arith, le, h)
@@ -160,6 +165,7 @@ pub record IsAbove (old : RegionFields) (bundles : List BundleFields)
   pub late : NoneLater bundles new.facts.horizon
   pub horizon : old.facts.horizon ≤ new.facts.horizon
 
+-- a region that took in bundles knows all of their items, and its horizon is not before theirs
 pub each_below : (old : RegionFields) (bundles : List BundleFields) (new : RegionFields)
     → AreBundles bundles → TakesEach old bundles new → IsAbove old bundles new
 each_below old [] new fit same = record {
@@ -201,12 +207,14 @@ each_from old (b ∷ more) new U h each d =
 
 -- ---- lists of bundles
 
+-- the items of one of the bundles are known if those of all are
 pub below_in : (U : Slots) (b : BundleFields) (all : List BundleFields) → IsIn b all
     → EachBelow U all → AllBelow U b.items
 below_in U b [] h each = absurd h
 below_in U b (x ∷ xs) (inl is) each = subst (λ (y : BundleFields). AllBelow U y.items) is each.0
 below_in U b (x ∷ xs) (inr more) each = below_in U b xs more each.1
 
+-- the items of some of the bundles are known if those of all are
 pub below_among : (U : Slots) (xs all : List BundleFields) → AreAmong xs all → EachBelow U all
     → EachBelow U xs
 below_among U [] all h each = tt
@@ -219,12 +227,14 @@ later_in horizon b (x ∷ xs) (inl is) late =
     subst (λ (y : BundleFields). IsNotLater y.horizon horizon) is late.0
 later_in horizon b (x ∷ xs) (inr more) late = later_in horizon b xs more late.1
 
+-- the horizons of some of the bundles are no later than those of all
 pub later_among : (horizon : ℕ) (xs all : List BundleFields) → AreAmong xs all
     → NoneLater all horizon → NoneLater xs horizon
 later_among horizon [] all h late = tt
 later_among horizon (x ∷ xs) all h late =
     (later_in horizon x all h.0 late, later_among horizon xs all h.1 late)
 
+-- items that are known stay known when more is
 pub each_more : (S T : Slots) (bundles : List BundleFields) → SlotsBelow S T → EachBelow S bundles
     → EachBelow T bundles
 each_more S T [] h each = tt

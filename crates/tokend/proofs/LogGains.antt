@@ -49,11 +49,13 @@ abbrev pub Grows : Result Served Fault → Option (List ℕ) → Option (List �
 Grows end before after F G = (Appends before after [] × IsSame F G)
     ⊎ ((b : BundleFields) × Appends before after (bundle_bytes b) × Brings end F G b)
 
+-- a log that stays as it is gets no bytes
 pub keeps_nothing : (before after : Option (List ℕ)) → Keeps before after → Appends before after []
 keeps_nothing None after h = tt
 keeps_nothing (Some xs) None h = absurd h
 keeps_nothing (Some xs) (Some ys) h = h ∙ sym (append-nil xs)
 
+-- no is not yes
 pub sealed_clash : false ≡ true → ⊥
 sealed_clash e = cc
 
@@ -63,12 +65,15 @@ ended status = Ok status
 abbrev fails : Fault → Result StatusCode Fault
 fails fault = Err fault
 
+-- a connection that ended with a status did not end with a fault
 pub ok_fault : (status : StatusCode) (fault : Fault) → ended status ≡ fails fault → ⊥
 ok_fault status fault e = cc
 
+-- a fault of a connection is none of the log
 pub write_log : fails Write ≡ fails Log → ⊥
 write_log e = cc
 
+-- a fault of a connection is not that memory ran out
 pub write_memory : fails Write ≡ fails Memory → ⊥
 write_memory e = cc
 
@@ -79,6 +84,7 @@ one f = (f.0, Held f.1) ∷ []
 abbrev pub all_items : Dot × Slot → Bool
 all_items i = true
 
+-- the later of two moments is the first, if that isn't before the second
 pub no_earlier : (h m : ℕ) → nat_lt h m ≡ false → max h m ≡ h
 no_earlier h m e = grind (arith, nat_tests)
 
@@ -89,5 +95,6 @@ short_push = Err (push.Take Take.Memory)
 itself : (n u : ℕ) → n ≤ max n u
 itself n u = omega (arith)
 
+-- an equal moment is not later than the later of it and another
 pub same_late : (m n u : ℕ) → m ≡ n → m ≤ max n u
 same_late m n u e = omega (arith, e)

@@ -13,31 +13,38 @@ use Rattle.tokend.specs.Ranges.{accepted_named, range_named}
 use Rattle.tokend.specs.Rules.{greatest_connections, greatest_part, least_part}
 use Rattle.tokend.specs.Task.{IsNoService, wants_log}
 
+-- arguments without an address are those of no service
 pub without_address : (rows : List Row) → IsNoAddress rows → IsNoService rows
 without_address rows none service h = none service.at.outer h.at.outer
 
+-- arguments without a number of connections are those of no service
 pub without_connections : (rows : List Row)
     → ((n : ℕ) → ¬ (HasNumber rows (codes "connections") 1 greatest_connections n))
     → IsNoService rows
 without_connections rows none service h = none service.connections h.connections
 
+-- arguments without files are those of no service
 pub without_files : (rows : List Row) → IsNoFiles rows → IsNoService rows
 without_files rows none service h = none service.files h.files
 
+-- arguments without a seed name no files
 pub without_seed : (rows : List Row) → first_of (codes "seed") rows ≡ None → IsNoFiles rows
 without_seed rows none files h =
     let both : None ≡ Some (string_bytes files.seed) = sym none ∙ h.seed in
     absurd (cc)
 
+-- arguments without rules for pushes are those of no service
 pub without_pushes : (rows : List Row) → IsNoPushes rows → IsNoService rows
 without_pushes rows none service h = none service.pushes h.pushes
 
+-- arguments that don't say what happens to a bundle that is ahead have no rules for pushes
 pub without_refusal : (rows : List Row) → None ≡ refusal_named (first_of (codes "ahead") rows)
     → IsNoPushes rows
 without_refusal rows none pushes h =
     let both : None ≡ Some pushes.refuses_ahead = none ∙ h.ahead in
     absurd (cc)
 
+-- arguments without a range have no rules for pushes
 pub without_range : (rows : List Row)
     → None ≡ range_named (first_of (codes "region") rows) (first_of (codes "range") rows)
     → IsNoPushes rows
@@ -45,21 +52,25 @@ without_range rows none pushes h =
     let both : None ≡ Some pushes.range = none ∙ h.range in
     absurd (cc)
 
+-- arguments without the numbers that are accepted have no rules for pushes
 pub without_accepted : (rows : List Row) → None ≡ accepted_named (first_of (codes "accept") rows)
     → IsNoPushes rows
 without_accepted rows none pushes h =
     let both : None ≡ Some pushes.accepted.items = none ∙ h.accepted in
     absurd (cc)
 
+-- arguments without notices are those of no service
 pub without_notices : (rows : List Row) → IsNoNotices rows → IsNoService rows
 without_notices rows none service h = none service.notices h.notices
 
+-- arguments without an issuer have no notices
 pub without_issuer : (rows : List Row) → None ≡ issuer_named (first_of (codes "issuer") rows)
     → IsNoNotices rows
 without_issuer rows none notices h =
     let both : None ≡ Some notices.issuer = none ∙ h.issuer in
     absurd (cc)
 
+-- arguments without choices are those of no service
 pub without_choices : (rows : List Row) → IsNoChoice rows → IsNoService rows
 without_choices rows (inl none) service h =
     let both : None ≡ Some service.choices.unseen = sym none ∙ h.choices.unseen in

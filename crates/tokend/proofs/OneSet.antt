@@ -27,6 +27,7 @@ facts_below w standing r =
     below (Some P) None x d b h = absurd x
     below (Some P) (Some k) x d b h = held_made P standing.0 k.facts x.0 d b h
 
+-- no two regions of a world hold two facts at one dot
 pub all_agree : (w : WorldFields) → IsStanding w → (q r : ℕ)
     → Agree (held_facts (store_in w q)) (held_facts (store_in w r))
 all_agree w standing q r d b c here there =

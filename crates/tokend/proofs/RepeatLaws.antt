@@ -44,6 +44,7 @@ and_second false b h = absurd (wrong h)
     wrong : false ≡ true → ⊥
     wrong e = cc
 
+-- a refresh that is repeated was granted a short time ago
 pub recent_by : (seconds now : ℕ) (parent : Dot) (request : RequestFields) (it : Refreshed)
     → is_repeat seconds now parent request it ≡ true → is_recent seconds now it ≡ true
 recent_by seconds now parent request it h =
@@ -51,6 +52,7 @@ recent_by seconds now parent request it h =
     (and_second (is_same_dot it.parent parent)
     (is_recent seconds now it && is_again it.request request) h)
 
+-- a request that repeats a refresh is its request again
 pub again_by : (seconds now : ℕ) (parent : Dot) (request : RequestFields) (it : Refreshed)
     → is_repeat seconds now parent request it ≡ true → is_again it.request request ≡ true
 again_by seconds now parent request it h =
@@ -63,6 +65,7 @@ pub stays_taken : (keeps : Bool) (taken : Taken) (outcome : Outcome)
     → outcome ≡ outcome_by keeps (Done code.Ok) taken → goes_on outcome ≡ true → taken.stays ≡ true
 stays_taken keeps taken outcome is on = and_second keeps taken.stays (sym (ap goes_on is) ∙ on)
 
+-- a connection that may not stay goes no further after a repeated reply
 pub closes_taken : (keeps : Bool) (taken : Taken) (outcome : Outcome)
     → outcome ≡ outcome_by keeps (Done code.Ok) taken → keeps ≡ false → goes_on outcome ≡ false
 closes_taken keeps taken outcome is off = ap goes_on is ∙ ap (λ b. b && taken.stays) off
@@ -85,6 +88,7 @@ ok_status code.LengthRequired h = absurd (wrong_status h)
 ok_status code.ContentTooLarge h = absurd (wrong_status h)
 ok_status code.ServiceUnavailable h = absurd (wrong_status h)
 
+-- a grant is a reply with status 200
 pub granted_done : (served : Served) → is_granted served ≡ true → served ≡ Done code.Ok
 granted_done Nothing h = absurd (wrong_status h)
 granted_done (Done status) h = ap (λ (s : StatusCode). Done s) (ok_status status h)
@@ -138,6 +142,7 @@ none_some it e = cc
 same_some : (x it : Refreshed) → Some x ≡ Some it → x ≡ it
 same_some x it e = cc
 
+-- what is found in a list is in it, and passes the test
 pub found_parts : (p : Refreshed → Bool) (k : List Refreshed) (it : Refreshed) → find p k ≡ Some it
     → IsIn it k × (p it ≡ true)
 found_parts p [] it h = absurd (none_some it h)
@@ -150,6 +155,7 @@ found_parts p (x ∷ xs) it h = elim (cases_Bool (p x)) [
       (inr rest.0, rest.1)
 ]
 
+-- what is left of refreshes that are forgotten was among them
 pub forgets : (seconds now : ℕ) (k : List Refreshed) → AreAmong (forgotten seconds now k) k
 forgets seconds now [] it is = is
 forgets seconds now (x ∷ xs) it is = elim (cases_Bool (is_recent seconds now x)) [
@@ -179,6 +185,7 @@ forgotten_none seconds now x (y ∷ ys) at some lately =
     cond-true (is_recent seconds now y) (y ∷ ys) (forgotten seconds now ys)
     (sym (ap (is_recent seconds now) at) ∙ lately)
 
+-- of no refreshes none is forgotten
 pub forgotten_empty : (seconds now : ℕ) (k : List Refreshed) → length k ≡ 0
     → forgotten seconds now k ≡ k
 forgotten_empty seconds now [] none = refl
@@ -207,9 +214,11 @@ repeats_both seconds k m [] ys among x y = repeats_more seconds m k ys among y
 repeats_both seconds k m (e ∷ es) ys among x y =
     (x.0, repeats_both seconds (with_granted e.granted k) m es ys among x.1 y)
 
+-- no connection repeats nothing
 pub none_repeated : (repeats : RepeatsFields) → AreRepeated repeats [] repeats
 none_repeated repeats = record { seconds = refl; each = tt; kept = λ _ is. is }
 
+-- a connection that was granted a refresh leaves it to be repeated
 pub one_granted : (end : Result Served Fault) (stays : Bool) (reach : Reach) (path : Option Path)
     (now : ℕ) (granted : Option Refreshed) (repeats : RepeatsFields)
     → AreRepeated repeats
@@ -231,6 +240,7 @@ one_granted end stays reach path now (Some it) repeats = record {
   kept = λ x is. in_kept x it repeats.kept (in_behind x it (with_room repeats.kept) is);
 }
 
+-- connections one after the other leave what the last of them leave
 pub repeated_both : (old mid new : RepeatsFields) (xs ys : Endings) → AreRepeated old xs mid
     → AreRepeated mid ys new → AreRepeated old (xs ++ ys) new
 repeated_both old mid new xs ys h k = record {

@@ -141,6 +141,7 @@ task_fault words input ScriptTooLong h = h
 task_fault words input (BadLine number) h = h
 task_fault words input (Facts why) h = h
 
+-- a fault of a task is one of the program, for these arguments
 pub faults_of_task : {T : Type 0} (words : List Text) (input : Option (List ℕ)) (P : Fault → Type 0)
     (r : Result T Fault)
     → ((fault : Fault) → P fault → FailsToServe words fault ⊎ FailsToRun words input fault)
@@ -168,6 +169,7 @@ begun_less A B (BadLine number) old new f h = h
 begun_less A B Memory old new f h = h
 begun_less A B (Facts why) old new f h = f h
 
+-- what a task leaves on the output is what the program leaves, for these arguments
 pub left_by_task : {T : Type 0} (kept : List ℕ → Option (List ℕ)) (words : List Text)
     (input old new : Option (List ℕ)) (A : Type 0) (r : Result T Fault)
     → (A → (fault : Fault)
@@ -273,6 +275,7 @@ ended_well view P (Err fault) status mid new ends h e = absurd (no_status fault 
 
 module _ (kept : List ℕ → Option (List ℕ)) (words : List Text)
     (input output output_new : Option (List ℕ)) where
+  -- a program that ends with a status above 0 has such a fault, and reports it
   pub ended_badly : {E T : Type 0} (view : E → Writer) (ran : Result T Fault) (status k : ℕ)
       (old mid new : E)
       → Ends view ran status mid new → IfErr ran (IsFaultFor words input)

@@ -21,6 +21,7 @@ all_zip_pushed R [] (z ∷ ys) x y all one = absurd all
 all_zip_pushed R (w ∷ xs) [] x y all one = absurd all
 all_zip_pushed R (w ∷ xs) (z ∷ ys) x y all one = (all.0, all_zip_pushed R xs ys x y all.1 one)
 
+-- the events of some lines, with one more line that is an event
 pub told_pushed : (lines : List (List ℕ)) (events : List Event) (line : List ℕ) (event : Event)
     → AreEvents lines events → is_told line ≡ true → IsEventLine line event
     → AreEvents (lines ++ line ∷ []) (events ++ event ∷ [])
@@ -33,6 +34,7 @@ told_pushed lines events line event all told one =
 
 -- ---- which lines should be events
 
+-- a line that isn't empty and doesn't begin with # is an event's
 pub told_line : (line : List ℕ) → 0 < length line → get_or line 0 0 ≢ 35 → is_told line ≡ true
 told_line [] long other = absurd (omega (arith, long))
 told_line (b ∷ rest) long other = grind (arith, nat_tests)
@@ -57,6 +59,7 @@ both_maps : (items : List Item) → map (λ p. p.1) (map numbered items) ≡ lin
 both_maps [] = refl
 both_maps (i ∷ items) = ap (λ t. i.1.now ∷ t) (both_maps items)
 
+-- the items of a script are its lines, numbered
 pub all_lines : (ls : List (List ℕ)) (items : List Item) → map numbered items ≡ enumerate_from 0 ls
     → lines_in items ≡ ls
 all_lines ls items all =
@@ -104,6 +107,7 @@ first_bad longest script items item events some turn earlier told bad =
 
 -- ---- a turn of the loop
 
+-- the events of the items so far, with one more item that is an event
 pub grown_told : (items : List Item) (item : Item) (events grown : List Event) (event : Event)
     → grown ≡ events ++ event ∷ [] → AreEvents (lines_in items) events → is_told item.1.now ≡ true
     → IsEventLine item.1.now event → AreEvents (lines_in (items ++ item ∷ [])) grown

@@ -213,6 +213,7 @@ module _ {L : Type 0} (kept : List ℕ → Option (List ℕ)) (holds : L → Opt
         ),
       )
 
+  -- a service that ended has written its log of bundles
   pub service_logs : ServiceLogs kept holds opens
   service_logs service output faults ran taken some knows unsealed =
       let run = ran.run in

@@ -51,6 +51,7 @@ listen_fault service ScriptTooLong h = absurd h
 listen_fault service (Facts why) h = absurd h
 listen_fault service (BadLine number) h = absurd h
 
+-- a fault of listening is one of the start of a service
 pub listen_faults : {T : Type 0} (service : Service) (r : Result T Fault) → IfErr r IsListenFault
     → IfErr r (IsStartFault service)
 listen_faults service (Ok x) h = tt
@@ -75,6 +76,7 @@ bind_fault ScriptTooLong h = absurd h
 bind_fault (Facts why) h = absurd h
 bind_fault (BadLine number) h = absurd h
 
+-- if nothing could be bound, nothing was announced
 pub bind_left : (opening : Opening) (at : Addresses) (fault : Fault) (output : Option (List ℕ))
     → IsBindFault fault → LeavesAnnouncement opening at fault output output
 bind_left opening at CannotListen output h = Keeps-refl output
@@ -109,6 +111,7 @@ module _ {L : Type 0} (kept : List ℕ → Option (List ℕ)) (holds : L → Opt
       absurd (cc)
   without_log name words requests keeps repeat has_inner log_taken s (Err fault) none h = tt
 
+  -- a service that has pruned its old facts, announced itself and served has opened
   pub has_opened : {T : Type 0} (service : Service) (dropped : ℕ) (start : EdgeFields)
       (words : ChaCha) (pruned : Option ℕ) (region : RegionFields) (end : EdgeFields)
       (output : Change) (faults : Writing) (r : Result T Fault)
@@ -140,6 +143,7 @@ module _ {L : Type 0} (kept : List ℕ → Option (List ℕ)) (holds : L → Opt
   has_opened service dropped start words pruned region end output faults
       (Err fault) prunes announced served = tt
 
+  -- a service that has loaded its old log and opened has run
   pub has_run : {T : Type 0} (service : Service) (start : EdgeFields) (words : ChaCha) (dropped : ℕ)
       (region : RegionFields) (output : Change) (faults : Writing) (r : Result T Fault)
       → LoadsOld kept service.files.load start.region (Ok dropped) region
@@ -150,6 +154,7 @@ module _ {L : Type 0} (kept : List ℕ → Option (List ℕ)) (holds : L → Opt
       record { dropped = dropped; region = region; loaded = loaded; opened = opened }
   has_run service start words dropped region output faults (Err fault) loaded opened = tt
 
+  -- a service that has started and run is what the program promises
   pub service_run : {T : Type 0} (service : Service) (edge : EdgeFields) (words : ChaCha)
       (output : Change) (faults : Writing) (r : Result T Fault)
       → IsStart service edge words

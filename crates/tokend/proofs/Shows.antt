@@ -81,6 +81,7 @@ asks_to_show words kind ends (inr version) =
     not_missing (inr (inl e)) = absurd (cc)
     not_missing (inr (inr e)) = absurd (cc)
 
+-- help or version that is shown is all that the program does
 pub shown_done : {L T : Type 0} (kept : List ℕ → Option (List ℕ)) (holds : L → Option (List ℕ))
     (opens : Option ℕ → List ℕ → L → Type 0) (words : List Text) (kind : ErrorKind)
     (r : Result T Fault)
@@ -92,6 +93,7 @@ shown_done kept holds opens words kind (Ok x) input output writer ends shows =
     inr (inr (inr (asks_to_show words kind ends shows), refl))
 shown_done kept holds opens words kind (Err fault) input output writer ends shows = tt
 
+-- arguments that are refused are a fault of the program, for these arguments
 pub refused_fault : {T : Type 0} (words : List Text) (error : Error) (r : Result T Fault)
     (input old new : Option (List ℕ))
     → Ends words (kind_of error)
@@ -109,6 +111,7 @@ refused_fault words error (Err fault) input old new ends (inr h) = of ends h.0
     of (inl memory) (inr told) = absurd (told.1 memory)
     of (inr refusal) (inr told) = subst (IsFaultFor words input) (sym told.0) (refusal, told.2)
 
+-- arguments that are refused leave what the program leaves, for these arguments
 pub refused_left : {T : Type 0} (kept : List ℕ → Option (List ℕ)) (words : List Text)
     (error : Error) (r : Result T Fault) (input old new : Option (List ℕ))
     → Ends words (kind_of error)

@@ -19,6 +19,7 @@ use Rattle.tk_store.proofs.SlotOrderLaws.{below_itself, slots_itself, slots_tran
 use Rattle.tk_ledger.specs.Slices.{Goes, PrunesSome, Steps}
 use Rattle.tk_ledger.specs.declared.slices.Slice.{Slice}
 
+-- a slot with a body holds it
 pub held_at : (o : Option Slot) (b : Body) → held_slot o ≡ Some b → o ≡ Some (Held b)
 held_at None b e = absurd (cc)
 held_at (Some (Held c)) b e = ap (λ x. Some (Held x)) (is_body e)
@@ -27,9 +28,11 @@ held_at (Some (Held c)) b e = ap (λ x. Some (Held x)) (is_body e)
     is_body e = cc
 held_at (Some Skipped) b e = absurd (cc)
 
+-- no slot is a slot
 pub none_is_some : (s : Slot) → None ≡ Some s → ⊥
 none_is_some s e = cc
 
+-- a fact that is kept for a token is of a kind that passes
 pub passing_kept : (d : Dot) (b : Body) (k : TokenId) → kept_for d b ≡ Some k → is_passing b ≡ true
 passing_kept d (bodies.ClientAdded f) k e = absurd (cc)
 passing_kept d (bodies.ClientRetired f) k e = absurd (cc)
@@ -42,6 +45,7 @@ passing_kept d (bodies.TokenRevoked f) k e = refl
 passing_kept d (bodies.ReuseSeen f) k e = refl
 passing_kept d (bodies.SubjectOut f) k e = absurd (cc)
 passing_kept d (bodies.AccessRefreshed f) k e = refl
+passing_kept d (bodies.SecretSet f) k e = absurd (cc)
 
 -- a fact that names a dot may be skipped
 passing_named : (b : Body) (q : Dot) → names_of b ≡ Some q → is_passing b ≡ true
@@ -56,6 +60,7 @@ passing_named (bodies.TokenRevoked f) q e = refl
 passing_named (bodies.ReuseSeen f) q e = refl
 passing_named (bodies.SubjectOut f) q e = absurd (cc)
 passing_named (bodies.AccessRefreshed f) q e = refl
+passing_named (bodies.SecretSet f) q e = absurd (cc)
 
 -- a fact that may go is held, and is of a kind that may be skipped
 abbrev IsPassing : StoreFields → Dot → Type 0
@@ -92,6 +97,7 @@ steps_above P (d ∷ ds) Q h =
       horizon = rest.horizon;
     }
 
+-- a store knows after a slice of a prune what it knew before
 pub slice_above : (P : StoreFields) (moment : ℕ) (after : Option Dot) (count : ℕ) (slice : Slice)
     (Q : StoreFields)
     → PrunesSome P moment after count slice Q → StoreBelow P Q
@@ -128,6 +134,7 @@ steps_leave P (x ∷ xs) Q h d = of (steps_leave (with_skipped P x) xs Q h.1 d)
     of (inl same) = subst (Leaves (map.get P.slots d)) (sym same) step
     of (inr gone) = inr (gone.0, before gone.1)
 
+-- a slice of a prune leaves each slot, or a mark in its place
 pub slice_leaves : (P : StoreFields) (moment : ℕ) (after : Option Dot) (count : ℕ) (slice : Slice)
     (Q : StoreFields)
     → PrunesSome P moment after count slice Q

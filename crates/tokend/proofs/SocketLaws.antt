@@ -38,6 +38,7 @@ known_as asked bytes = record {
   words = asked.words;
 }
 
+-- bytes that are served without a log are served as by any carrier
 pub served_bytes : (asked : Asked) (bytes : List ℕ) (region : Step) (still : Type 0)
     (writer : Change) (sealed : Bool) (end : Result Served Fault)
     → IsServedBy asked bytes true region unlogged still writer sealed end
@@ -97,6 +98,7 @@ module _ (now : ℕ) (words bytes : List ℕ) (old new : EdgeFields) (still : Ty
   }
   of (Err fault) f = connection (Err fault) f
 
+  -- what is decided of a front end's bytes is what a connection comes to
   pub front_connection : IsConnection now words bytes old new (end_of result)
   front_connection = of result h
 
@@ -120,6 +122,7 @@ module _ (asked : AskedFields) (old new : EdgeFields) (unsealed : old.sealed ≡
         record { gains = by.1; next = by.2; sealed = sealed ∙ sym unsealed; terms = ahead },
       )
 
+  -- a connection that ends with a status has made the reply of it
   pub connection_answers : (bytes : List ℕ) (status : StatusCode)
       → IsConnection asked.now asked.words bytes old new (Ok (Done status))
       → IsMade (λ answer. status ≡ answer.status)

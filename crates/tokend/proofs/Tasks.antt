@@ -200,18 +200,23 @@ module _ {T : Type 0} (rows : List Row) (r : Option T) where
       of None none = none
       of (Some x) none = tt
 
+  -- without the life of a code there are no numbers
   pub without_code : ((n : ℕ) → ¬ (HasNumber rows (codes "code") 1 greatest_code n)) → IfNone r ((n : Numbers) → ¬ (HasNumbers rows n))
   without_code none = unless (λ n h. none n.code h.code)
 
+  -- without the life of an access token there are no numbers
   pub without_access : ((n : ℕ) → ¬ (HasNumber rows (codes "access") 1 greatest_access n)) → IfNone r ((n : Numbers) → ¬ (HasNumbers rows n))
   without_access none = unless (λ n h. none n.access h.access)
 
+  -- without the life of a refresh token there are no numbers
   pub without_refresh : ((n : ℕ) → ¬ (HasNumber rows (codes "refresh") 1 greatest_refresh n)) → IfNone r ((n : Numbers) → ¬ (HasNumbers rows n))
   without_refresh none = unless (λ n h. none n.refresh h.refresh)
 
+  -- without the life of a family there are no numbers
   pub without_family : ((n : ℕ) → ¬ (HasNumber rows (codes "family") 1 greatest_family n)) → IfNone r ((n : Numbers) → ¬ (HasNumbers rows n))
   without_family none = unless (λ n h. none n.family h.family)
 
+  -- without a cap there are no numbers
   pub without_cap : ((n : ℕ) → ¬ (HasNumber rows (codes "cap") 1 greatest_cap n)) → IfNone r ((n : Numbers) → ¬ (HasNumbers rows n))
   without_cap none = unless (λ n h. none n.cap h.cap)
 
@@ -219,6 +224,7 @@ module _ {T : Type 0} (rows : List Row) (r : Option T) where
 pub without_settings : (rows : List Row) → ((n : Numbers) → ¬ (HasNumbers rows n)) → IsNoService rows
 without_settings rows none service h = none service.numbers h.numbers
 
+-- without the number of a region there is no service
 pub without_region : (rows : List Row) → ((n : ℕ) → ¬ (HasNumber rows (codes "region") 1 greatest_region n)) → IsNoService rows
 without_region rows none service h = none service.region h.region
 
@@ -285,6 +291,7 @@ unplaced_then f socket port s p given =
     text_found f (codes "socket") socket s
     ∙ ap (λ b. if b then is_some (first_of (codes "socket") (rows_of f)) else not (is_some (first_of (codes "socket") (rows_of f)))) (sym given ∙ text_found f (codes "port") port p)
 
+-- without a port the arguments have no address exactly if they have no socket
 pub unplaced_else : (f : Found) (socket port : Option (Bor Text)) → option_map (λ s. s.now) socket ≡ first_value f (codes "socket") → option_map (λ s. s.now) port ≡ first_value f (codes "port")
     → is_some port ≡ false → not (is_some socket) ≡ is_unplaced_in (rows_of f)
 unplaced_else f socket port s p given =
@@ -297,18 +304,21 @@ module _ (f : Found) (address : Address) (port : Option (Bor Text)) (result : Op
   none_found None h = refl
   none_found (Some text) h = absurd (cc)
 
+  -- an address that is read from a socket's path is that of the arguments
   pub socket_read : (has_port : Bool) → has_port ≡ is_some port → (first_of (codes "port") (rows_of f) ≡ None → HasAddress (rows_of f) address) → result ≡ (if has_port then None else Some address)
       → IfSome result (HasAddress (rows_of f))
   socket_read true has alone is = subst (λ r. IfSome r (HasAddress (rows_of f))) (sym is) tt
   socket_read false has alone is =
       subst (λ r. IfSome r (HasAddress (rows_of f))) (sym is) (alone (none_found (first_of (codes "port") (rows_of f)) (sym (text_found f (codes "port") port found) ∙ sym has)))
 
+  -- if a socket's path is no address, the arguments have none
   pub socket_unread : (has_port : Bool) (text : Text) → has_port ≡ is_some port → first_of (codes "socket") (rows_of f) ≡ Some text → result ≡ (if has_port then None else Some address)
       → IfNone result (IsNoAddress (rows_of f))
   socket_unread true text has socket is =
       subst (λ r. IfNone r (IsNoAddress (rows_of f))) (sym is) (two_addresses (rows_of f) text socket (sym (text_found f (codes "port") port found) ∙ sym has))
   socket_unread false text has socket is = subst (λ r. IfNone r (IsNoAddress (rows_of f))) (sym is) tt
 
+-- arguments that want a log lack it exactly if they name none
 pub lacks_given : (found : Option (Text × List Row)) (rows : List Row) (none : Bool) → option_map (λ p. p.1) found ≡ Some rows
     → true ≡ wants_log rows → none ≡ not (is_some (first_of (codes "log") rows)) → none ≡ lacks_log found
 lacks_given None rows none at given is = absurd (cc)
@@ -346,6 +356,7 @@ unplaced_given (Some (name, others)) rows result at is =
 pub flag_given : (f : Found) (id text : Text) (flag : Bool) → Some text ≡ first_value f id → flag ≡ bytes_eq text (codes "true") → HasFlag (rows_of f) id flag
 flag_given f id text flag at is = is ∙ ap is_given (at ∙ first_value-rows f id)
 
+-- a flag that was not sent is not set
 pub flag_absent : (f : Found) (id : Text) → None ≡ first_value f id → HasFlag (rows_of f) id false
 flag_absent f id at = ap is_given (at ∙ first_value-rows f id)
 

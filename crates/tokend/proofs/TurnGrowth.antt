@@ -18,6 +18,7 @@ use Rattle.tokend.proofs.SliceLaws.{slice_above}
 
 -- ---- what turns leave of a region
 
+-- a region only grows by the decisions of a turn
 pub decisions_grow : (words : ChaCha) (log_taken : Bool) (old : EdgeFields) (ends : Endings)
     (records : List ℕ) (new : EdgeFields)
     → AreDecisions words log_taken old ends records new
@@ -49,6 +50,7 @@ terms_same old new same = record {
   others = subst (λ (t : TermsFields). t ≡ record old { metrics = t.metrics }) (sym same) refl;
 }
 
+-- terms that are kept twice are kept
 pub terms_twice : (old mid new : TermsFields) → KeepTerms old mid → KeepTerms mid new
     → KeepTerms old new
 terms_twice old mid new h k = record {
@@ -64,6 +66,7 @@ log_stays old new (inr (inl lacks)) = ap (λ (r : Running). r.log) lacks.others
 log_stays old new (inr (inr (inl loses))) = ap (λ (r : Running). r.log) loses.others
 log_stays old new (inr (inr (inr shows))) = ap (λ (r : Running). r.log) shows.others
 
+-- a pause keeps the terms
 pub terms_stay : (old new : Running) → IsPause old new → KeepTerms old.edge.terms new.edge.terms
 terms_stay old new (inl same) =
     terms_same old.edge.terms new.edge.terms (ap (λ (r : Running). r.edge.terms) same)
@@ -79,18 +82,21 @@ terms_stay old new (inr (inr (inr shows))) =
           (sym is) refl;
     }
 
+-- a pause leaves the seal
 pub sealed_stays : (old new : Running) → IsPause old new → new.edge.sealed ≡ old.edge.sealed
 sealed_stays old new (inl same) = ap (λ (r : Running). r.edge.sealed) same
 sealed_stays old new (inr (inl lacks)) = ap (λ (r : Running). r.edge.sealed) lacks.others
 sealed_stays old new (inr (inr (inl loses))) = ap (λ (r : Running). r.edge.sealed) loses.others
 sealed_stays old new (inr (inr (inr shows))) = ap (λ (r : Running). r.edge.sealed) shows.others
 
+-- a pause leaves whether the server prunes
 pub prunes_stay : (old new : Running) → IsPause old new → new.prunes ≡ old.prunes
 prunes_stay old new (inl same) = ap (λ (r : Running). r.prunes) same
 prunes_stay old new (inr (inl lacks)) = ap (λ (r : Running). r.prunes) lacks.others
 prunes_stay old new (inr (inr (inl loses))) = ap (λ (r : Running). r.prunes) loses.others
 prunes_stay old new (inr (inr (inr shows))) = ap (λ (r : Running). r.prunes) shows.others
 
+-- a turn leaves whether the server prunes
 pub turn_prunes : (words : ChaCha) (log_taken : Bool) (old : Running) (ends : Endings)
     (new : Running)
     → IsTurn words log_taken old ends new → new.prunes ≡ old.prunes
@@ -116,6 +122,7 @@ pause_grows old new (inr (inr (inl loses))) = record {
       new.edge.region.facts loses.region.facts;
 }
 
+-- a region only grows by turns
 pub turns_grow : (words : ChaCha) (log_taken : Bool) (old : Running) (turns : List Endings)
     (new : Running)
     → AreTurns words log_taken old turns new
@@ -128,6 +135,7 @@ turns_grow words log_taken old (ends ∷ turns) new h =
     (grows_twice h.0.edge.region h.1.edge.region new.edge.region (pause_grows h.0 h.1 h.3)
     (turns_grow (past_each words ends) log_taken h.1 turns new h.4))
 
+-- the region of a server only grows
 pub server_grows : (old new : Site) → Goes old new
     → Grows old.server.edge.region new.server.edge.region
 server_grows old new h =

@@ -49,14 +49,17 @@ use Rattle.tokend.proofs.RepeatLaws.{none_repeated, repeated_both}
 
 -- ---- lists of endings
 
+-- the words behind two lists of connections are those behind the second
 pub past_both : (words : ChaCha) (xs ys : Endings) → past_each words (xs ++ ys) ≡ past_each (past_each words xs) ys
 past_both words [] ys = refl
 past_both words (x ∷ xs) ys = past_both (past_six words) xs ys
 
+-- the ends of two lists of turns follow one another
 pub all_both : (xs ys : List Endings) → all_ends (xs ++ ys) ≡ all_ends xs ++ all_ends ys
 all_both [] ys = refl
 all_both (x ∷ xs) ys = ap (λ l. x ++ l) (all_both xs ys) ∙ sym (append_assoc x (all_ends xs) (all_ends ys))
 
+-- the decisions of two lists of connections are those of both
 pub decisions_both : (words : ChaCha) (log_taken : Bool) (old : EdgeFields) (xs : Endings) (first : List ℕ) (mid : EdgeFields) (ys : Endings) (rest : List ℕ) (new : EdgeFields)
     → AreDecisions words log_taken old xs first mid → AreDecisions (past_each words xs) log_taken mid ys rest new → AreDecisions words log_taken old (xs ++ ys) (first ++ rest) new
 decisions_both words log_taken old [] first mid ys rest new h k =
@@ -70,10 +73,12 @@ decisions_both words log_taken old (x ∷ xs) first mid ys rest new h k = (
   decisions_both (past_six words) log_taken h.0 xs h.2 mid ys rest new h.5 k,
 )
 
+-- two lists of connections are counted one after the other
 pub counted_both : (xs ys : Endings) (counts : Counts) → all_counted (xs ++ ys) counts ≡ all_counted ys (all_counted xs counts)
 counted_both [] ys counts = refl
 counted_both (x ∷ xs) ys counts = counted_both xs ys (with_end x.end x.reach.paths x.path x.now counts)
 
+-- two lists of connections have as many as both
 pub connections_both : (xs ys : Endings) → connections_in (xs ++ ys) ≡ connections_in xs + connections_in ys
 connections_both [] ys = omega arith
 connections_both (x ∷ xs) ys = omega (arith, connections_both xs ys)
@@ -93,6 +98,7 @@ may_reach true false = refl
 may_reach true true = tt
 may_reach false is_inner = tt
 
+-- the faults of two lists of connections are reported one after the other
 pub told_both : (xs ys : Endings) (old mid new : Writer) → AreReported xs old mid → AreReported ys mid new → AreReported (xs ++ ys) old new
 told_both [] ys old mid new h k = subst (λ o. AreReported ys o new) h k
 told_both (x ∷ xs) ys old mid new h k = (h.0, h.1, told_both xs ys h.0 mid new h.2 k)
@@ -116,6 +122,7 @@ pub goes_forgotten : (site : Site) (repeats : RepeatsFields) → repeats.seconds
 goes_forgotten site repeats same among =
     record { turns = []; served = refl; words = refl; counted = omega arith; closes = λ _. refl; keeps = refl; repeats = record { seconds = same; each = tt; kept = among }; reaches = tt; has_inner = refl; margin = refl; counts = refl; log_taken = refl; fault = refl }
 
+-- a site goes on to itself
 pub goes_nowhere : (site : Site) → Goes site site
 goes_nowhere site =
     record { turns = []; served = refl; words = refl; counted = omega arith; closes = λ _. refl; keeps = refl; repeats = none_repeated site.server.repeats; reaches = tt; has_inner = refl; margin = refl; counts = refl; log_taken = refl; fault = refl }
@@ -130,6 +137,7 @@ pub goes_over : (site : Site) (is_inner : Bool) → Goes site (record { server =
 goes_over site is_inner =
     record { turns = []; served = refl; words = refl; counted = omega arith; closes = λ _. refl; keeps = refl; repeats = none_repeated site.server.repeats; reaches = tt; has_inner = refl; margin = refl; counts = refl; log_taken = refl; fault = refl }
 
+-- a site that goes on twice goes on
 pub goes_both : (old mid new : Site) → Goes old mid → Goes mid new → Goes old new
 goes_both old mid new h k =
     let all : all_ends (h.turns ++ k.turns) ≡ all_ends h.turns ++ all_ends k.turns = all_both h.turns k.turns in
@@ -189,8 +197,8 @@ goes_unread fault old words left counts log before after is more drawn counted t
   fault = refl;
 }
 
--- a kept connection ended behind its last reply: the server has the words behind, and one connection
--- less
+-- a kept connection ended behind its last reply: the server has the words behind, and one
+-- connection less
 pub goes_parted : (old : Server) (words : ChaCha) (left : ℕ) (log : Option (List ℕ)) (faults : Writer) → words ≡ past_six old.words → old.left ≡ left + 1
     → Goes (record { server = old; log = log; faults = faults }) (record { server = record old { words = words; left = left }; log = log; faults = faults })
 goes_parted old words left log faults drawn counted = record {
@@ -223,6 +231,7 @@ goes_parted old words left log faults drawn counted = record {
   fault = refl;
 }
 
+-- a site goes on by the line of a reply that wasn't sent
 pub goes_unsent : (server : Server) (log : Option (List ℕ)) (before after : Writer) → Writes before after (connection_fault Write)
     → Goes (record { server = server; log = log; faults = before }) (record { server = server; log = log; faults = after })
 goes_unsent server log before after told = record {

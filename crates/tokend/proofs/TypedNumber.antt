@@ -8,6 +8,7 @@ use Rattle.clap.specs.declared.parser.matches.Found.{Found}
 use Rattle.clap.proofs.WalkLemmas.{one_text-rows}
 use Rattle.tokend.specs.CommandLine.{IsDecimal, ReadsNumber, HasNumber}
 
+-- a number that is read of an argument is the one that its text spells
 pub number_read : {E : Type 0} (gives : List ℕ → Result ℕ E → Type 0) (f : Found) (id : List ℕ)
     (r : Option ℕ)
     → ((t : List ℕ) (n : ℕ) → gives t (Ok n) → IsDecimal t n)
@@ -29,6 +30,7 @@ number_read gives f id r digits none value =
     present None t e h = tt
     present (Some n) t e h = (t, sym (one_text-rows f id) ∙ e, digits t n h)
 
+-- if no number is read of an argument, its text spells none
 pub number_unread : {E : Type 0} (gives : List ℕ → Result ℕ E → Type 0) (f : Found) (id : List ℕ)
     (r : Option ℕ)
     → ((t : List ℕ) (e : E) (n : ℕ) → gives t (Err e) → n < 2 ^ 64 → ¬ (IsDecimal t n))

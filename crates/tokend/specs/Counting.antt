@@ -51,6 +51,7 @@ with_reply (Some named.Revoke) status r = record r { revoke = with_status status
 with_reply (Some named.Client) status r = record r { client = with_status status r.client }
 with_reply (Some named.Clients) status r = record r { clients = with_status status r.clients }
 with_reply (Some named.Retire) status r = record r { retire = with_status status r.retire }
+with_reply (Some named.Secret) status r = record r { secret = with_status status r.secret }
 with_reply (Some named.Consent) status r = record r { consent = with_status status r.consent }
 with_reply (Some named.Withdraw) status r = record r { withdraw = with_status status r.withdraw }
 with_reply (Some named.SignOut) status r = record r { sign_out = with_status status r.sign_out }
@@ -115,6 +116,7 @@ no_replies = record {
   client = no_statuses;
   clients = no_statuses;
   retire = no_statuses;
+  secret = no_statuses;
   consent = no_statuses;
   withdraw = no_statuses;
   sign_out = no_statuses;

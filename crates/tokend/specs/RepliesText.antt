@@ -66,12 +66,14 @@ notice_samples paths r = concat (
     ∷ endpoint_samples paths (codes "health") r.health
     ∷ endpoint_samples paths (codes "unknown") r.unknown ∷ [])
 
--- the samples of the paths by which operators add, list and retire clients
+-- the samples of the paths by which operators add, list and retire clients, and change their
+-- secrets
 unfoldable pub registry_samples : List ℕ → Replies → List ℕ
 registry_samples paths r = concat (
     endpoint_samples paths (codes "admin/client") r.client
     ∷ endpoint_samples paths (codes "admin/clients") r.clients
-    ∷ endpoint_samples paths (codes "admin/retire") r.retire ∷ [])
+    ∷ endpoint_samples paths (codes "admin/retire") r.retire
+    ∷ endpoint_samples paths (codes "admin/secret") r.secret ∷ [])
 
 -- the samples of the paths by which operators add and end consents, and sign subjects out
 unfoldable pub consent_samples : List ℕ → Replies → List ℕ

@@ -46,6 +46,8 @@ pub(crate) struct Replies {
     pub clients: Statuses,
     /// `/admin/retire`.
     pub retire: Statuses,
+    /// `/admin/secret`.
+    pub secret: Statuses,
     /// `/admin/consent`.
     pub consent: Statuses,
     /// `/admin/withdraw`.
@@ -136,6 +138,7 @@ const NO_REPLIES: Replies = Replies {
     client: NO_STATUSES,
     clients: NO_STATUSES,
     retire: NO_STATUSES,
+    secret: NO_STATUSES,
     consent: NO_STATUSES,
     withdraw: NO_STATUSES,
     sign_out: NO_STATUSES,
@@ -184,6 +187,7 @@ impl Replies {
             Some(Path::Client) => self.client.count(status),
             Some(Path::Clients) => self.clients.count(status),
             Some(Path::Retire) => self.retire.count(status),
+            Some(Path::Secret) => self.secret.count(status),
             Some(Path::Consent) => self.consent.count(status),
             Some(Path::Withdraw) => self.withdraw.count(status),
             Some(Path::SignOut) => self.sign_out.count(status),

@@ -31,6 +31,8 @@ use tk_edge::Sink;
 use tk_world::{Event, Outcome, World};
 
 /// Facts stay: what a region had made and taken in before a run, it still stands for after the run.
+///
+/// After an error nothing has run: [`an_error_changes_nothing`].
 pub fn facts_stay(world: &mut World, events: &[Event]) -> Result<Vec<Outcome>, AllocError>
     ensures { IfOk result (λ outcomes. (made : FactSet) (state : State)
         → WorldStands world.old made state
@@ -42,6 +44,8 @@ pub fn facts_stay(world: &mut World, events: &[Event]) -> Result<Vec<Outcome>, A
 }
 
 /// A region stands for what it made and took in.
+///
+/// After an error nothing has run: [`an_error_changes_nothing`].
 pub fn regions_stand_for_what_they_have_seen(
     world: &mut World,
     events: &[Event],
@@ -59,6 +63,8 @@ pub fn regions_stand_for_what_they_have_seen(
 /// The regions stood for equal sets before the run, for example both for none. During the run they
 /// made and took in the same facts, in any order and any number of times. They stand for equal sets
 /// after the run, whatever each of them skipped.
+///
+/// After an error nothing has run: [`an_error_changes_nothing`].
 pub fn regions_that_have_seen_the_same_are_the_same(
     world: &mut World,
     events: &[Event],
@@ -88,6 +94,8 @@ pub fn regions_agree(world: &World)
 /// and the same bytes. The regions' numbers and the random words don't matter, and neither does
 /// what each of them skipped. All regions of a world have the same settings: one choice of these
 /// counts, who sees refresh tokens.
+///
+/// After an error nothing has run: [`an_error_changes_nothing`].
 pub fn equal_facts_introspect_alike(
     world: &mut World,
     events: &[Event],

@@ -86,7 +86,8 @@ fn admin_samples(alloc: Global, paths: &[u8], replies: &Replies) -> Result<Vec<u
     joined(alloc, &[&clients, &consents, &logins])
 }
 
-// Returns the samples of the paths by which operators add, list and retire clients.
+// Returns the samples of the paths by which operators add, list and retire clients, and change
+// their secrets.
 #[tactic(auto, unfolding(crate::specs::RepliesText::registry_samples))]
 fn registry_samples(alloc: Global, paths: &[u8], replies: &Replies) -> Result<Vec<u8>, AllocError>
     ensures { IfOk result (λ text. text.items ≡ spec.registry_samples paths.now replies.now) }
@@ -94,7 +95,8 @@ fn registry_samples(alloc: Global, paths: &[u8], replies: &Replies) -> Result<Ve
     let client = endpoint_samples(alloc, paths, b"admin/client", &replies.client)?;
     let clients = endpoint_samples(alloc, paths, b"admin/clients", &replies.clients)?;
     let retire = endpoint_samples(alloc, paths, b"admin/retire", &replies.retire)?;
-    joined(alloc, &[&client, &clients, &retire])
+    let secret = endpoint_samples(alloc, paths, b"admin/secret", &replies.secret)?;
+    joined(alloc, &[&client, &clients, &retire, &secret])
 }
 
 // Returns the samples of the paths by which operators add and end consents, and sign subjects out.

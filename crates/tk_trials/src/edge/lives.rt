@@ -1,8 +1,8 @@
 //! Tests of the lives that a client is registered with: they bound what it gets, within the lives
 //! of the server.
 //!
-//! The tests run with each allocation refused in turn, as docs/GATE.md describes: a request that
-//! runs out of memory makes no fact, and is sent again.
+//! In the tests each allocation fails once, one run for each, as docs/GATE.md describes. A request
+//! that runs out of memory makes no fact, and is sent again.
 
 use super::new_edge;
 use std::alloc::Global;

@@ -163,6 +163,12 @@ const ADMIN_PATHS: &[Row] = &[
         ONLY_POST,
     ),
     (
+        b"PUT /admin/secret HTTP/1.1\r\n\r\n",
+        UNKNOWN,
+        ONLY_POST,
+        ONLY_POST,
+    ),
+    (
         b"PUT /admin/logout HTTP/1.1\r\n\r\n",
         UNKNOWN,
         ONLY_POST,

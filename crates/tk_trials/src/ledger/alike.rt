@@ -3,6 +3,7 @@
 use super::facts::{Place, dot, handle};
 use super::orders::Both;
 use super::same::{same_clients, same_consents, same_statuses, same_views};
+use super::secrets::are_secrets_alike;
 use super::subjects::{are_logins_alike, are_walks_alike};
 use tk_fact::{Fact, Subject};
 use tk_family::Steps;
@@ -17,7 +18,7 @@ pub(super) struct Compared<'a> {
     pub(super) places: &'a [Place],
     /// The kinds of the tokens at each place, and the numbers of their random words.
     pub(super) tokens: &'a [(Kind, u64)],
-    /// The clients that may have revoked a token.
+    /// The clients that may have revoked a token, or may have a changed secret.
     pub(super) clients: &'a [Place],
     /// The moments of the statuses.
     pub(super) moments: &'a [u64],
@@ -162,6 +163,17 @@ fn are_outs_alike(both: &Both, subject: &Subject) -> bool {
     true
 }
 
+// Returns whether both ledgers agree on the secrets of the clients.
+fn are_clients_alike(both: &Both, clients: &[Place]) -> bool {
+    for client in clients {
+        match dot(*client) {
+            Some(client) if are_secrets_alike(both, client) => {}
+            _ => return false,
+        }
+    }
+    true
+}
+
 /// Returns whether all answers of both ledgers are alike.
 pub(super) fn are_all_alike(both: &Both, compared: &Compared<'_>) -> bool {
     for at in compared.places {
@@ -172,6 +184,7 @@ pub(super) fn are_all_alike(both: &Both, compared: &Compared<'_>) -> bool {
     both.ledger.store().len() == both.plain.len()
         && both.ledger.horizon().seconds() == both.plain.horizon()
         && are_outs_alike(both, compared.subject)
+        && are_clients_alike(both, compared.clients)
         && is_next_alike(both, None)
         && are_walks_alike(both, None, compared)
 }

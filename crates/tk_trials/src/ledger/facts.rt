@@ -40,6 +40,8 @@ pub(super) enum Says {
     SubjectOut(&'static [u8], u64),
     /// An access token of the random words of this number, for the refresh token minted there.
     AccessRefreshed(Place, u64),
+    /// A secret of the client, set at the turn, with the digest of this number.
+    SecretSet(Place, u64, u8),
 }
 
 /// A fact: its dot and its body.
@@ -48,6 +50,11 @@ pub(super) type Told = (Place, Says);
 pub(super) fn dot(place: Place) -> Option<Dot> {
     let region = RegionNumber::new(place.0)?;
     Dot::new(region, place.1)
+}
+
+/// Returns the digest of this number: 32 bytes of it.
+pub(super) fn secret_digest(number: u8) -> [u8; 32] {
+    [number; 32]
 }
 
 /// Returns a handle of the token, made of the random words of that number.
@@ -187,6 +194,18 @@ fn signed_out(alloc: Global, at: Place, subject: &[u8], moment: u64) -> Option<V
     joined(alloc, &[&at, b"\x0a", subject, &moment])
 }
 
+// Returns a fact that a secret of the client was set at the turn.
+fn secret_set(
+    alloc: Global,
+    at: Place,
+    client: Place,
+    turn: u64,
+    digest: &[u8],
+) -> Option<Vec<u8>> {
+    let (at, client, turn) = (spelled(at), spelled(client), turn.to_be_bytes());
+    joined(alloc, &[&at, b"\x0f", &client, &turn, digest, START])
+}
+
 // Returns the bytes of a fact.
 fn bytes_of(alloc: Global, told: &Told) -> Option<Vec<u8>> {
     let (place, says) = *told;
@@ -211,6 +230,9 @@ fn bytes_of(alloc: Global, told: &Told) -> Option<Vec<u8>> {
         Says::ReuseSeen(token, kind) => naming(alloc, place, b"\x09", token, &[kind.number()]),
         Says::SubjectOut(subject, moment) => signed_out(alloc, place, subject, moment),
         Says::AccessRefreshed(parent, word) => refreshed(alloc, place, parent, word),
+        Says::SecretSet(client, turn, number) => {
+            secret_set(alloc, place, client, turn, &secret_digest(number))
+        }
     }
 }
 

@@ -102,15 +102,26 @@ fn code(number: u64, end: u64) -> Says {
     Says::CodeUntil(9, named((1, 1), number >> 8), (1, 2), end)
 }
 
-// Returns a revocation, a retirement, a withdrawal or a sign-out.
+// Returns a revocation, a retirement, a withdrawal, a sign-out or a secret.
 fn lasting(number: u64) -> Says {
-    match number % 5 {
-        0 => Says::ClientRetired(named((1, 1), number / 5)),
-        1 => Says::ConsentWithdrawn(named((1, 2), number / 5)),
-        2 => Says::SubjectOut(ANN, 999 + number / 5 % 2),
-        3 => Says::TokenRevoked((place(number / 5), Kind::Access, 7), (1, 1)),
-        _ => Says::TokenRevoked((place(number / 5), Kind::Refresh, 8), (1, 1)),
+    match number % 7 {
+        0 => Says::ClientRetired(named((1, 1), number / 7)),
+        1 => Says::ConsentWithdrawn(named((1, 2), number / 7)),
+        2 => Says::SubjectOut(ANN, 999 + number / 7 % 2),
+        3 => Says::TokenRevoked((place(number / 7), Kind::Access, 7), (1, 1)),
+        4 => Says::TokenRevoked((place(number / 7), Kind::Refresh, 8), (1, 1)),
+        _ => secret(number / 7),
     }
+}
+
+// Returns a secret of one of the turns 1 to 3, with one of the digests 2 to 4.
+fn secret(number: u64) -> Says {
+    let digest = match number % 3 {
+        0 => 2,
+        1 => 3,
+        _ => 4,
+    };
+    Says::SecretSet(named((1, 1), number / 3), 1 + number / 9 % 3, digest)
 }
 
 // Returns a reuse: of a token of the first family, or of any token.

@@ -1,7 +1,7 @@
 //! Skips and prunes that run out of memory leave every answer of a ledger unchanged.
 //!
-//! The tests run with each allocation refused in turn, as docs/GATE.md describes. A step that was
-//! refused memory succeeds when it is taken again.
+//! In the tests each allocation fails once, one run for each, as docs/GATE.md describes. A step
+//! that was refused memory succeeds when it is taken again.
 
 use super::facts::{Place, Says, Told, dot};
 use super::orders::add_to_ledger;

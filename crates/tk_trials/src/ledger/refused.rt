@@ -1,11 +1,12 @@
 //! Additions that run out of memory leave every answer of a ledger unchanged.
 //!
-//! The tests run with each allocation refused in turn, as docs/GATE.md describes. If no
-//! allocation is refused, all facts are held.
+//! In the tests each allocation fails once, one run for each, as docs/GATE.md describes. If no
+//! allocation fails, all facts are held.
 
 use super::facts::{ANN, Place, Says, Token, Told, dot, handle};
 use super::orders::{Case, Row, add_to_ledger, copied};
 use super::same::{same_clients, same_consents, same_statuses};
+use super::secrets::secrets_agree;
 use super::{ADDED, AT_ONCE, CUT_OFF, GIVEN, ISSUED, REVOKED_BY};
 use std::alloc::Global;
 use std::process::Abort;
@@ -33,6 +34,9 @@ const FACTS: &[Told] = &[
     ADDED,
     GIVEN,
     ISSUED,
+    // Secrets of a client, set at two turns.
+    ((3, 1), Says::SecretSet((1, 1), 1, 2)),
+    ((3, 2), Says::SecretSet((1, 1), 2, 3)),
     // Facts that end a family, all families of a subject, a consent and a client.
     ((2, 6), Says::SubjectOut(ANN, 1_020)),
     ((2, 7), Says::SubjectOut(ANN, 1_010)),
@@ -110,6 +114,7 @@ fn place_agrees(left: &Ledger, right: &Ledger, asked: &Asked<'_>, dot: Dot) -> b
     found == right.consent_for(dot, asked.subject, asked.scope)
         && same_clients(&left.client(dot), &right.client(dot))
         && same_consents(&left.consent(dot), &right.consent(dot))
+        && secrets_agree(left, right, dot)
         && left.skipped(dot) == right.skipped(dot)
 }
 
