@@ -18,6 +18,7 @@ use Rattle.tk_dots.specs.Pages.{span, page_of, Pages, cell, cell_at, seen, IsPag
 use Rattle.tk_dots.specs.Pages.{IsPaged}
 use Rattle.tk_dots.proofs.PlaceLaws.{tied, tied_same, same_place, get_seen}
 
+-- equal numbers are equal by the test
 pub nat_is : (a b : ℕ) → a ≡ b → (a == b) ≡ true
 nat_is a b h = grind (arith, nat_tests)
 
@@ -67,6 +68,7 @@ module _ {X : Type 0} where
     at_seen : (q : Dot) → cell_at P q ≡ map.get F q
     at_seen q = sym (get_seen P q) ∙ ap (λ (m : map.FinMap dot_cmp X). map.get m q) is
 
+    -- the cell at a dot's place is the map's value there
     pub get_here : cell P k0 i ≡ map.get F d
     get_here =
         ap (λ (k : Dot). cell P k i) page ∙ ap (λ (n : ℕ). cell P (page_of d) n) place ∙ at_seen d
@@ -76,18 +78,22 @@ module _ {X : Type 0} where
     get_written o h q =
         get_seen N q ∙ written_at o h q ∙ ap (cond (eq_by_cmp dot_cmp q d) o) (at_seen q)
 
+    -- a value that was written is in the map
     pub seen_put : (x : X) → Written (Some x) → seen N.entries ≡ map.insert F d x
     seen_put x h = map.same_map dot_cmp_total dot_cmp-IsAntisymmetric _ _
         (λ q. get_written (Some x) h q ∙ sym (map.get-insert dot_cmp_total F d x q))
 
+    -- a cell that was emptied is out of the map
     pub seen_taken : Written None → seen N.entries ≡ map.remove F d
     seen_taken h = map.same_map dot_cmp_total dot_cmp-IsAntisymmetric _ _
         (λ q. get_written None h q ∙ sym (map.get-remove dot_cmp_total F d q))
 
+    -- cells that are as before are the map as before
     pub seen_same : ((k : Dot) (j : ℕ) → cell N k j ≡ cell P k j) → seen N.entries ≡ F
     seen_same h = map.same_map dot_cmp_total dot_cmp-IsAntisymmetric _ _
         (λ q. get_seen N q ∙ h (page_of q) (q.serial % span) ∙ at_seen q)
 
+    -- the map after a value was set where one was
     pub get_set : (x : X) → Written (cond (is_some (cell P k0 i)) (Some x) None)
         → (q : Dot) → map.get (seen N.entries) q
         ≡ cond (eq_by_cmp dot_cmp q d) (option_map (λ _. x) (map.get F q)) (map.get F q)
@@ -108,6 +114,7 @@ module _ {X : Type 0} where
       held : (b : Bool) → is_some (cell P k0 i) ≡ b → is_some (map.get F d) ≡ b
       held b e = ap is_some (sym get_here) ∙ e
 
+      -- a map with a value has a length above 0
       pub some_counted : is_some (cell P k0 i) ≡ true → 1 ≤ len
       some_counted h = elim (cases_lt 0 (map.len F)) [
         | inl some ↦ omega (arith, some, counted_here)
@@ -120,6 +127,7 @@ module _ {X : Type 0} where
       ]
 
       module _ (pages : IsPages N) where
+        -- pages with one more value have one more
         pub paged_new : (x : X) → Written (Some x) → is_some (cell P k0 i) ≡ false
             → IsPaged N (len + 1)
         paged_new x h none = record {
@@ -129,6 +137,7 @@ module _ {X : Type 0} where
               ∙ cond-false _ _ _ (held false none));
         }
 
+        -- pages in which a value took the place of another have as many
         pub paged_over : (x : X) → Written (Some x) → is_some (cell P k0 i) ≡ true → IsPaged N len
         paged_over x h some = record {
           pages = pages;
@@ -137,6 +146,7 @@ module _ {X : Type 0} where
               ∙ cond-true _ _ _ (held true some));
         }
 
+        -- pages without a value that was there have one less
         pub paged_less : Written None → is_some (cell P k0 i) ≡ true → IsPaged N (len - 1)
         paged_less h some = record {
           pages = pages;
@@ -145,6 +155,7 @@ module _ {X : Type 0} where
               ∙ cond-true _ _ _ (held true some));
         }
 
+        -- pages without a value that wasn't there have as many
         pub paged_none : Written None → is_some (cell P k0 i) ≡ false → IsPaged N len
         paged_none h none = record {
           pages = pages;
@@ -153,10 +164,12 @@ module _ {X : Type 0} where
               ∙ cond-false _ _ _ (held false none));
         }
 
+        -- pages with the same cells have as many values
         pub paged_same : ((k : Dot) (j : ℕ) → cell N k j ≡ cell P k j) → IsPaged N len
         paged_same h =
             record { pages = pages; counted = counted_here ∙ sym (ap map.len (seen_same h)) }
 
+        -- pages in which a value was set where one was have as many
         pub paged_set : (x : X) → Written (cond (is_some (cell P k0 i)) (Some x) None)
             → IsPaged N len
         paged_set x h = elim (cases_Bool (is_some (cell P k0 i))) [

@@ -44,6 +44,7 @@ module _ {X : Type 0} where
   get_marked m s q = get_marks m (set.items s) q
       ∙ ap (λ (t : Bool). cond t (Some None) (map.get m q)) (sym (set.contains-items s q))
 
+  -- no values and no marks are the empty map
   pub marked_empty : (m : MarkedMap X) (s : DotSet) → m ≡ map.empty → s ≡ set.empty
       → marked m s ≡ map.empty
   marked_empty m s none nothing = map.same_map dot_cmp_total dot_cmp-IsAntisymmetric _ _ (λ q.
@@ -52,6 +53,7 @@ module _ {X : Type 0} where
       ∙ ap (λ (t : Bool). cond t (Some None) (map.get m q)) (set.contains-empty dot_cmp q)
       ∙ ap (λ (x : MarkedMap X). map.get x q) none)
 
+  -- without runs no dot is on a page and in a run
   pub apart_empty : (m : MarkedMap X) (s : DotSet) → s ≡ set.empty → AreApart m s
   apart_empty m s nothing d h = absurd
       (false≢true
@@ -59,6 +61,7 @@ module _ {X : Type 0} where
       ∙ (ap (λ (t : DotSet). set.contains t d) (sym nothing) ∙ h)))
 
   module _ (m : MarkedMap X) (s : DotSet) (F : MarkedMap X) (is : marked m s ≡ F) where
+    -- what the map has at a dot: a mark in a run, or what is on the page
     pub at : (q : Dot) → map.get F q ≡ cond (set.contains s q) (Some None) (map.get m q)
     at q = ap (λ (x : MarkedMap X). map.get x q) (sym is) ∙ get_marked m s q
 
@@ -66,6 +69,7 @@ module _ {X : Type 0} where
     pub at_page : (q : Dot) → set.contains s q ≡ false → map.get F q ≡ map.get m q
     at_page q h = at q ∙ cond-false _ _ _ h
 
+    -- a dot in a run is a mark
     pub at_run : (q : Dot) → set.contains s q ≡ true → map.get F q ≡ Some None
     at_run q h = at q ∙ cond-true _ _ _ h
 
@@ -76,6 +80,7 @@ module _ {X : Type 0} where
       | inr off ↦ off
     ]
 
+    -- a free dot is on no page
     pub free_page : (q : Dot) → map.get F q ≡ None → map.get m q ≡ None
     free_page q free = sym (at_page q (free_run q free)) ∙ free
 
@@ -111,6 +116,7 @@ module _ {X : Type 0} where
       get_put : (q : Dot) → map.get n q ≡ cond (eq_by_cmp dot_cmp q d) (Some x) (map.get m q)
       get_put q = ap (λ (y : MarkedMap X). map.get y q) put ∙ map.get-insert dot_cmp_total m d x q
 
+      -- the map with one more value on its page
       pub put_marked : marked n s ≡ map.insert F d x
       put_marked = same_marked n s (map.insert F d x)
           (λ q. at_put q ∙ sym (map.get-insert dot_cmp_total F d x q))
@@ -127,6 +133,7 @@ module _ {X : Type 0} where
                 ∙ sym (at q) ∙ sym (cond-false _ _ _ apart)
           ]
 
+      -- pages and runs stay apart with one more value
       pub put_apart : AreApart m s → AreApart n s
       put_apart apart q on = elim (cases_Bool (eq_by_cmp dot_cmp q d)) [
         | inl same ↦ absurd
@@ -141,6 +148,7 @@ module _ {X : Type 0} where
       has_added q =
           ap (λ (y : DotSet). set.contains y q) add ∙ set.contains-insert dot_cmp_total s d q
 
+      -- the map with one more mark in its run
       pub mark_marked : marked m t ≡ map.insert F d None
       mark_marked = same_marked m t (map.insert F d None) (λ q.
           ap (λ (b : Bool). cond b (Some None) (map.get m q)) (has_added q)
@@ -148,6 +156,7 @@ module _ {X : Type 0} where
           ∙ ap (cond (eq_by_cmp dot_cmp q d) (Some None)) (sym (at q))
           ∙ sym (map.get-insert dot_cmp_total F d None q))
 
+      -- pages and runs stay apart with one more mark
       pub mark_apart : map.get m d ≡ None → AreApart m s → AreApart m t
       mark_apart free apart q on = elim (cases_Bool (eq_by_cmp dot_cmp q d)) [
         | inl same ↦ ap (map.get m) (tied q d same) ∙ free
@@ -188,6 +197,7 @@ module _ {X : Type 0} where
                 ∙ sym (at q) ∙ sym (cond-false _ _ _ apart)
           ]
 
+      -- pages and runs stay apart if a value takes the place of another
       pub over_apart : AreApart m s → AreApart n s
       over_apart apart q on = set' q ∙ none_over (eq_by_cmp dot_cmp q d) (apart q on)
         where
@@ -208,6 +218,7 @@ module _ {X : Type 0} where
                   ∙ sym (cond-false _ _ _ apart)
             ]
 
+        -- the map whose value became a mark in a run
         pub moved_marked : marked k t ≡ map.insert F d None
         moved_marked = same_marked k t (map.insert F d None)
             (λ q. at_moved q ∙ sym (map.get-insert dot_cmp_total F d None q))
@@ -225,6 +236,7 @@ module _ {X : Type 0} where
                   ∙ sym (at q) ∙ sym (cond-false _ _ _ apart)
             ]
 
+        -- pages and runs stay apart if a value becomes a mark in a run
         pub moved_apart : AreApart m s → AreApart k t
         moved_apart apart q on = elim (cases_Bool (eq_by_cmp dot_cmp q d)) [
           | inl same ↦ get_gone q ∙ cond-true _ _ _ same
@@ -247,6 +259,7 @@ module _ {X : Type 0} where
         | inr apart ↦ sym (cond-false _ _ _ apart)
       ]
 
+      -- the map is as before if a mark goes from its page to a run
       pub shift_marked : AreApart m s → marked k t ≡ F
       shift_marked apart =
           moved_marked m d itself k t add gone ∙ held_mark F d (page_is apart d no_value here)
@@ -260,6 +273,7 @@ module _ {X : Type 0} where
                 | inr other ↦ cond-false _ _ _ other
               ])
 
+      -- pages and runs stay apart if a mark goes from its page to a run
       pub shift_apart : AreApart m s → AreApart k t
       shift_apart apart = moved_apart m d itself k t add gone apart
 
@@ -276,6 +290,7 @@ module _ {X : Type 0} where
         by_slot (Some None) h = absurd (false≢true h)
         by_slot (Some (Some x)) h = (x, refl)
 
+    -- a dot with a value is in no run
     pub value_off : (q : Dot) (x : X) → map.get F q ≡ Some (Some x) → set.contains s q ≡ false
     value_off q x h = elim (cases_Bool (set.contains s q)) [
       | inl on ↦ absurd (mark_not x (sym (at_run q on) ∙ h))
@@ -286,6 +301,7 @@ module _ {X : Type 0} where
         mark_not x e = cc
 
     module _ (k : MarkedMap X) (d : Dot) (gone : k ≡ map.remove m d) where
+      -- the map without a value
       pub taken_marked : set.contains s d ≡ false → marked k s ≡ map.remove F d
       taken_marked off = same_marked k s (map.remove F d)
           (λ q. at_taken q ∙ sym (map.get-remove dot_cmp_total F d q))
@@ -305,6 +321,7 @@ module _ {X : Type 0} where
                 ∙ sym (at q) ∙ sym (cond-false _ _ _ apart)
           ]
 
+      -- pages and runs stay apart without a value
       pub taken_apart : AreApart m s → AreApart k s
       taken_apart apart q on =
           ap (λ (y : MarkedMap X). map.get y q) gone ∙ map.get-remove dot_cmp_total m d q

@@ -61,11 +61,13 @@ module _ {X : Type 0} (m : MarkedMap X) (s : DotSet) (F : MarkedMap X) (is : mar
         elim (known_at q some) [ inl on ↦ runs q up on | inr here ↦ next.least q up here ];
   }
 
+  -- the next entry is the next mark of a run, if that is below the next on a page
   pub next_mark : (after : Option Dot) (a : Dot) (p : Dot × Option X) → IsNextIn s after (Some a)
       → IsNext m after (Some p) → is_lt (dot_cmp a p.0) ≡ true → IsNext F after (Some (a, None))
   next_mark after a p mark place lt =
       near_mark after a mark (λ q up some. below_both q a p.0 lt (place.least q up some))
 
+  -- the next entry is the next on a page, if no mark of a run is below it
   pub next_place : (after mark : Option Dot) (p : Dot × Option X) → IsNextIn s after mark
       → IsNext m after (Some p) → ((a : Dot) → mark ≡ Some a → is_lt (dot_cmp a p.0) ≡ false)
       → IsNext F after (Some p)
@@ -74,15 +76,18 @@ module _ {X : Type 0} (m : MarkedMap X) (s : DotSet) (F : MarkedMap X) (is : mar
   next_place after (Some a) p mark place ge =
       near_place after p place (λ q up on. above_both q a p.0 (ge a refl) (mark.2 q up on))
 
+  -- the next entry is the next mark of a run, if no page has a next
   pub next_mark_alone : (after : Option Dot) (a : Dot) → IsNextIn s after (Some a)
       → IsNext m after None → IsNext F after (Some (a, None))
   next_mark_alone after a mark place =
       near_mark after a mark (λ q up some. absurd (none_some (map.get m q) (place q up) some))
 
+  -- there is no next entry if neither pages nor runs have one
   pub next_none : (after : Option Dot) → IsNextIn s after None → IsNext m after None
       → IsNext F after None
   next_none after mark place q up = free_at q (mark q up) (place q up)
 
+  -- a walk that passes over runs finds the next entry on a page
   pub passes_is : (after : Option Dot) (r : Option (Dot × Option X)) → IsNext m after r
       → Passes F after r
   passes_is after None next =
@@ -93,6 +98,7 @@ module _ {X : Type 0} (m : MarkedMap X) (s : DotSet) (F : MarkedMap X) (is : mar
     λ q x up h. next.least q up (ap is_some (value_on m s F is q x h)),
   )
 
+  -- the last serial of a region is the later of those on pages and in runs
   pub last_is : (r a b n : ℕ) → IsLast m r a → IsLastIn s r b → n ≡ max a b → IsLast F r n
   last_is r a b n page run e = record {
     there = λ some. at_last some (cases_lt a b);
@@ -127,6 +133,7 @@ pub passes_copied : {X : Type 0} (F : MarkedMap X) (after : Option Dot) (d : Dot
     → o ≡ x → Passes F after (Some (d, x)) → Passes F after (Some (d, o))
 passes_copied F after d x o e h = (h.0 ∙ ap (λ y. Some y) (sym e), h.1, h.2)
 
+-- the next entry has an equal value
 pub next_copied : {X : Type 0} (F : MarkedMap X) (after : Option Dot) (d : Dot) (x o : Option X)
     → o ≡ x → IsNext F after (Some (d, x)) → IsNext F after (Some (d, o))
 next_copied F after d x o e h =

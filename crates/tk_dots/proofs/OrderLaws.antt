@@ -49,6 +49,7 @@ lt_reverse Less = refl
 lt_reverse Equal = refl
 lt_reverse Greater = refl
 
+-- a dot that is not above another has that one not below it
 pub le_not_lt : (k q : Dot) → IsLeBy dot_cmp k q → is_lt (dot_cmp q k) ≡ false
 le_not_lt k q h = ap is_lt (dot_cmp_total.antisymm q k) ∙ lt_reverse (dot_cmp k q) ∙ h
 
@@ -272,6 +273,7 @@ module _ {X : Type 0} where
             subst (λ (x : Dot). IsLeBy dot_cmp (page_of q) x) (sym hi) within.1,
           )
 
+      -- the last serial of a region is that of the last cell of its last page
       pub last_is : (k : Dot) (v : Slots X) → IsLeBy dot_cmp first k × IsLeBy dot_cmp k last
           → get dot_cmp m k ≡ Some v → 0 < k.serial
           → ((q : Dot) → IsLeBy dot_cmp first q × IsLeBy dot_cmp q last → IsSome (get dot_cmp m q)

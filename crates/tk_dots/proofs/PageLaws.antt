@@ -25,6 +25,7 @@ turned k q off = elim (cases_Bool (eq_by_cmp dot_cmp q k)) [
 
 module _ {X : Type 0} (m n : Pages X) (k0 : Dot) (w : Option (Slots X))
     (updates : (q : Dot) → get dot_cmp n q ≡ cond (is_at (dot_cmp k0) q) w (get dot_cmp m q)) where
+  -- the cells after one page was written
   pub cells_updated : (at : ℕ) (o : Option X)
       → ((j : ℕ) → slot_in w j ≡ cond (j == at) o (cell m k0 j))
       → (k : Dot) (j : ℕ) → cell n k j ≡ cond (eq_by_cmp dot_cmp k k0 && (j == at)) o (cell m k j)
@@ -39,6 +40,7 @@ module _ {X : Type 0} (m n : Pages X) (k0 : Dot) (w : Option (Slots X))
         ∙ ap (λ (b : Bool). cond (b && (j == at)) o (cell m k j)) (sym (turned k0 k apart))
   ]
 
+  -- pages stay pages after one was written
   pub pages_updated : IsPages m → ((v : Slots X) → w ≡ Some v → IsPage k0 v.items) → IsPages n
   pages_updated pages here k v at = elim (cases_Bool (is_at (dot_cmp k0) k)) [
     | inl same ↦ subst (λ (q : Dot). IsPage q v.items) (tied k0 k same)
@@ -73,20 +75,24 @@ pub same_lookups : {X : Type 0} (m n : Pages X) → n.entries ≡ m.entries → 
     → get dot_cmp n q ≡ get dot_cmp m q
 same_lookups {X} m n e q = ap (λ (es : List (Dot × Slots X)). lookup (is_at (dot_cmp q)) es) e
 
+-- what follows from success holds after success
 pub on_ok : {A E : Type 0} (r : Result A E) (P Q : Type 0) → OnOk r P → (P → Q) → OnOk r Q
 on_ok (Ok a) P Q h f = f h
 on_ok (Err e) P Q h f = tt
 
+-- what follows from an error holds after an error
 pub on_err : {A E : Type 0} (r : Result A E) (P Q : Type 0) → OnErr r P → (P → Q) → OnErr r Q
 on_err (Ok a) P Q h f = tt
 on_err (Err e) P Q h f = f h
 
+-- what follows from success and from an error holds
 pub on_both : {A E : Type 0} (r : Result A E) (P Q S R : Type 0) → OnOk r P → OnOk r Q → OnErr r S
     → (P → Q → R) → (S → R) → R
 on_both (Ok a) P Q S R p q s f g = f p q
 on_both (Err e) P Q S R p q s f g = g s
 
 module _ {X : Type 0} (k : Dot) where
+  -- a page of one value
   pub page_one : (os : List (Option X)) (at : ℕ) (x : X) → at < span
       → 0 < (k.serial - 1) * span + at → (k.serial - 1) * span + at ≤ greatest_serial
       → length os ≡ at + 1
@@ -119,6 +125,7 @@ module _ {X : Type 0} (k : Dot) where
           | inr apart ↦ apart
         ]
 
+    -- a page with one more value
     pub page_put : (x : X) → at < span → 0 < (k.serial - 1) * span + at
         → (k.serial - 1) * span + at ≤ greatest_serial → length os ≡ max (length old) (at + 1)
         → ((j : ℕ) → get_or os j None ≡ cond (j == at) (Some x) (get_or old j None)) → IsPage k os
@@ -138,6 +145,7 @@ module _ {X : Type 0} (k : Dot) where
           ∙ page.low first;
     }
 
+    -- a page in which a value was set where one was
     pub page_set : (x : X) → length os ≡ length old
         → ((j : ℕ) → get_or os j None
         ≡ cond (j == at) (cond (is_some (get_or old at None)) (Some x) None) (get_or old j None))
@@ -168,6 +176,7 @@ module _ {X : Type 0} (k : Dot) where
             (ap (λ (j : ℕ). get_or old j None) (sym (same refl)) ∙ none)
         none_set false same none = none
 
+    -- a page without a value, and without the empty end
     pub page_taken : length os ≤ length old
         → ((j : ℕ) → get_or os j None ≡ cond (j == at) None (get_or old j None)) → EndsFull os
         → 0 < length os → IsPage k os

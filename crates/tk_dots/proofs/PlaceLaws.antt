@@ -27,10 +27,12 @@ tied q d h = dot_cmp-IsAntisymmetric q d (equal_of (dot_cmp q d) h)
     equal_of Equal e = refl
     equal_of Greater e = absurd (false≢true e)
 
+-- equal dots tie
 pub tied_same : (q d : Dot) → q ≡ d → eq_by_cmp dot_cmp q d ≡ true
 tied_same q d e =
     subst (λ (x : Dot). eq_by_cmp dot_cmp q x ≡ true) e (ap is_eq (tied_itself dot_cmp_total q))
 
+-- dots of one region and serial are equal
 pub dot_is : (q d : Dot) → q.region ≡ d.region → q.serial ≡ d.serial → q ≡ d
 dot_is q d e f = λ i. record { region = e i; serial = f i }
 

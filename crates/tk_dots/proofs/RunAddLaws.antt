@@ -99,6 +99,7 @@ module _ (m n : Runs) (runs : IsRuns m) (d : Dot) (s end : ℕ) (free : IsCovere
     };
   }
 
+  -- the runs with one more dot cover it, and what they covered
   pub new_covers : (q : Dot) → (q ≡ d) ⊎ IsCovered m q → IsCovered n q
   new_covers q (inl same) =
       let e : q.serial ≡ d.serial = ap (λ (x : Dot). x.serial) same in
@@ -170,6 +171,7 @@ module _ (m n : Runs) (runs : IsRuns m) (d : Dot) (s end : ℕ) (free : IsCovere
             omega (arith, last, high)
       ]
 
+  -- the runs with one more dot cover nothing else
   pub new_only : (q : Dot) → IsCovered n q → (q ≡ d) ⊎ IsCovered m q
   new_only q x = elim (at_any q.region x.first x.has.last x.has.here) [
     | inr old ↦ inr
@@ -250,6 +252,7 @@ module _ (m n : Runs) (runs : IsRuns m) (d : Dot) (s end : ℕ) (free : IsCovere
         ]
   ]
 
+  -- runs with one more dot are runs
   pub added_runs : IsOrdered dot_cmp n → 0 < s → end ≤ greatest_serial → IsRuns n
   added_runs ordered some ranged = record {
     ordered = ordered;

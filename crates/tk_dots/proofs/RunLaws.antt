@@ -27,9 +27,11 @@ use Rattle.tk_dots.specs.Runs.{IsRunBelow, IsEndAbove, IsStartAt, IsStretch}
 use Rattle.tk_dots.proofs.PlaceLaws.{tied, tied_same, dot_is}
 use Rattle.std.proofs.lemmas.Option.{none-some as none_is, same_Some as some_same}
 
+-- numbers that the test finds equal are equal
 pub nat_test : (x y a b : ℕ) → x ≡ a → y ≡ b → (x == y) ≡ true → a ≡ b
 nat_test x y a b e f h = grind (arith, nat_tests)
 
+-- numbers that the test finds different are different
 pub nat_apart : (x y a b : ℕ) → x ≡ a → y ≡ b → (x == y) ≡ false → a ≢ b
 nat_apart x y a b e f h = grind (arith, nat_tests)
 
@@ -176,6 +178,7 @@ end_some m runs d next last is at =
     subst (λ (k : Dot). k.serial ≤ last) is (runs.rises next last at) in
     inr (omega (arith, rises), ap (get dot_cmp m) (sym is) ∙ at)
 
+-- no run begins above a dot whose next begins none
 pub end_none : (m : Runs) (d next : Dot) (n : ℕ) → n ≡ d.serial
     → next ≡ dot_of d.region (d.serial + 1) → get dot_cmp m next ≡ None → IsEndAbove m d n
 end_none m d next n e is none = inl (e, ap (get dot_cmp m) (sym is) ∙ none)
@@ -223,6 +226,7 @@ below_other m d k within top other n last le at =
         → is_lt (dot_cmp k q) ≡ false → k.region ≡ d.region
     same_region k q d region le h = grind (arith, nat_tests)
 
+-- no run is below a dot if none begins up to it
 pub below_none : (m : Runs) (d : Dot)
     → ((q : Dot) → IsInRange dot_cmp Unbounded (Included d) q → get dot_cmp m q ≡ None)
     → IsRunBelow m d None
@@ -275,6 +279,7 @@ module _ (m : Runs) (runs : IsRuns m) (d : Dot) where
       early : (n end : ℕ) → n ≡ d.serial → nat_le n end ≡ false → end < d.serial
       early n end e h = grind (arith, nat_tests)
 
+  -- a dot with no run below it is in none
   pub none_test : IsRunBelow m d None → false ≡ set.contains (run_set m.entries) d
   none_test none =
       covered_is m runs.ordered d false (λ h. absurd (false≢true h)) (λ _. none_below none)
@@ -300,6 +305,7 @@ module _ (m : Runs) (runs : IsRuns m) (d : Dot) where
   start_none none some =
       (none_below none, refl, inl (refl, λ k last le at. absurd (none k last le at)), some)
 
+  -- the run that ends before a dot is the one that the dot goes on
   pub start_below : (p : Dot × ℕ) → IsRunBelow m d (Some p) → p.1 + 1 ≡ d.serial
       → IsStartAt m d (Some p.0)
   start_below p below e = (
@@ -309,6 +315,7 @@ module _ (m : Runs) (runs : IsRuns m) (d : Dot) where
     runs.some (dot_of d.region p.0.serial) p.1 below.2,
   )
 
+  -- a dot whose run below ends earlier begins a run of its own
   pub start_here : (p : Dot × ℕ) → IsRunBelow m d (Some p) → p.1 < d.serial → p.1 + 1 ≢ d.serial
       → 0 < d.serial → IsStartAt m d (Some d)
   start_here p below early apart some =
@@ -356,5 +363,6 @@ module _ (m : Runs) (runs : IsRuns m) (d : Dot) where
         ]
       ]
 
+  -- a dot in no run is in no stretch
   pub stretch_none : (IsCovered m d → ⊥) → IsStretch (run_set m.entries) d None
   stretch_none free = false_from_ne_true _ (λ h. free (covers m runs.ordered d h))

@@ -162,6 +162,7 @@ module _ (m : Runs) (runs : IsRuns m) where
         let high = runs.ranged (dot_of r k) end at in
         within k some (omega (arith, rises, high))
 
+    -- the last serial of a region is the end of its last run
     pub last_in : (k : Dot) (end : ℕ) → IsLeBy dot_cmp first k × IsLeBy dot_cmp k last
         → get dot_cmp m k ≡ Some end
         → ((q : Dot) → IsLeBy dot_cmp first q × IsLeBy dot_cmp q last → IsSome (get dot_cmp m q)
@@ -212,6 +213,7 @@ module _ (m : Runs) (runs : IsRuns m) where
               omega (arith, one, high)
         ]
 
+    -- a region without a run has the last serial 0
     pub last_none : ((q : Dot) → IsLeBy dot_cmp first q × IsLeBy dot_cmp q last
         → get dot_cmp m q ≡ None)
         → IsLastIn S r 0
@@ -239,6 +241,7 @@ first_excluded m a part rest k v range steps =
           (range.2 q (is_less (dot_cmp a q) above, tt) held)),
     )
 
+-- the first run is the first of all
 pub first_all : (m : Runs) (part rest : List (Dot × ℕ)) (k : Dot) (v : ℕ)
     → IsRangeOf dot_cmp Unbounded Unbounded m part → part ≡ (k, v) ∷ rest
     → IsFirstAbove m None (Some k)
@@ -255,10 +258,12 @@ first_all m part rest k v range steps =
           (range.2 q (tt, tt) held)),
     )
 
+-- no run is above a dot if the range above it is empty
 pub first_excluded_none : (m : Runs) (a : Dot) (part : List (Dot × ℕ))
     → IsRangeOf dot_cmp (Excluded a) Unbounded m part → part ≡ [] → IsFirstAbove m (Some a) None
 first_excluded_none m a part range none k above = range.5 none k (is_less (dot_cmp a k) above, tt)
 
+-- there is no first run if the whole range is empty
 pub first_all_none : (m : Runs) (part : List (Dot × ℕ))
     → IsRangeOf dot_cmp Unbounded Unbounded m part → part ≡ [] → IsFirstAbove m None None
 first_all_none m part range none k above = range.5 none k (tt, tt)

@@ -9,6 +9,7 @@ use Rattle.tk_dots.proofs.CellLaws.{nat_is}
 use mathlib.Core.Bool.{false≢true}
 
 module _ {X : Type 0} where
+  -- one more empty cell changes no cell
   pub push_none : (xs : List (Option X)) (j : ℕ)
       → get_or (xs ++ None ∷ []) j None ≡ get_or xs j None
   push_none [] zero = refl
@@ -16,6 +17,7 @@ module _ {X : Type 0} where
   push_none (x ∷ xs) zero = refl
   push_none (x ∷ xs) (suc j) = push_none xs j
 
+  -- one more value is the cell behind the others
   pub push_some : (xs : List (Option X)) (x : X) (n j : ℕ) → length xs ≡ n
       → get_or (xs ++ Some x ∷ []) j None ≡ cond (j == n) (Some x) (get_or xs j None)
   push_some xs x n j len = elim (cases_Bool (j == n)) [

@@ -1,4 +1,10 @@
 //! A finite map from dots to values or marks.
+//!
+//! ```text
+//!                                     page of 1:1 to 1:63              runs
+//! 1:3 has the last value of a page    mark  mark  value  mark  mark    none
+//! 1:3 is skipped too                  none                             1:1 to 1:5
+//! ```
 
 use crate::dots::DotMap;
 use crate::runs::DotRuns;

@@ -1,4 +1,10 @@
 //! A finite set of dots, as runs.
+//!
+//! ```text
+//! dots                                     entries of the map
+//! 1:1, 1:2, 1:3, 1:4, 1:5, and 1:7         1:1 to 5, and 1:7 to 7
+//! 1:1, 1:2, 1:3, 1:4, 1:5, 1:6, and 1:7    1:1 to 7
+//! ```
 
 use std::collections::BTreeMap;
 use std::marker::Model;

@@ -8,6 +8,7 @@ use Rattle.tk_family.specs.declared.link.Link.TheVariants.{Code}
 use Rattle.tk_family.specs.Families.{Links, IsParent, IsPath, IsUnder, LinksWithin}
 pub use Rattle.tk_family.specs.Puts.{Adds}
 
+-- links are within those with one more link
 pub Within-adds : (f g : Links) (d : Dot) (l : Link) → Adds f g d l → LinksWithin f g
 Within-adds f g d l a q k h = elim (cases_dots q d) [
   | inl same ↦ absurd

@@ -32,6 +32,7 @@ pub IsPath-code : (f : Links) (q : Dot) (ps : List Dot) (c : Dot) → IsPath f q
     → f c ≡ Some Code
 IsPath-code f q ps c m = m.1
 
+-- a dot with a link has a row
 pub row_with : (o : Option Row) (k : Link) → link_in o ≡ Some k → RowAt o
 row_with None k h = absurd (let clash : None ≡ Some k = h in cc)
 row_with (Some r) k h = record { row = r; is = refl }
@@ -43,6 +44,7 @@ row_on M q (p ∷ ps) c m = row_with (M q) m.0.0.link m.0.0.here
 row_under : (M : Rows) (q c : Dot) → IsUnder (links_of M) q c → RowAt (M q)
 row_under M q c u = row_on M q u.path c u.leads
 
+-- a link that is hung up, below which all got their code, is put
 pub PutRows-from : (T M A : Rows) (d : Dot) (l : Link) (c0 : Dot) (ys : List Dot) → IsForest T
     → Hung T M d l → Grown (links_of T) (links_of A) c0 ys → Mid M A c0 ys → IsCounted A
     → PutRows T A d l c0 ys
@@ -62,6 +64,7 @@ PutRows-from T M A d l c0 ys t hung grown mid counted = record {
 
 -- ---- the dots that came under c0
 
+-- the links with one more are those of the rows that got it
 pub links_same : (f g : Links) (d : Dot) (l : Link) → Adds f g d l → (q : Dot)
     → with_link f d l q ≡ g q
 links_same f g d l a q = elim (cases_dots q d) [
@@ -69,6 +72,7 @@ links_same f g d l a q = elim (cases_dots q d) [
   | inr ne ↦ with_link-other f d l q ne ∙ sym (a.others q ne)
 ]
 
+-- what descends from a dot that is under a code is under that code
 pub trail_under : (g : Links) (q d : Dot) (ps : List Dot) (c : Dot) → IsTrail g q ps d
     → IsUnder g d c → IsUnder g q c
 trail_under g q d [] c leads u = subst (λ (y : Dot). IsUnder g y c) (sym leads) u
@@ -87,6 +91,7 @@ trail_free f g q d (p ∷ ps) w free leads c (r ∷ rs) m =
     trail_free f g p d ps w free leads.1 c rs
     (subst (λ (y : Dot). IsPath f y rs c) same (m.0.1, m.1))
 
+-- a dot below a free one is under no code
 pub below_free : (T : Rows) (d : Dot) (l : Link) (ys : List Dot) → links_of T d ≡ None
     → Gathers (links_of T) d l ys → (q : Dot) → has ys q ≡ true → (c : Dot)
     → ¬ IsUnder (links_of T) q c
@@ -96,6 +101,7 @@ below_free T d l ys free got q walked c u =
     (Within-adds (links_of T) (with_link (links_of T) d l) d l
     (Adds-with_link (links_of T) d l free)) free b.leads c u.path u.leads
 
+-- the dots that were gathered are those that the new link brings under the code
 pub Grown-gathered : (T : Rows) (g : Links) (d : Dot) (l : Link) (c : Dot) (ys : List Dot)
     → IsForest T → Adds (links_of T) g d l → chain_code T d l ≡ Some c → Gathers (links_of T) d l ys
     → Grown (links_of T) g c ys
@@ -121,10 +127,12 @@ no_code : (T : Rows) (q : Dot) (o : Option Dot) → IsForest T → code_in (T q)
 no_code T q None t code free = code
 no_code T q (Some c) t code free = absurd (free c (t.under q c code))
 
+-- a dot without a link has no code in its row
 pub free_code : (T : Rows) (d : Dot) → IsForest T → links_of T d ≡ None → code_in (T d) ≡ None
 free_code T d t free =
     no_code T d (code_in (T d)) t refl (λ c u. IsPath-here (links_of T) d u.path c u.leads free)
 
+-- the dots that were gathered have no code yet
 pub fresh_codes : (T M : Rows) (d : Dot) (l : Link) (ys : List Dot) → IsForest T
     → links_of T d ≡ None → ((q : Dot) → code_in (M q) ≡ code_in (T q))
     → Gathers (links_of T) d l ys → (q : Dot) → has ys q ≡ true → code_in (M q) ≡ None
@@ -197,6 +205,7 @@ Puts-waits T M d l t free h counted chain =
       no_other = grown.claim;
     }
 
+-- a link that is put in rows which look alike is put in these
 pub Puts-seen : (T M N : Rows) (d : Dot) (l : Link) (ys zs : List Dot) → zs ≡ ys → NothingSeen T M
     → Puts M N d l zs → Puts T N d l ys
 Puts-seen T M N d l ys zs list seen p =

@@ -71,9 +71,11 @@ child_same a b h =
     (exact_unsigned a.kind b.kind (equal_of (nat_cmp a.kind b.kind) p.1))
     (dot_eq-true a.child b.child p.2)
 
+-- a child is itself
 pub is_child-same : (t : TokenId) (c : Dot) → is_child t c t c ≡ true
 is_child-same t c = ap is_eq (tied_itself children_total (child_key t c))
 
+-- children that are equal have equal tokens and dots
 pub is_child-true : (t k : TokenId) (c e : Dot) → is_child t c k e ≡ true → (t ≡ k) × (c ≡ e)
 is_child-true t k c e h =
     let p = tied_parts (child_key t c) (child_key k e) h in
@@ -82,6 +84,7 @@ is_child-true t k c e h =
     ∙ and_from _ _ p.0 p.1 in
     (exact_tokens t k (equal_of (token_cmp t k) tie), dot_eq-true c e p.2)
 
+-- two tokens are equal or not
 pub cases_tokens : (j k : TokenId) → (j ≡ k) ⊎ (j ≢ k)
 cases_tokens j k = elim (cases_Bool (is_child j least_dot k least_dot)) [
   | inl same ↦ inl (is_child-true j k least_dot least_dot same).0
@@ -91,10 +94,12 @@ cases_tokens j k = elim (cases_Bool (is_child j least_dot k least_dot)) [
       ∙ apart))
 ]
 
+-- children of different tokens are different
 pub is_child-apart : (t k : TokenId) (c e : Dot) → k ≢ t → is_child t c k e ≡ false
 is_child-apart t k c e ne =
     false_from_ne_true (is_child t c k e) (λ h. ne (sym (is_child-true t k c e h).0))
 
+-- children at different dots are different
 pub is_child-other : (t k : TokenId) (c e : Dot) → c ≢ e → is_child t c k e ≡ false
 is_child-other t k c e ne =
     false_from_ne_true (is_child t c k e) (λ h. ne (is_child-true t k c e h).1)
@@ -213,6 +218,7 @@ pub users-has : (s : BTreeSet Child) (k : TokenId) (e : Dot) → others_in s k e
     → has (dots_of (users_in s k)) e ≡ true
 users-has s k e at ranged = kept_dot (in_range k) (child_key k e) s.keys at (in_span k e ranged)
 
+-- a user that is listed of a token is one of its others
 pub has-users : (s : BTreeSet Child) (k : TokenId) (e : Dot) → has (dots_of (users_in s k)) e ≡ true
     → others_in s k e ≡ true
 has-users s k e h =
@@ -263,6 +269,7 @@ distinct_kept k (x ∷ xs) sorted = elim (cases_Bool (in_range k x)) [
       (distinct_kept k xs sorted.1)
 ]
 
+-- no user of a token is listed twice
 pub users-distinct : (s : BTreeSet Child) (k : TokenId) → IsOrdered child_cmp s
     → IsDistinct dot_eq (dots_of (users_in s k))
 users-distinct s k ordered = distinct_kept k s.keys ordered
@@ -279,16 +286,19 @@ none_has : (cs : List Child) (e : Dot) → first_user cs ≡ None → has (dots_
 none_has [] e h = refl
 none_has (x ∷ xs) e h = absurd (let clash : Some x.child ≡ None = h in cc)
 
+-- the first user of a token is one of its others
 pub first_listed : (s : BTreeSet Child) (k : TokenId) (e : Dot) → first_user (users_in s k) ≡ Some e
     → others_in s k e ≡ true
 first_listed s k e h = has-users s k e (first_has (users_in s k) e h)
 
+-- a token without a first user has no others
 pub none_listed : (s : BTreeSet Child) (k : TokenId)
     → ((e : Dot) → others_in s k e ≡ true → IsDot e) → first_user (users_in s k) ≡ None → (e : Dot)
     → others_in s k e ≡ false
 none_listed s k ranged h e = false_from_ne_true (others_in s k e)
     (λ at. true≢false (sym (users-has s k e at (ranged e at)) ∙ none_has (users_in s k) e h))
 
+-- nothing changes if a token without a user is to lose one
 pub takes_none : (s : BTreeSet Child) (k : TokenId) (o : Option Dot)
     → ((e : Dot) → others_in s k e ≡ true → IsDot e) → o ≡ first_user (users_in s k) → o ≡ None
     → TakesUser (others_in s) (others_in s) k o
@@ -312,11 +322,13 @@ promotes_second E M N p (Some c) none same x = (
 
 -- ---- counts up to two
 
+-- one user is counted as one
 pub one_user : (cs rest : List Child) (x : Child) → cs ≡ x ∷ rest → rest ≡ []
     → 1 ≡ length (take 2 cs)
 one_user cs rest x first none =
     sym (ap (λ (l : List Child). length (take 2 l)) (first ∙ ap (λ (l : List Child). x ∷ l) none))
 
+-- two users and more are counted as two
 pub two_users : (cs rest more : List Child) (x y : Child) → cs ≡ x ∷ rest → rest ≡ y ∷ more
     → 2 ≡ length (take 2 cs)
 two_users cs rest more x y first second =

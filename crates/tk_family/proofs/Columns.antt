@@ -85,6 +85,7 @@ Alike-blank T N at h = record {
       (flag_blank k (T q)).2;
 }
 
+-- rows that are equal are alike
 pub Alike-same : (T N : Rows) → ((q : Dot) → N q ≡ T q) → Alike T N
 Alike-same T N h = record {
   link = λ q. ap link_in (h q);
@@ -96,6 +97,7 @@ Alike-same T N h = record {
   again = λ q k. ap (λ (o : Option Row). again_in o k) (h q);
 }
 
+-- rows that are alike to alike rows are alike
 pub Alike-then : (T M N : Rows) → Alike T M → Alike M N → Alike T N
 Alike-then T M N a b = record {
   link = λ q. b.link q ∙ a.link q;
@@ -107,6 +109,7 @@ Alike-then T M N a b = record {
   again = λ q k. b.again q k ∙ a.again q k;
 }
 
+-- likeness goes both ways
 pub Alike-back : (T N : Rows) → Alike T N → Alike N T
 Alike-back T N a = record {
   link = λ q. sym (a.link q);
@@ -159,6 +162,7 @@ blank_or : (o : Option Row) → is_blank_row o ≡ true → (o ≡ None) ⊎ (o 
 blank_or None h = inl refl
 blank_or (Some row) h = inr (ap (λ (r : Row). Some r) (blank_is row h))
 
+-- rows are alike without a blank row
 pub Alike-dropped : (T N : Rows) (at : Dot) → is_blank_row (T at) ≡ true
     → ((q : Dot) → N q ≡ cond (dot_eq at q) None (T q)) → Alike T N
 Alike-dropped T N at h rows = elim (blank_or (T at) h) [
@@ -189,6 +193,7 @@ within_same f g same d l h = same d ∙ h
 within_back : (f g : Links) → ((q : Dot) → g q ≡ f q) → LinksWithin g f
 within_back f g same d l h = sym (same d) ∙ h
 
+-- rows that differ in marks and counts alone stay a forest, if they are counted
 pub IsForest-kept : (T N : Rows) → IsForest T → AlikeButMarks T N → IsCounted N → IsForest N
 IsForest-kept T N t p counted =
     let w : LinksWithin (links_of T) (links_of N) = within_same (links_of T) (links_of N) p.link in
@@ -209,6 +214,7 @@ IsForest-kept T N t p counted =
           p.again j.dot j.kind ∙ t.twice j (IsTwice-within (links_of N) (links_of T) back j h);
     }
 
+-- rows that are alike to a forest are a forest
 pub IsForest-alike : (T N : Rows) → IsForest T → Alike T N → IsForest N
 IsForest-alike T N t a = IsForest-kept T N t
     (record { link = a.link; code = a.code; first = a.first; used = a.used; again = a.again })
@@ -218,6 +224,7 @@ IsForest-alike T N t a = IsForest-kept T N t
 
 -- ---- the code of a new link
 
+-- a path to a dot of a lower rank than the new link's doesn't use that link
 pub IsPath-below : (f g : Links) (d : Dot) (l : Link) → Adds f g d l
     → (q : Dot) (ps : List Dot) (c : Dot) → IsPath g q ps c → rank_of (g q) < rank_of (g d)
     → IsUnder f q c
@@ -239,11 +246,13 @@ fits_over-some : (l : Link) (o : Option Link) → fits_over l o ≡ true
 fits_over-some l None h = absurd (true≢false (sym h))
 fits_over-some l (Some k) h = (k, refl, h)
 
+-- a link that names no dot is that of a code
 pub no_name : (l : Link) → named_by l ≡ None → l ≡ Code
 no_name Code h = refl
 no_name (Redeems c) h = absurd (cc)
 no_name (Rotates p g) h = absurd (cc)
 
+-- a dot whose chain ends in a code is under it once it has its link
 pub chain-some : (T : Rows) (g : Links) (d : Dot) (l : Link) (o : Option Dot) (c : Dot) → IsForest T
     → Adds (links_of T) g d l → named_by l ≡ o → chain_by T d l o ≡ Some c → IsUnder g d c
 chain-some T g d l None c t a names h =
@@ -283,6 +292,7 @@ chain-some T g d l (Some p) c t a names h = elim (cases_Bool (fits_over l (link_
 some_over : (l k : Link) (o : Option Link) → o ≡ Some k → fits l k ≡ true → fits_over l o ≡ true
 some_over l k o at fit = ap (fits_over l) at ∙ fit
 
+-- a dot with a path to a code has a chain that ends there
 pub chain-path : (T : Rows) (g : Links) (d : Dot) (l : Link) (ps : List Dot) (c : Dot) → IsForest T
     → Adds (links_of T) g d l → IsPath g d ps c → chain_code T d l ≡ Some c
 chain-path T g d l [] c t a m =
@@ -305,11 +315,13 @@ chain-path T g d l (p ∷ ps) c t a m =
     ap (chain_by T d l) names
     ∙ (cond-true _ _ _ (some_over l m.0.0.above (link_in (T p)) above fit) ∙ t.memo p c u)
 
+-- a dot whose chain ends in no code is under none
 pub chain-none : (T : Rows) (g : Links) (d : Dot) (l : Link) → IsForest T → Adds (links_of T) g d l
     → chain_code T d l ≡ None → (c : Dot) → IsUnder g d c → ⊥
 chain-none T g d l t a none c u =
     let clash : Some c ≡ None = sym (chain-path T g d l u.path c t a u.leads) ∙ none in cc
 
+-- what changes nothing that is seen, twice, changes nothing that is seen
 pub NothingSeen-then : (T M N : Rows) → NothingSeen T M → NothingSeen M N → NothingSeen T N
 NothingSeen-then T M N a b = record {
   forest = b.forest;
@@ -318,6 +330,7 @@ NothingSeen-then T M N a b = record {
   marks = λ k. b.marks k ∙ a.marks k;
 }
 
+-- rows that are alike show the same links, marks and uses
 pub NothingSeen-alike : (T N : Rows) → IsForest T → Alike T N → NothingSeen T N
 NothingSeen-alike T N t a = record {
   forest = IsForest-alike T N t a;
@@ -330,6 +343,7 @@ blank_there : (o : Option Row) → IsSome (or_blank o)
 blank_there None = refl
 blank_there (Some r) = refl
 
+-- a dot has a row once a blank one was put there
 pub present-blank : (T N : Rows) (at : Dot)
     → ((q : Dot) → N q ≡ cond (dot_eq at q) (or_blank (T q)) (T q)) → IsSome (N at)
 present-blank T N at h = subst (λ (o : Option Row). IsSome o)

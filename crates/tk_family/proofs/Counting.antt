@@ -30,6 +30,7 @@ use Rattle.tk_family.proofs.Filters.{has-filter, filter-has, IsDistinct-filter, 
 
 -- ---- counts
 
+-- two columns that have a code at the same dots count equally
 pub IsCount-alike : (f g : Dot → Option Dot) (c : Dot) (n : ℕ)
     → ((q : Dot) → f q ≡ Some c → g q ≡ Some c) → ((q : Dot) → g q ≡ Some c → f q ≡ Some c)
     → IsCount f c n → IsCount g c n
@@ -41,6 +42,7 @@ IsCount-alike f g c n there back x = record {
   count = x.count;
 }
 
+-- a number that equals a count is one
 pub IsCount-is : (f : Dot → Option Dot) (c : Dot) (n m : ℕ) → m ≡ n → IsCount f c n → IsCount f c m
 IsCount-is f c n m same x = record {
   list = x.list;
@@ -172,6 +174,7 @@ IsCount-less f g at c n others here not_g x =
     (IsCount-more g f at c r.0 (λ q ne. sym (others q ne)) not_g here r.1) in
     (omega arith, IsCount-is g c r.0 (n - 1) (omega arith) r.1)
 
+-- none is not some dot
 pub not_some : (o : Option Dot) (c : Dot) → o ≡ None → o ≢ Some c
 not_some o c none some = let clash : None ≡ Some c = sym none ∙ some in cc
 
@@ -228,15 +231,18 @@ pub bad-same : (x y : Option Row) → link_in y ≡ link_in x
 bad-same x y link marked again =
     ap (λ (o : Option Link). bad_at o y) link ∙ bad_at-same (link_in x) x y marked again
 
+-- rows that are equally bad under equal codes blame the same
 pub blamed-same : (x y : Option Row) → bad_in y ≡ bad_in x → code_in y ≡ code_in x
     → blamed_in y ≡ blamed_in x
 blamed-same x y bad code = ap (λ (b : Bool). cond b (code_in y) None) bad
     ∙ ap (λ (o : Option Dot). cond (bad_in x) o None) code
 
+-- a bad row under a code blames that code
 pub blamed-bad : (o : Option Row) (c : Dot) → bad_in o ≡ true → code_in o ≡ Some c
     → blamed_in o ≡ Some c
 blamed-bad o c bad code = cond-true (bad_in o) (code_in o) None bad ∙ code
 
+-- a row that blames a code is bad, and under the code
 pub blamed-parts : (o : Option Row) (c : Dot) → blamed_in o ≡ Some c
     → (bad_in o ≡ true) × (code_in o ≡ Some c)
 blamed-parts o c h = elim (cases_Bool (bad_in o)) [
@@ -245,12 +251,14 @@ blamed-parts o c h = elim (cases_Bool (bad_in o)) [
       (let clash : None ≡ Some c = sym (cond-false (bad_in o) (code_in o) None good) ∙ h in cc)
 ]
 
+-- a row under no code blames none
 pub blamed-none : (o : Option Row) → code_in o ≡ None → blamed_in o ≡ None
 blamed-none o none = elim (cases_Bool (bad_in o)) [
   | inl bad ↦ cond-true (bad_in o) (code_in o) None bad ∙ none
   | inr good ↦ cond-false (bad_in o) (code_in o) None good
 ]
 
+-- what is bad is a row
 pub bad-row : (o : Option Row) → bad_in o ≡ true → IsSome o
 bad-row None h = absurd (true≢false (sym h))
 bad-row (Some r) h = refl
@@ -275,10 +283,12 @@ long_if : (list : List Dot) (q : Dot) → has list q ≡ true → nat_lt 0 (leng
 long_if [] q h = absurd (true≢false (sym h))
 long_if (x ∷ xs) q h = lt-ltb 0 (length (x ∷ xs)) (omega arith)
 
+-- a count above 0 counts a dot
 pub count-some : (f : Dot → Option Dot) (c : Dot) (n : ℕ) → IsCount f c n → nat_lt 0 n ≡ true
     → (q : Dot) × (f q ≡ Some c)
 count-some f c n x h = some_of f c n x.list x.count h x.sound
 
+-- a dot that is counted makes the count more than 0
 pub some-count : (f : Dot → Option Dot) (c q : Dot) (n : ℕ) → IsCount f c n → f q ≡ Some c
     → nat_lt 0 n ≡ true
 some-count f c q n x h = ap (nat_lt 0) x.count ∙ long_if x.list q (x.all q h)

@@ -11,29 +11,36 @@ use Rattle.tk_handle.specs.declared.dot.Dot.{Dot}
 use Rattle.tk_handle.specs.Dot.{dot_cmp, dot_cmp_total, dot_cmp-IsAntisymmetric}
 use Rattle.tk_family.specs.Dots.{dot_eq, has}
 
+-- equality of dots is an equivalence
 pub dots_equiv : IsEquivalence dot_eq
 dots_equiv = eq_by_cmp_equiv dot_cmp_total
 
 -- ---- equality, and membership in lists
 
+-- dots that the test finds equal are equal
 pub dot_eq-true : (a b : Dot) → dot_eq a b ≡ true → a ≡ b
 dot_eq-true a b h = dot_cmp-IsAntisymmetric a b ((Equal-is (dot_cmp a b)).0 h)
 
+-- a dot equals itself by the test
 pub dot_eq-same : (a : Dot) → dot_eq a a ≡ true
 dot_eq-same a = dots_equiv.refl a
 
+-- dots that the test finds different are different
 pub dot_eq-false : (a b : Dot) → dot_eq a b ≡ false → a ≢ b
 dot_eq-false a b h same = true≢false (sym (dot_eq-same a) ∙ (ap (dot_eq a) same ∙ h))
 
+-- two dots are equal or not
 pub cases_dots : (a b : Dot) → (a ≡ b) ⊎ (a ≢ b)
 cases_dots a b = elim (cases_Bool (dot_eq a b)) [
   | inl same ↦ inl (dot_eq-true a b same)
   | inr apart ↦ inr (dot_eq-false a b apart)
 ]
 
+-- the test finds different dots different
 pub dot_eq-apart : (a b : Dot) → a ≢ b → dot_eq a b ≡ false
 dot_eq-apart a b ne = false_from_ne_true (dot_eq a b) (λ same. ne (dot_eq-true a b same))
 
+-- a dot of a list is its first, or one of the others
 pub has-cons : (x : Dot) (xs : List Dot) (q : Dot) → has (x ∷ xs) q ≡ true
     → (q ≡ x) ⊎ (has xs q ≡ true)
 has-cons x xs q h = elim (or_cases (dot_eq q x) (has xs q) h) [
@@ -41,22 +48,28 @@ has-cons x xs q h = elim (or_cases (dot_eq q x) (has xs q) h) [
   | inr more ↦ inr more
 ]
 
+-- a list has its first dot
 pub has-here : (x : Dot) (xs : List Dot) → has (x ∷ xs) x ≡ true
 has-here x xs = or_left (dot_eq x x) (has xs x) (dot_eq-same x)
 
+-- a list has the dots behind its first
 pub has-there : (x : Dot) (xs : List Dot) (q : Dot) → has xs q ≡ true → has (x ∷ xs) q ≡ true
 has-there x xs q h = or_right (dot_eq q x) (has xs q) h
 
+-- a dot of two lists is in one of both
 pub has-append : (a b : List Dot) (q : Dot) → has (a ++ b) q ≡ true
     → (has a q ≡ true) ⊎ (has b q ≡ true)
 has-append a b q h = or_cases (has a q) (has b q) (sym (list_any-append (dot_eq q) a b) ∙ h)
 
+-- two lists have the dots of the first
 pub has-left : (a b : List Dot) (q : Dot) → has a q ≡ true → has (a ++ b) q ≡ true
 has-left a b q h = list_any-append (dot_eq q) a b ∙ or_left (has a q) (has b q) h
 
+-- two lists have the dots of the second
 pub has-right : (a b : List Dot) (q : Dot) → has b q ≡ true → has (a ++ b) q ≡ true
 has-right a b q h = list_any-append (dot_eq q) a b ∙ or_right (has a q) (has b q) h
 
+-- a dot that differs from each of a list is not in the list
 pub list_none : (y : Dot) (ys : List Dot) → AllByRecursion (λ z. dot_eq y z ≡ false) ys
     → has ys y ≡ false
 list_none y [] h = refl
@@ -65,6 +78,7 @@ list_none y (z ∷ zs) h = or_from (dot_eq y z) (has zs y) h.0 (list_none y zs h
 has-cons-same : (x : Dot) (b : List Dot) (z : Dot) → x ≡ z → has (x ∷ b) z ≡ true
 has-cons-same x b z same = or_left (dot_eq z x) (has b z) (ap (dot_eq z) same ∙ dot_eq-same z)
 
+-- two distinct lists without a common dot are distinct together
 pub IsDistinct-append : (a b : List Dot) → IsDistinct dot_eq a → IsDistinct dot_eq b
     → ((q : Dot) → has a q ≡ true → has b q ≡ true → ⊥) → IsDistinct dot_eq (a ++ b)
 IsDistinct-append a [] da db apart = rw append-nil da

@@ -12,5 +12,6 @@ lookup_find : (es : List (Dot × Row)) (q : Dot) → lookup (dot_eq q) es ≡ ma
 lookup_find [] q = refl
 lookup_find (e ∷ es) q = ap (cond (dot_eq q e.0) (Some e.1)) (lookup_find es q)
 
+-- the entry of a dot is the row of the table
 pub entries_table : (m : RowMap) (q : Dot) → lookup (dot_eq q) (map.entries m) ≡ table m q
 entries_table m q = lookup_find (map.entries m) q ∙ sym (map.get-entries m q)

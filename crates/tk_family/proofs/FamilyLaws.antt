@@ -36,6 +36,7 @@ IsPath-one f d (p ∷ ps) (q ∷ qs) b c m n =
     let same : p ≡ q = IsParent-one f d p q m.0.0 n.0.0 in
     IsPath-one f p ps qs b c (m.0.1, m.1) (rw same n.0.1, n.1)
 
+-- a dot is under one code at most
 pub IsUnder-one : (f : Links) (d b c : Dot) → IsUnder f d b → IsUnder f d c → b ≡ c
 IsUnder-one f d b c m n = IsPath-one f d m.path n.path b c m.leads n.leads
 
@@ -51,6 +52,7 @@ fits-rank (Rotates p g) (Rotates d j) h = grind (arith)
 
 -- ---- what holds of some links holds of more
 
+-- a parent stays one if there are more links
 pub IsParent-within : (f g : Links) → LinksWithin f g → (e p : Dot) → IsParent f e p
     → IsParent g e p
 IsParent-within f g w e p a = record {
@@ -62,23 +64,27 @@ IsParent-within f g w e p a = record {
   fitting = a.fitting;
 }
 
+-- a trail stays one if there are more links
 pub IsTrail-within : (f g : Links) → LinksWithin f g → (d : Dot) (ps : List Dot) (e : Dot)
     → IsTrail f d ps e → IsTrail g d ps e
 IsTrail-within f g w d [] e m = m
 IsTrail-within f g w d (p ∷ ps) e m =
     (IsParent-within f g w d p m.0, IsTrail-within f g w p ps e m.1)
 
+-- a dot stays under its code if there are more links
 pub IsUnder-within : (f g : Links) → LinksWithin f g → (d c : Dot) → IsUnder f d c → IsUnder g d c
 IsUnder-within f g w d c m = record {
   path = m.path;
   leads = (IsTrail-within f g w d m.path c m.leads.0, w c Code m.leads.1);
 }
 
+-- what a link uses it uses if there are more links
 pub use_of-within : (f g : Links) → LinksWithin f g → (e : Dot) (o : Option Link) (k : TokenId)
     → f e ≡ o → use_of o ≡ Some k → use_of (g e) ≡ Some k
 use_of-within f g w e None k at h = absurd (cc)
 use_of-within f g w e (Some l) k at h = ap use_of (w e l at) ∙ h
 
+-- a grant that was used twice stays so if there are more links
 pub IsTwice-within : (f g : Links) → LinksWithin f g → (k : TokenId) → IsTwice f k → IsTwice g k
 IsTwice-within f g w k t = record {
   one = t.one;
@@ -88,6 +94,7 @@ IsTwice-within f g w k t = record {
   by_two = use_of-within f g w t.two (f t.two) k refl t.by_two;
 }
 
+-- a bad dot stays bad if there are more links and marks
 pub IsBad-within : (f g : Links) (m n : Marks) → LinksWithin f g → MarksWithin m n → (d : Dot)
     → IsBad f m d → IsBad g n d
 IsBad-within f g m n w v d b = record {
@@ -110,6 +117,7 @@ IsDead-within f g m n w v c x = record {
 
 -- ---- the rank along a chain
 
+-- a child's rank is one above its parent's
 pub IsParent-rank : (f : Links) (e p : Dot) → IsParent f e p → rank_of (f e) ≡ rank_of (f p) + 1
 IsParent-rank f e p a = ap rank_of a.here
     ∙ (fits-rank a.link a.above a.fitting ∙ ap (λ (o : Option Link). rank_of o + 1) (sym a.there))

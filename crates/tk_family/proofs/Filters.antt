@@ -9,6 +9,7 @@ use Rattle.tk_handle.specs.declared.dot.Dot.{Dot}
 use Rattle.tk_family.specs.Dots.{dot_eq, has}
 use Rattle.tk_family.proofs.DotLaws.{has-cons, has-here, has-there, list_none, dot_eq-apart}
 
+-- a dot that a filter keeps is in the list, and passes
 pub has-filter : (p : Dot → Bool) (xs : List Dot) (q : Dot) → has (filter p xs) q ≡ true
     → (has xs q ≡ true) × (p q ≡ true)
 has-filter p [] q h = absurd (true≢false (sym h))
@@ -29,6 +30,7 @@ has-filter p (x ∷ xs) q h = elim (cases_Bool (p x)) [
       ∙ h) in (has-there x xs q r.0, r.1)
 ]
 
+-- a filter keeps each dot of the list that passes
 pub filter-has : (p : Dot → Bool) (xs : List Dot) (q : Dot) → has xs q ≡ true → p q ≡ true
     → has (filter p xs) q ≡ true
 filter-has p [] q h kept = absurd (true≢false (sym h))
@@ -46,6 +48,7 @@ filter-has p (x ∷ xs) q h kept = elim (has-cons x xs q h) [
   ]
 ]
 
+-- a dot that is not in a list differs from each of it
 pub apart_all : (y : Dot) (ys : List Dot) → has ys y ≡ false
     → AllByRecursion (λ z. dot_eq y z ≡ false) ys
 apart_all y [] h = tt
@@ -57,6 +60,7 @@ apart_all y (z ∷ zs) h =
           (false_from_ne_true (has zs y) (λ more. true≢false (sym (has-there z zs y more) ∙ h))),
     )
 
+-- what a filter keeps of a distinct list is distinct
 pub IsDistinct-filter : (p : Dot → Bool) (xs : List Dot) → IsDistinct dot_eq xs
     → IsDistinct dot_eq (filter p xs)
 IsDistinct-filter p [] d = d
@@ -79,6 +83,7 @@ spread : (b : Bool) (x : Dot) (ys zs : List Dot) → x ∷ cond b ys zs ≡ cond
 spread true x ys zs = refl
 spread false x ys zs = refl
 
+-- what a filter keeps of a list with one more dot
 pub filter-push : (p : Dot → Bool) (xs : List Dot) (y : Dot)
     → filter p (xs ++ y ∷ []) ≡ cond (p y) (filter p xs ++ y ∷ []) (filter p xs)
 filter-push p [] y = elim (cases_Bool (p y)) [
@@ -95,11 +100,13 @@ filter-push p (x ∷ xs) y = elim (cases_Bool (p x)) [
       ∙ ap (λ (l : List Dot). cond (p y) (l ++ y ∷ []) l) (sym (cond-false _ _ _ h)))
 ]
 
+-- one more dot goes behind those that were kept
 pub joined : (b : Bool) (old kept : List Dot) (e : Dot)
     → cond b ((old ++ kept) ++ e ∷ []) (old ++ kept) ≡ old ++ cond b (kept ++ e ∷ []) kept
 joined true old kept e = append_assoc old kept (e ∷ [])
 joined false old kept e = refl
 
+-- a filter keeps more dots of a list with one more that passes
 pub length-filter-kept : (p : Dot → Bool) (seen : List Dot) (e : Dot) (rest : List Dot) → p e ≡ true
     → length (filter p seen) < length (filter p (seen ++ e ∷ rest))
 length-filter-kept p [] e rest kept =

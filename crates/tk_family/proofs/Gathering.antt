@@ -25,13 +25,16 @@ use Rattle.tk_family.proofs.Adding.{Adds}
 use Rattle.tk_family.proofs.Reaching.{Walk, Walk-starts, Walk-turns, AreChildren}
 use Rattle.tk_family.proofs.EntryLaws.{entries_table}
 
+-- the new link is at its dot
 pub with_link-here : (f : Links) (d : Dot) (l : Link) → with_link f d l d ≡ Some l
 with_link-here f d l = cond-true (dot_eq d d) (Some l) (f d) (dot_eq-same d)
 
+-- at other dots the links are the old ones
 pub with_link-other : (f : Links) (d : Dot) (l : Link) (q : Dot) → q ≢ d → with_link f d l q ≡ f q
 with_link-other f d l q ne =
     cond-false (dot_eq d q) (Some l) (f q) (dot_eq-apart d q (λ same. ne (sym same)))
 
+-- links with one more at a free dot have that one more
 pub Adds-with_link : (f : Links) (d : Dot) (l : Link) → f d ≡ None → Adds f (with_link f d l) d l
 Adds-with_link f d l free =
     record { free = free; here = with_link-here f d l; others = with_link-other f d l }
@@ -58,6 +61,7 @@ with_link-named f d l e x other names = elim (cases_dots e d) [
   | inr ne ↦ with_link-other f d l e ne
 ]
 
+-- the dots that fit under a link are the children of its dot
 pub AreChildren-from : (f : Links) (d : Dot) (l : Link) (x : Dot) (above : Link) (cs : List Dot)
     → ((k : Link) → f d ≡ Some k → k ≡ l) → with_link f d l x ≡ Some above → FitsAll f x above cs
     → AreChildren (with_link f d l) d x cs
@@ -74,6 +78,7 @@ AreChildren-from f d l x above cs other there fit = record {
   distinct = fit.distinct;
 }
 
+-- a dot without a link has no children
 pub AreChildren-none : (g : Links) (d x : Dot) → g x ≡ None → AreChildren g d x []
 unfolding IsDistinct
 AreChildren-none g d x none = record {
@@ -107,6 +112,7 @@ Walk-room m d l done rest row w = subst (λ (n : ℕ). length (done ++ rest) ≤
       ]
     ])))
 
+-- a walk through rows is part of a gathering
 pub Gathering-from : (m : RowMap) (d : Dot) (l : Link) (ys : List Dot) (i : ℕ) → IsSome (table m d)
     → i ≤ length ys → Walk (with_link (links_of (table m)) d l) d (take i ys) (drop i ys)
     → Gathering m d l ys i
@@ -119,11 +125,13 @@ Gathering-from m d l ys i row within w =
       room = subst (λ (zs : List Dot). length zs ≤ map.len m) (take-append-drop i ys) room;
     }
 
+-- a gathering starts with the dot itself
 pub Gathering-starts : (m : RowMap) (d : Dot) (l : Link) → IsSome (table m d)
     → Gathering m d l (d ∷ []) 0
 Gathering-starts m d l row = Gathering-from m d l (d ∷ []) 0 row (omega arith)
     (Walk-starts (with_link (links_of (table m)) d l) d)
 
+-- a gathering goes on with the children of its next dot
 pub Gathering-turns : (m : RowMap) (d : Dot) (l : Link) (ys cs zs : List Dot) (i : ℕ) (x : Dot)
     → IsSome (table m d) → i < length ys → x ≡ get_or ys i x → zs ≡ ys ++ cs
     → AreChildren (with_link (links_of (table m)) d l) d x cs → Gathering m d l ys i
@@ -165,6 +173,7 @@ Gathering-short m d l ys i room x above row below at other there s g =
     let short : room < length (ys ++ s.children) = s.short in
     omega arith
 
+-- a gathering that has seen each of its dots has all
 pub Gathering-ends : (m : RowMap) (d : Dot) (l : Link) (ys : List Dot) (i : ℕ) → length ys ≤ i
     → Gathering m d l ys i → Gathers (links_of (table m)) d l ys
 Gathering-ends m d l ys i above g =
@@ -182,6 +191,7 @@ Gathering-ends m d l ys i above g =
       distinct = subst (λ (zs : List Dot). IsDistinct dot_eq zs) whole w.distinct;
     }
 
+-- what was gathered may be in any order
 pub Gathers-permuted : (f : Links) (d : Dot) (l : Link) (ys zs : List Dot) → IsPermutation ys zs
     → Gathers f d l ys → Gathers f d l zs
 Gathers-permuted f d l ys zs p g =

@@ -33,6 +33,7 @@ pub record Grown (f g : Links) (c0 : Dot) (ys : List Dot) : Type 0 where
   pub claim : (q c : Dot) → IsUnder g q c → (has ys q ≡ true) ⊎ IsUnder f q c
   pub sound : (q : Dot) → has ys q ≡ true → IsUnder g q c0
 
+-- the dots below the new link, closed under children, are what grows
 pub Grown-walk : (f g : Links) (d : Dot) (l : Link) (c : Dot) (ys : List Dot) → Adds f g d l
     → (has ys d ≡ true) → ((x e : Dot) → has ys x ≡ true → IsParent g e x → has ys e ≡ true)
     → ((q : Dot) → has ys q ≡ true → IsUnder g q c) → Grown f g c ys
@@ -41,6 +42,7 @@ Grown-walk f g d l c ys a root closed sound = record {
   sound = sound;
 }
 
+-- a path doesn't use a new link that is under no code
 pub IsPath-waits : (f g : Links) (d : Dot) (l : Link) → Adds f g d l
     → ((c : Dot) → IsUnder g d c → ⊥) → (q : Dot) (ps : List Dot) (c : Dot) → IsPath g q ps c
     → IsUnder f q c
@@ -56,6 +58,7 @@ IsPath-waits f g d l a none_under q (p ∷ ps) c m = elim (cases_dots q d) [
       below_under f g d l a q p c ne m.0.0 (IsPath-waits f g d l a none_under p ps c (m.0.1, m.1))
 ]
 
+-- nothing grows by a link that is under no code
 pub Grown-waits : (f g : Links) (d : Dot) (l : Link) (c0 : Dot) → Adds f g d l
     → ((c : Dot) → IsUnder g d c → ⊥) → Grown f g c0 []
 Grown-waits f g d l c0 a none_under = record {
@@ -69,6 +72,7 @@ Grown-waits f g d l c0 a none_under = record {
 some_use : (f : Links) (e : Dot) (k : TokenId) → use_of (f e) ≡ Some k → f e ≡ None → ⊥
 some_use f e k h none = let clash : None ≡ Some k = sym (ap use_of none) ∙ h in cc
 
+-- a grant that is used with one more link was used before, or is by this link
 pub IsUsed-adds : (f g : Links) (d : Dot) (l : Link) → Adds f g d l → (k : TokenId) → IsUsed g k
     → (used_by l ≡ Some k) ⊎ IsUsed f k
 IsUsed-adds f g d l a k u = elim (cases_dots u.user d) [
@@ -76,6 +80,7 @@ IsUsed-adds f g d l a k u = elim (cases_dots u.user d) [
   | inr ne ↦ inr (record { user = u.user; by = sym (ap use_of (a.others u.user ne)) ∙ u.by })
 ]
 
+-- a grant that is used twice with one more link was so before, or was used and is again
 pub IsTwice-adds : (f g : Links) (d : Dot) (l : Link) → Adds f g d l → (k : TokenId) → IsTwice g k
     → ((used_by l ≡ Some k) × IsUsed f k) ⊎ IsTwice f k
 IsTwice-adds f g d l a k t = elim (cases_dots t.one d) [
@@ -102,6 +107,7 @@ IsTwice-adds f g d l a k t = elim (cases_dots t.one d) [
   ]
 ]
 
+-- a grant that was used, and is by the new link, is used twice
 pub IsTwice-new : (f g : Links) (d : Dot) (l : Link) → Adds f g d l → (k : TokenId)
     → used_by l ≡ Some k → IsUsed f k → IsTwice g k
 IsTwice-new f g d l a k uses u = record {
@@ -114,6 +120,7 @@ IsTwice-new f g d l a k uses u = record {
 
 -- ---- bad tokens
 
+-- a row that is bad is that of a bad dot
 pub bad-sound : (T : Rows)
     → ((k : TokenId) → again_in (T k.dot) k.kind ≡ true → IsTwice (links_of T) k)
     → (d : Dot) (o : Option Link) → links_of T d ≡ o → bad_at o (T d) ≡ true
@@ -159,6 +166,7 @@ bad-flags T twice d (Rotates p n) why = elim why [
   | inr t ↦ or_right _ _ (twice (grant_at d (Rotates p n)) t)
 ]
 
+-- a bad dot has a row that is bad
 pub bad-complete : (T : Rows)
     → ((k : TokenId) → IsTwice (links_of T) k → again_in (T k.dot) k.kind ≡ true) → (d : Dot)
     → IsBad (links_of T) (passing (marks_of T)) d → bad_in (T d) ≡ true
@@ -167,6 +175,7 @@ bad-complete T twice d b =
 
 -- ---- dead families
 
+-- in a forest a code whose row is dead is dead
 pub IsForest-dead : (T : Rows) → IsForest T → (c : Dot) → dead_in (T c) ≡ true
     → IsDead (links_of T) (passing (marks_of T)) c
 IsForest-dead T t c h =
@@ -180,6 +189,7 @@ IsForest-dead T t c h =
       bad = bad-sound T t.again some.0 (links_of T some.0) refl parts.0;
     }
 
+-- in a forest a dead code has a row that is dead
 pub IsForest-tomb : (T : Rows) → IsForest T → (c : Dot)
     → IsDead (links_of T) (passing (marks_of T)) c → dead_in (T c) ≡ true
 IsForest-tomb T t c x = some-count (λ q. blamed_in (T q)) c x.member _ (t.bads c)
@@ -203,6 +213,7 @@ token_at d k = Some (record { dot = d; kind = k })
 same_token : (a b : Dot) (x y : Kind) → a ≡ b → x ≡ y → token_at a x ≡ token_at b y
 same_token a b x y e h = ap (λ (z : Dot). token_at z x) e ∙ ap (λ (z : Kind). token_at b z) h
 
+-- a link uses the grant that the test finds
 pub uses_it-true : (l : Link) (k : TokenId) → uses_it l k ≡ true → used_by l ≡ Some k
 uses_it-true Code k h = absurd (cc)
 uses_it-true (Redeems c) k h =
@@ -218,6 +229,7 @@ token_or : TokenId → Option TokenId → TokenId
 token_or d None = d
 token_or d (Some k) = k
 
+-- the test finds the grant that a link uses
 pub used_by-uses : (l : Link) (k : TokenId) → used_by l ≡ Some k → uses_it l k ≡ true
 unfolding token_or
 used_by-uses Code k h = absurd (cc)
@@ -261,6 +273,7 @@ put-twice T N d l c0 ys t p k h =
       | inr old ↦ or_left _ _ (t.twice k old)
     ])
 
+-- a forest with one more link that was put is a forest
 pub IsForest-put : (T N : Rows) (d : Dot) (l : Link) (c0 : Dot) (ys : List Dot) → IsForest T
     → PutRows T N d l c0 ys → IsForest N
 IsForest-put T N d l c0 ys t p =

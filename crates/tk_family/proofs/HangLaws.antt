@@ -28,13 +28,16 @@ use Rattle.tk_family.proofs.UseLaws.{uses_by-true}
 use Rattle.tk_family.proofs.ChildLaws.{is_child-same, is_child-true, is_child-apart, is_child-other}
 use Rattle.tk_family.proofs.ChildLaws.{cases_tokens}
 
+-- a link that was taken is gone
 pub without-here : (f : Links) (d : Dot) → without f d d ≡ None
 without-here f d = cond-true (dot_eq d d) None (f d) (dot_eq-same d)
 
+-- at other dots the links stay
 pub without-other : (f : Links) (d q : Dot) → q ≢ d → without f d q ≡ f q
 without-other f d q ne =
     cond-false (dot_eq d q) None (f q) (dot_eq-apart d q (λ same. ne (sym same)))
 
+-- nothing holds together with what doesn't
 pub and_false : (b : Bool) → (b && false) ≡ false
 and_false true = refl
 and_false false = refl
@@ -45,6 +48,7 @@ other o first k e = uses_by o k && not (has_dot first e)
 
 -- ---- nothing has changed
 
+-- what hangs in equal links, first children and others hangs
 pub Hangs-same : (f g : Links) (first then : Dot → Option Dot) (E N : Others)
     → ((q : Dot) → g q ≡ f q) → ((q : Dot) → then q ≡ first q) → IsSame E N → Hangs f first E
     → Hangs g then N
@@ -223,6 +227,7 @@ put_by f g first then E N d l t x None is lists = put_first f g first then E N d
 put_by f g first then E N d l t x (Some y) is lists =
     put_other f g first then E N d l t x y is lists
 
+-- what hangs still does with one more link that is listed
 pub Hangs-put : (f g : Links) (first then : Dot → Option Dot) (E N : Others) (d : Dot) (l : Link)
     → Adds f g d l → Hangs f first E
     → ((q : Dot) → then q ≡ cond (has_dot (named_by l) q) (or_dot (first q) d) (first q))

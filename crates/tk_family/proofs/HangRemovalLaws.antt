@@ -64,6 +64,7 @@ record Left (f : Links) (first : Dot → Option Dot) (E N : Others) (d : Dot) (t
   pub gone : (k : TokenId) → N k d ≡ false
   pub within : (k : TokenId) (e : Dot) → N k e ≡ true → E k e ≡ true
 
+-- the new first child is that of its dot
 pub first_here : (first : Dot → Option Dot) (p : Dot) (o : Option Dot) → with_first first p o p ≡ o
 first_here first p o = cond-true _ _ _ (dot_eq-same p)
 

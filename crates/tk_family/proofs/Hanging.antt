@@ -107,11 +107,13 @@ pub record Pushing (f : Links) (x : Dot) (above : Link) (rest old now : List Dot
   pub names : Candidates f x above (seen ++ rest)
   pub after : now ≡ old ++ filter (λ e. fits_at (f e) above) seen
 
+-- before the first candidate nothing is pushed
 pub Pushing-starts : (f : Links) (x : Dot) (above : Link) (rest old : List Dot)
     → Candidates f x above rest → Pushing f x above rest old old
 Pushing-starts f x above rest old names =
     record { seen = []; names = names; after = sym (append-nil old) }
 
+-- a candidate is pushed if it fits
 pub Pushing-turns : (f : Links) (x : Dot) (above : Link) (e : Dot) (rest old now then : List Dot)
     → Pushing f x above (e ∷ rest) old now → then ≡ cond (fits_at (f e) above) (now ++ e ∷ []) now
     → Pushing f x above rest old then
@@ -137,6 +139,7 @@ FitsAll-candidates f x above list n =
       distinct = IsDistinct-filter q list n.distinct;
     }
 
+-- behind the last candidate all that fit are pushed
 pub Pushing-ends : (f : Links) (x : Dot) (above : Link) (old now : List Dot)
     → Pushing f x above [] old now → Pushes f x above old now
 Pushing-ends f x above old now p = record {
@@ -148,6 +151,7 @@ Pushing-ends f x above old now p = record {
 
 -- ---- a list that has no room for the children
 
+-- there is too little room for the candidates if one fits and the list is full
 pub Pushing-short : (f : Links) (x : Dot) (above : Link) (e : Dot) (rest old now : List Dot)
     (room : ℕ)
     → Pushing f x above (e ∷ rest) old now → fits_at (f e) above ≡ true → room ≤ length now

@@ -31,22 +31,26 @@ pub record RowAt (o : Option Row) : Type 0 where
   pub row : Row
   pub is : o ≡ Some row
 
+-- what is some row is a row
 pub row_at : (o : Option Row) → IsSome o → RowAt o
 row_at None h = absurd (true≢false (sym h))
 row_at (Some r) h = record { row = r; is = refl }
 
 -- ---- a link is hung
 
+-- a flag stays if nothing is added
 pub or_false : (b : Bool) → b ≡ (b || false)
 or_false true = refl
 or_false false = refl
 
+-- a row that gets its link keeps code, count and first child
 pub put_cols : (o : Option Row) (l : Link)
     → (code_in (with_put o l) ≡ code_in o) × (count_in (with_put o l) ≡ count_in o)
     × (first_in (with_put o l) ≡ first_in o)
 put_cols None l = (refl, refl, refl)
 put_cols (Some r) l = (refl, refl, refl)
 
+-- a row that gets its link keeps its flags
 pub put_flags : (o : Option Row) (l : Link) (k : Kind)
     → (marked_in (with_put o l) k ≡ marked_in o k) × (used_in (with_put o l) k ≡ used_in o k)
     × (again_in (with_put o l) k ≡ again_in o k)
@@ -261,6 +265,7 @@ hung-cols T N d p l F of step names uses at_d at_p h =
       ];
     }
 
+-- the columns of rows in which a link was hung up
 pub hung-cols-all : (T N : Rows) (d p : Dot) (l : Link) → named_by l ≡ Some p → RowAt (T d)
     → RowAt (T p) → ((q : Dot) → N q ≡ hung T d l q) → HungCols T N d p l
 hung-cols-all T N d p Code names at_d at_p h = absurd (let clash : None ≡ Some p = names in cc)

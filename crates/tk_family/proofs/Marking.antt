@@ -81,6 +81,7 @@ marked_old (Some r) kind.Refresh kind.Code h = h
 marked_old (Some r) kind.Refresh kind.Access h = h
 marked_old (Some r) kind.Refresh kind.Refresh h = refl
 
+-- tokens of one dot and one kind are equal
 pub token_is : (j k : TokenId) → j.dot ≡ k.dot → j.kind ≡ k.kind → j ≡ k
 token_is j k d h = ap (λ (x : Dot). record { dot = x; kind = j.kind }) d
     ∙ ap (λ (y : Kind). record { dot = k.dot; kind = y }) h
@@ -113,6 +114,7 @@ pub IsCountedAs-at : (T S : Rows) (at : Dot) → IsCounted T → AlikeButMarks T
 IsCountedAs-at T S at x a count others =
     IsCountedAs-from T S at x a.code count (λ q ne. ap blamed_in (others q (λ same. ne (sym same))))
 
+-- rows with one more mark are counted but for the code of its dot
 pub IsCountedAs-marked : (T S : Rows) (k : TokenId) → IsForest T
     → ((q : Dot) → S q ≡ cond (dot_eq k.dot q) (with_marked (T q) k.kind) (T q))
     → IsCountedAs S k.dot (bad_in (T k.dot))
@@ -131,6 +133,7 @@ code_row T S q c t a h =
     row_with (S c) Code (a.link c ∙ IsPath-code (links_of T) q u.path c u.leads) in
     subst (λ (o : Option Row). IsSome o) (sym r.is) refl
 
+-- rows that differ in marks, and then in counts, differ in marks and counts
 pub AlikeButMarks-then : (T S N : Rows) → AlikeButMarks T S → AlikeButCount S N → AlikeButMarks T N
 AlikeButMarks-then T S N a b = record {
   link = λ q. b.link q ∙ a.link q;
@@ -140,6 +143,7 @@ AlikeButMarks-then T S N a b = record {
   again = λ q j. b.again q j ∙ a.again q j;
 }
 
+-- rows with one more mark, counted anew, have that one more mark
 pub MarksOne-from : (T S N : Rows) (k : TokenId) → IsForest T → IsSome (T k.dot)
     → ((q : Dot) → S q ≡ cond (dot_eq k.dot q) (with_marked (T q) k.kind) (T q)) → AlikeButCount S N
     → IsCounted N → MarksOne T N k
@@ -181,6 +185,7 @@ MarksOne-from T S N k t present marks alike counted =
           ];
     }
 
+-- rows that look alike get the same mark
 pub MarksOne-seen : (T M N : Rows) (k : TokenId) → NothingSeen T M → MarksOne M N k → MarksOne T N k
 MarksOne-seen T M N k seen p = record {
   forest = p.forest;
@@ -193,6 +198,7 @@ MarksOne-seen T M N k seen p = record {
 
 -- ---- look-ups
 
+-- a dot with a link and without a code in its row is broken
 pub top-broken : (T : Rows) (q : Dot) (l : Link) → IsForest T → link_in (T q) ≡ Some l
     → code_in (T q) ≡ None → IsTop (links_of T) (passing (marks_of T)) q top.Broken
 top-broken T q l t at none = (

@@ -43,16 +43,19 @@ links_ext f g h = λ i q. h q i
 marks_ext : (f g : TokenId → Bool) → ((k : TokenId) → f k ≡ g k) → f ≡ g
 marks_ext f g h = λ i k. h k i
 
+-- the links of a table are those that are seen of it
 pub links_seen : (m : RowMap) (v : ForestFacts) → seen m ≡ v → links_of (table m) ≡ links_at v
 links_seen m v is =
     links_ext (links_of (table m)) (links_at (seen m)) (λ q. sym (get-links m q)) ∙ ap links_at is
 
+-- the marks of a table are those that are seen of it
 pub marks_seen : (m : RowMap) (v : ForestFacts) → seen m ≡ v
     → marks_of (table m) ≡ set.contains v.marks
 marks_seen m v is = marks_ext (marks_of (table m)) (set.contains (seen_marks (map.entries m)))
     (λ k. sym (contains-marks m k))
     ∙ ap (λ (x : ForestFacts). set.contains x.marks) is
 
+-- a dot's top in the table is its top as it is seen
 pub top_seen : (m : RowMap) (v : ForestFacts) → seen m ≡ v → (q : Dot) (t : Top)
     → IsTop (links_of (table m)) (passing (marks_of (table m))) q t
     → IsTop (links_at v) (marks_at v) q t
@@ -60,6 +63,7 @@ top_seen m v is q t h = subst (λ (f : Links). IsTop f (marks_at v) q t) (links_
     (subst (λ (k : TokenId → Bool). IsTop (links_of (table m)) (passing k) q t)
     (marks_seen m v is) h)
 
+-- a dot that is raised in the table is raised as it is seen
 pub raised_seen : (m n : RowMap) (v : ForestFacts) → seen m ≡ v → (q : Dot)
     → IsRaised (links_of (table m)) (links_of (table n)) q
     → IsRaised (links_at v) (links_at (seen n)) q
@@ -67,6 +71,7 @@ raised_seen m n v is q h = subst (λ (f : Links). IsRaised f (links_at (seen n))
     (links_seen m v is)
     (subst (λ (g : Links). IsRaised (links_of (table m)) g q) (links_seen n (seen n) refl) h)
 
+-- a dot that is raised as it is seen is raised in the table
 pub raised_back : (m n : RowMap) (v : ForestFacts) → seen m ≡ v → (q : Dot)
     → IsRaised (links_at v) (links_at (seen n)) q
     → IsRaised (links_of (table m)) (links_of (table n)) q
@@ -74,6 +79,7 @@ raised_back m n v is q h = subst (λ (f : Links). IsRaised f (links_of (table n)
     (sym (links_seen m v is))
     (subst (λ (g : Links). IsRaised (links_at v) g q) (sym (links_seen n (seen n) refl)) h)
 
+-- each dot that the new link raises is in the list
 pub raised_all : (T N : Rows) (d : Dot) (l : Link) (ys : List Dot) → Puts T N d l ys → (q : Dot)
     → IsRaised (links_of T) (links_of N) q → has ys q ≡ true
 raised_all T N d l ys p q r = elim (p.no_other q r.code r.now) [
@@ -81,6 +87,7 @@ raised_all T N d l ys p q r = elim (p.no_other q r.code r.now) [
   | inr before ↦ absurd (r.before r.code before)
 ]
 
+-- what holds of a list that was made, holds of it in other words
 pub if_ok : (r : Result (Vec Dot Global) AllocError) (P Q : Vec Dot Global → Type 0) → IfOk r P
     → ((v : Vec Dot Global) → P v → Q v) → IfOk r Q
 if_ok (Ok v) P Q h f = f v h
@@ -93,6 +100,7 @@ no_flag : (F : Option Row → Kind → Bool) → ((k : Kind) → F None k ≡ fa
 no_flag F none T h q k yes' =
     true≢false (sym yes' ∙ (ap (λ (o : Option Row). F o k) (h q) ∙ none k))
 
+-- no rows are a forest
 pub IsForest-empty : (T : Rows) → ((q : Dot) → T q ≡ None) → IsForest T
 unfolding IsDistinct
 IsForest-empty T h = record {
@@ -115,6 +123,7 @@ IsForest-empty T h = record {
       sym (ap (λ (o : Option Row). use_of (link_in o)) (h t.one)) ∙ t.by_one in cc);
 }
 
+-- in no rows all hang
 pub Hangs-empty : (T : Rows) (s : BTreeSet Child) → ((q : Dot) → T q ≡ None) → s.keys ≡ []
     → Hangs (links_of T) (firsts_of T) (others_in s)
 Hangs-empty T s h none =
@@ -130,6 +139,7 @@ Hangs-empty T s h none =
       ranged = λ k e at. absurd (true≢false (sym at ∙ no_entry k e));
     }
 
+-- a grant is used in the table exactly if it is as it is seen
 pub used_seen : (m : RowMap) (v : ForestFacts) → seen m ≡ v → (k : TokenId) (b : Bool)
     → ((b ≡ true) → IsUsed (links_of (table m)) k) × (IsUsed (links_of (table m)) k → (b ≡ true))
     → ((b ≡ true) → IsUsed (links_at v) k) × (IsUsed (links_at v) k → (b ≡ true))
@@ -140,6 +150,7 @@ used_seen m v is k b h = subst (λ (f : Links).
 abbrev pub IsUser : Links → TokenId → Option Dot → Type 0
 IsUser f k o = IfSome o (λ d. use_of (f d) ≡ Some k) × IfNone o (¬ IsUsed f k)
 
+-- a grant's user in the table is its user as it is seen
 pub user_seen : (m : RowMap) (v : ForestFacts) → seen m ≡ v → (k : TokenId) (o : Option Dot)
     → IsUser (links_of (table m)) k o → IsUser (links_at v) k o
 user_seen m v is k o h = subst (λ (f : Links). IsUser f k o) (links_seen m v is) h
@@ -167,6 +178,7 @@ one_mark m n k p j = both_ways (marks_of (table n) j)
       | inr old ↦ p.old j (sym (contains-marks m j) ∙ old)
     ])
 
+-- one more mark in the table is one more mark that is seen
 pub marks_one : (m n : RowMap) (k : TokenId) → MarksOne (table m) (table n) k
     → seen_marks (map.entries n) ≡ set.insert (seen_marks (map.entries m)) k
 marks_one m n k p = set.same_set tokens_total exact_tokens _ _
@@ -174,19 +186,23 @@ marks_one m n k p = set.same_set tokens_total exact_tokens _ _
     ∙ (one_mark m n k p j
     ∙ sym (set.contains-insert tokens_total (seen_marks (map.entries m)) k j)))
 
+-- links that stay in the table stay as they are seen
 pub links_kept : (m n : RowMap) → ((q : Dot) → links_of (table n) q ≡ links_of (table m) q)
     → seen_links (map.entries n) ≡ seen_links (map.entries m)
 links_kept m n h = map.same_map dot_cmp_total dot_cmp-IsAntisymmetric _ _
     (λ q. get-links n q ∙ (h q ∙ sym (get-links m q)))
 
+-- what holds after success holds in other words
 pub unit_ok : (r : Result (Unit {0}) AllocError) (P Q : Type 0) → OnOk r P → (P → Q) → OnOk r Q
 unit_ok (Ok v) P Q h f = f h
 unit_ok (Err e) P Q h f = tt
 
+-- what holds after an error holds in other words
 pub unit_err : (r : Result (Unit {0}) AllocError) (P Q : Type 0) → OnErr r P → (P → Q) → OnErr r Q
 unit_err (Ok v) P Q h f = tt
 unit_err (Err e) P Q h f = f h
 
+-- what follows from success and from an error holds
 pub unit_both : (r : Result (Unit {0}) AllocError) (P Q R : Type 0) → OnOk r P → OnErr r Q → (P → R)
     → (Q → R) → R
 unit_both (Ok v) P Q R h k f g = f h
@@ -212,6 +228,7 @@ mark_less m n k p j = elim (cases_Bool (eq_by_cmp token_cmp j k)) [
       ∙ sym (ap (λ (b : Bool). not b && set.contains (seen_marks (map.entries m)) j) apart))
 ]
 
+-- a mark that is gone from the table is gone from what is seen
 pub mark_gone : (m n : RowMap) (k : TokenId) → Unmarks (table m) (table n) k
     → seen_marks (map.entries n) ≡ set.remove (seen_marks (map.entries m)) k
 mark_gone m n k p = set.same_set tokens_total exact_tokens _ _

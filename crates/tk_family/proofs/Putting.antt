@@ -49,6 +49,7 @@ count_flags (Some r) n kind.Code = (refl, refl, refl)
 count_flags (Some r) n kind.Access = (refl, refl, refl)
 count_flags (Some r) n kind.Refresh = (refl, refl, refl)
 
+-- rows with another count at one dot are alike but for counts
 pub AlikeButCount-count : (A B : Rows) (c : Dot) (n : ℕ)
     → ((q : Dot) → B q ≡ cond (dot_eq c q) (with_count (A q) n) (A q)) → AlikeButCount A B
 AlikeButCount-count A B c n h = record {
@@ -72,16 +73,19 @@ AlikeButCount-count A B c n h = record {
 count_there : (o : Option Row) (n : ℕ) → RowAt o → count_in (with_count o n) ≡ n
 count_there o n r = ap (λ (x : Option Row). count_in (with_count x n)) r.is
 
+-- the new count is at its dot
 pub count-here : (A B : Rows) (c : Dot) (n : ℕ) → RowAt (A c)
     → ((q : Dot) → B q ≡ cond (dot_eq c q) (with_count (A q) n) (A q)) → count_in (B c) ≡ n
 count-here A B c n row h =
     ap count_in (h c ∙ cond-true _ _ _ (dot_eq-same c)) ∙ count_there (A c) n row
 
+-- at other dots the counts stay
 pub count-other : (A B : Rows) (c : Dot) (n : ℕ)
     → ((q : Dot) → B q ≡ cond (dot_eq c q) (with_count (A q) n) (A q)) → (q : Dot) → c ≢ q
     → count_in (B q) ≡ count_in (A q)
 count-other A B c n h q ne = ap count_in (h q ∙ cond-false _ _ _ (dot_eq-apart c q ne))
 
+-- rows that are alike but for counts blame the same
 pub blamed-alike : (A B : Rows) → AlikeButCount A B → (q : Dot) → blamed_in (B q) ≡ blamed_in (A q)
 blamed-alike A B a q =
     blamed-same (A q) (B q) (bad-same (A q) (B q) (a.link q) (a.marked q) (a.again q)) (a.code q)
@@ -212,6 +216,7 @@ IsCounted-hung T N d l x none code h =
     IsCounted-same T N (λ q. (hung_code_flags T N d none rows q).0)
     (λ q. (hung_code_flags T N d none rows q).1) x
 
+-- a link that is hung up stays so if counts change
 pub Hung-alike : (T M N : Rows) (d : Dot) (l : Link) → Hung T M d l → AlikeButCount M N
     → Hung T N d l
 Hung-alike T M N d l h a = record {
@@ -227,6 +232,7 @@ Hung-alike T M N d l h a = record {
   first = λ q. a.first q ∙ h.first q;
 }
 
+-- a link that was written to its row and its parent's is hung up
 pub hung-all : (T N : Rows) (d : Dot) (l : Link) → links_of T d ≡ None → IsSome (T d)
     → ((p : Dot) → named_by l ≡ Some p → IsSome (T p)) → ((q : Dot) → N q ≡ hung T d l q)
     → Hung T N d l
@@ -249,6 +255,7 @@ pub record Mid (M A : Rows) (c0 : Dot) (ys : List Dot) : Type 0 where
   pub again : (q : Dot) (k : Kind) → again_in (A q) k ≡ again_in (M q) k
   pub code : (q : Dot) → code_in (A q) ≡ cond (has ys q) (Some c0) (code_in (M q))
 
+-- no dots got their code, if the rows are as before
 pub Mid-none : (M A : Rows) (c0 : Dot) → ((q : Dot) → A q ≡ M q) → Mid M A c0 []
 Mid-none M A c0 h = record {
   link = λ q. ap link_in (h q);
@@ -283,6 +290,7 @@ with_code_row o true c r = record {
 }
 with_code_row o false c r = r
 
+-- the dots of the list got their code, if they were raised
 pub Mid-raised : (M A : Rows) (c0 : Dot) (ys : List Dot)
     → ((q : Dot) → has ys q ≡ true → RowAt (M q)) → ((q : Dot) → A q ≡ raised M ys c0 q)
     → Mid M A c0 ys
@@ -312,6 +320,7 @@ Mid-raised M A c0 ys rows h =
       ]);
     }
 
+-- rows stay counted if dots got their code and were counted under it
 pub IsCounted-mid : (M A : Rows) (c0 : Dot) (ys : List Dot) → IsCounted M → IsDistinct dot_eq ys
     → ((q : Dot) → has ys q ≡ true → code_in (M q) ≡ None) → RowAt (M c0) → Mid M A c0 ys
     → ((q : Dot) → A q ≡ raised M ys c0 q) → IsCounted A

@@ -37,6 +37,7 @@ regroup : (done rest cs : List Dot) (x : Dot)
 regroup done rest cs x =
     append_assoc done (x ∷ []) (rest ++ cs) ∙ sym (append_assoc done (x ∷ rest) cs)
 
+-- a walk starts with the dot itself, of which no child is known yet
 pub Walk-starts : (g : Links) (d : Dot) → Walk g d [] (d ∷ [])
 unfolding IsDistinct
 Walk-starts g d = record {

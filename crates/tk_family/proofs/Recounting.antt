@@ -22,6 +22,7 @@ use Rattle.tk_family.proofs.Counting.{not_some}
 
 -- ---- a dot is counted anew
 
+-- rows that changed at one dot are counted as if it were as before
 pub IsCountedAs-from : (T M : Rows) (at : Dot) → IsCounted T
     → ((q : Dot) → code_in (M q) ≡ code_in (T q)) → ((q : Dot) → count_in (M q) ≡ count_in (T q))
     → ((q : Dot) → q ≢ at → blamed_in (M q) ≡ blamed_in (T q)) → IsCountedAs M at (bad_in (T at))
@@ -45,6 +46,7 @@ as_other : (M : Rows) (at : Dot) (was : Bool) (q : Dot) → q ≢ at
     → blamed_in (M q) ≡ blamed_as M at was q
 as_other M at was q ne = sym (cond-false _ _ _ (dot_eq-apart at q (λ same. ne (sym same))))
 
+-- the count of a code without what its dot was, and with what it is, is right
 pub recount-step : (M : Rows) (at code : Dot) (was : Bool) → IsCountedAs M at was
     → code_in (M at) ≡ Some code
     → (cond was 1 0 ≤ count_in (M code))
@@ -55,6 +57,7 @@ recount-step M at code was x said = IsCount-step (blamed_as M at was) (λ q. bla
     (as_here M at was ∙ ap (λ (o : Option Dot). cond was o None) said)
     (ap (λ (o : Option Dot). cond (bad_in (M at)) o None) said) (x code)
 
+-- a count is never more than there are rows
 pub recount-fits : (m : RowMap) (at code : Dot) (was : Bool) → IsCountedAs (table m) at was
     → code_in (table m at) ≡ Some code
     → (count_in (table m code) - cond was 1 0) + cond (bad_in (table m at)) 1 0 ≤ map.len m
@@ -138,6 +141,7 @@ raise-count M c ys x d fresh = IsCount-sum (λ q. blamed_in (M q)) (with_list M 
     ])
     (λ q walked bad. cond-true _ _ _ walked ∙ cond-true _ _ _ bad) (x c)
 
+-- a count with the dots that come under the code is never more than there are rows
 pub raise-fits : (m : RowMap) (c : Dot) (ys : List Dot) → IsCounted (table m) → IsDistinct dot_eq ys
     → ((q : Dot) → has ys q ≡ true → code_in (table m q) ≡ None)
     → count_in (table m c) + bads (table m) ys ≤ map.len m
@@ -213,6 +217,7 @@ clear-count T c ys x d coded =
     (λ q walked bad. blamed-bad (T q) c bad (coded q walked)) r.1 in
     (r.0, r.1, IsCount-one (λ q. blamed_in (T q)) c (count_in (T c)) (r.0 + bads T ys) (x c) whole)
 
+-- the dots that leave a code are among those that it counts
 pub clear-fits : (T : Rows) (c : Dot) (ys : List Dot) → IsCounted T → IsDistinct dot_eq ys
     → ((q : Dot) → has ys q ≡ true → code_in (T q) ≡ Some c) → bads T ys ≤ count_in (T c)
 clear-fits T c ys x d coded =

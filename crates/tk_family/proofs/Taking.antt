@@ -50,6 +50,7 @@ link_again f d l at q = elim (cases_dots q d) [
   | inr ne ↦ with_link-other f d l q ne
 ]
 
+-- what was gathered below a dot under a code is what leaves the code with it
 pub Below-whole : (T : Rows) (d : Dot) (l : Link) (c0 : Dot) (ys : List Dot) → IsForest T
     → links_of T d ≡ Some l → code_in (T d) ≡ Some c0 → Gathers (links_of T) d l ys
     → Below (without (links_of T) d) (links_of T) c0 ys
@@ -74,6 +75,7 @@ Below-whole T d l c0 ys t here code got =
           (without-here g d) (got.below q walked).leads c below.path below.leads;
     }
 
+-- nothing leaves a code with a dot that is under none
 pub Below-none : (T : Rows) (d : Dot) (l : Link) → IsForest T → links_of T d ≡ Some l
     → code_in (T d) ≡ None → Below (without (links_of T) d) (links_of T) d []
 Below-none T d l t here none = record {
@@ -143,11 +145,13 @@ Cleared-alike T S A ys x a = record {
   again = λ q k. a.again q k ∙ x.again q k;
 }
 
+-- rows whose codes were cleared have none at the dots of the list
 pub Cleared-from : (T A : Rows) (c0 : Dot) (ys : List Dot) → ((q : Dot) → A q ≡ cleared T ys c0 q)
     → Cleared T A ys
 Cleared-from T A c0 ys h = Cleared-alike T (unsettled T ys) A ys (Cleared-unsettled T ys)
     (AlikeButCount-count (unsettled T ys) A c0 (count_in (T c0) - bads T ys) h)
 
+-- rows that are as before have no codes cleared
 pub Cleared-none : (T : Rows) → Cleared T T []
 Cleared-none T = record {
   link = λ q. refl;
@@ -200,6 +204,7 @@ codes_links T A ys t x q c h =
 
 -- ---- a link is removed
 
+-- a forest without a link that was taken is a forest
 pub IsForest-take : (T A N : Rows) (d : Dot) (l : Link) (c0 : Dot) (ys : List Dot) → IsForest T
     → links_of T d ≡ Some l → Below (without (links_of T) d) (links_of T) c0 ys → Cleared T A ys
     → Unlinks A N d → ((c : Dot) → c ≢ d → IsCount (λ q. blamed_in (N q)) c (count_in (N c)))
@@ -254,6 +259,7 @@ IsForest-take T A N d l c0 ys t here b x u counted =
       twice = u.uses.twice;
     }
 
+-- a link whose descendants lost their code, and which was unlinked, is taken
 pub Takes-from : (T A N : Rows) (d : Dot) (l : Link) (c0 : Dot) (ys : List Dot) → IsForest T
     → links_of T d ≡ Some l → Below (without (links_of T) d) (links_of T) c0 ys → Cleared T A ys
     → Unlinks A N d → ((c : Dot) → c ≢ d → IsCount (λ q. blamed_in (N q)) c (count_in (N c)))
@@ -281,6 +287,7 @@ pub record Ready (T A : Rows) (d : Dot) (l : Link) : Type 0 where
   pub cleared : Cleared T A list
   pub counted : IsCounted A
 
+-- a link under a code is ready to be unlinked once its descendants lost their code
 pub Ready-whole : (T A : Rows) (d : Dot) (l : Link) (c0 : Dot) → IsForest T → links_of T d ≡ Some l
     → code_in (T d) ≡ Some c0 → Clears T A d l c0 → Ready T A d l
 Ready-whole T A d l c0 t here code x = record {
@@ -291,6 +298,7 @@ Ready-whole T A d l c0 t here code x = record {
   counted = IsCounted-clear T A d l c0 t here code x;
 }
 
+-- a link under no code is ready to be unlinked
 pub Ready-none : (T : Rows) (d : Dot) (l : Link) → IsForest T → links_of T d ≡ Some l
     → code_in (T d) ≡ None → Ready T T d l
 Ready-none T d l t here code = record {
@@ -301,6 +309,7 @@ Ready-none T d l t here code = record {
   counted = t.bads;
 }
 
+-- a link is taken from rows that look alike afterwards
 pub Takes-seen : (T M N : Rows) (d : Dot) → Takes T M d → NothingSeen M N → Takes T N d
 Takes-seen T M N d x seen = record {
   forest = seen.forest;

@@ -38,19 +38,23 @@ use Rattle.tk_family.proofs.ChildLaws.{dots_of, users-has, has-users, users-dist
 use Rattle.tk_family.proofs.HangLaws.{without-here, without-other}
 use Rattle.tk_family.proofs.HangRemovalLaws.{first_here}
 
+-- links have one link more than without it
 pub Adds-without : (f : Links) (d : Dot) (l : Link) → f d ≡ Some l → Adds (without f d) f d l
 Adds-without f d l here =
     record { free = without-here f d; here = here; others = λ q ne. sym (without-other f d q ne) }
 
+-- a grant that is used is used if there are more links
 pub used-within : (f g : Links) → LinksWithin f g → (k : TokenId) → IsUsed f k → IsUsed g k
 used-within f g w k u =
     record { user = u.user; by = use_of-within f g w u.user (f u.user) k refl u.by }
 
 -- ---- the uses are as they were
 
+-- the rows of a forest have the uses of its links
 pub HasUses-forest : (T : Rows) → IsForest T → HasUses (links_of T) T
 HasUses-forest T t = record { used = t.used; uses = t.uses; again = t.again; twice = t.twice }
 
+-- rows with the same uses have the uses of the same links
 pub HasUses-kept : (f g : Links) (T N : Rows) → HasUses f T → ((q : Dot) → f q ≡ g q)
     → ((k : TokenId) → used_in (N k.dot) k.kind ≡ used_in (T k.dot) k.kind)
     → ((k : TokenId) → again_in (N k.dot) k.kind ≡ again_in (T k.dot) k.kind) → HasUses g N
@@ -225,6 +229,7 @@ one_dot : (o : Option Dot) (x y : Dot) → has_dot o x ≡ true → has_dot o y 
 one_dot None x y h i = absurd (true≢false (sym h))
 one_dot (Some e) x y h i = sym (dot_eq-true e x h) ∙ dot_eq-true e y i
 
+-- a token with some user that is counted is used without the link
 pub counted_used : (f : Links) (first : Dot → Option Dot) (s : BTreeSet Child) (d : Dot)
     (t : TokenId) (o : Option Dot)
     → Recounts f first s d t o → is_some_use (counted f o s t) ≡ true → IsUsed (without f d) t
@@ -238,6 +243,7 @@ counted_used f first s d t o x h = elim (count_some (first_uses f o t) (users_in
   }
 ]
 
+-- a token that is used without the link has some user that is counted
 pub used_counted : (f : Links) (first : Dot → Option Dot) (s : BTreeSet Child) (d : Dot)
     (t : TokenId) (o : Option Dot)
     → Recounts f first s d t o → IsUsed (without f d) t → is_some_use (counted f o s t) ≡ true
@@ -249,6 +255,7 @@ used_counted f first s d t o x u =
           (in_set f first s d t o x u.user by apart)
     ]
 
+-- a token with two users that are counted is used twice without the link
 pub counted_twice : (f : Links) (first : Dot → Option Dot) (s : BTreeSet Child) (d : Dot)
     (t : TokenId) (o : Option Dot)
     → Recounts f first s d t o → is_often (counted f o s t) ≡ true → IsTwice (without f d) t
@@ -277,6 +284,7 @@ counted_twice f first s d t o x h =
       }
     ]
 
+-- a token that is used twice without the link has two users that are counted
 pub twice_counted : (f : Links) (first : Dot → Option Dot) (s : BTreeSet Child) (d : Dot)
     (t : TokenId) (o : Option Dot)
     → Recounts f first s d t o → IsTwice (without f d) t → is_often (counted f o s t) ≡ true
@@ -302,6 +310,7 @@ twice_counted f first s d t o x u =
 
 -- ---- the row of the dot
 
+-- a row with other users keeps link, code and count
 pub users_cols : (o : Option Row) (e : Option Dot) (k : Kind) (u : Uses)
     → (link_in (with_users o e k u) ≡ link_in o) × (code_in (with_users o e k u) ≡ code_in o)
     × (count_in (with_users o e k u) ≡ count_in o)
@@ -310,6 +319,7 @@ users_cols (Some r) e kind.Code u = (refl, refl, refl)
 users_cols (Some r) e kind.Access u = (refl, refl, refl)
 users_cols (Some r) e kind.Refresh u = (refl, refl, refl)
 
+-- a row with other users keeps its marks
 pub users_marked : (o : Option Row) (e : Option Dot) (k : Kind) (u : Uses) (j : Kind)
     → marked_in (with_users o e k u) j ≡ marked_in o j
 users_marked None e k u j = refl
@@ -323,12 +333,14 @@ users_marked (Some r) e kind.Refresh u kind.Code = refl
 users_marked (Some r) e kind.Refresh u kind.Access = refl
 users_marked (Some r) e kind.Refresh u kind.Refresh = refl
 
+-- a row with other users has the first child that was given
 pub users_first : (r : Row) (e : Option Dot) (k : Kind) (u : Uses)
     → first_in (with_users (Some r) e k u) ≡ e
 users_first r e kind.Code u = refl
 users_first r e kind.Access u = refl
 users_first r e kind.Refresh u = refl
 
+-- a row with other users of a grant has its uses
 pub users_here : (r : Row) (e : Option Dot) (k : Kind) (u : Uses)
     → (is_code k || is_refresh k) ≡ true
     → (used_in (with_users (Some r) e k u) k ≡ is_some_use u)
@@ -337,6 +349,7 @@ users_here r e kind.Code u h = (refl, refl)
 users_here r e kind.Access u h = absurd (true≢false (sym h))
 users_here r e kind.Refresh u h = (refl, refl)
 
+-- a row with other users of a grant keeps the uses of other kinds
 pub users_apart : (o : Option Row) (e : Option Dot) (k : Kind) (u : Uses) (j : Kind) → j ≢ k
     → (used_in (with_users o e k u) j ≡ used_in o j)
     × (again_in (with_users o e k u) j ≡ again_in o j)

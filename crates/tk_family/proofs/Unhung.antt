@@ -52,6 +52,7 @@ used_kind (Some (Redeems c)) t h =
 used_kind (Some (Rotates c g)) t h = or_right (is_code t.kind) (is_refresh t.kind)
     (and_parts (dot_eq c t.dot) (is_refresh t.kind) h).1
 
+-- rows in which a token's users were rewritten are kept but for that token
 pub KeptBut-unhung : (T M : Rows) (t : TokenId) (o : Option Dot) (u : Uses) → IsRewritten T M t o u
     → KeptBut T M t
 KeptBut-unhung T M t o u h =
@@ -101,6 +102,7 @@ row_here : (T M : Rows) (t : TokenId) (o : Option Dot) (u : Uses) (r : RowAt (T 
 row_here T M t o u r h = h t.dot
     ∙ (cond-true _ _ _ (dot_eq-same t.dot) ∙ ap (λ (x : Option Row). with_users x o t.kind u) r.is)
 
+-- the first children after a token's users were rewritten
 pub firsts-unhung : (T M : Rows) (d : Dot) (t : TokenId) (o : Option Dot) (u : Uses)
     → HasUses (links_of T) T → uses_by (links_of T d) t ≡ true → IsRewritten T M t o u → (q : Dot)
     → firsts_of M q ≡ with_first (firsts_of T) t.dot o q
@@ -118,6 +120,7 @@ link_of : (o : Option Link) (t : TokenId) → uses_by o t ≡ true → (l : Link
 link_of None t h = absurd (true≢false (sym h))
 link_of (Some l) t h = (l, refl)
 
+-- rows have the uses without the link once the token's users were rewritten
 pub HasUses-unhung : (T M : Rows) (s : BTreeSet Child) (d : Dot) (t : TokenId) (o : Option Dot)
     → HasUses (links_of T) T → Recounts (links_of T) (firsts_of T) s d t o
     → IsRewritten T M t o (counted (links_of T) o s t) → HasUses (without (links_of T) d) M

@@ -27,6 +27,7 @@ use Rattle.tk_family.proofs.Assembly.{row_with}
 use Rattle.tk_family.proofs.HangLaws.{without-here, without-other, Hangs-same}
 use Rattle.tk_family.proofs.Unhanging.{HasUses-kept, HasUses-code}
 
+-- a dot with a link has a row
 pub link_row : (o : Option Row) (l : Link) → link_in o ≡ Some l → IsSome o
 link_row o l h = let r : RowAt o = row_with o l h in
     subst (λ (x : Option Row). IsSome x) (sym r.is) refl
@@ -105,6 +106,7 @@ IsCount-bare M N d x none h c ne =
     (IsCount-alike (λ q. blamed_in (M q)) (λ q. blamed_in (N q)) c (count_in (M c))
     (λ q g. same q ∙ g) (λ q g. sym (same q) ∙ g) (x c))
 
+-- a loose link that is taken out of its row is unlinked
 pub Unlinks-from : (T M N : Rows) (d : Dot) → Loose T M d
     → ((q : Dot) → N q ≡ cond (dot_eq d q) (without_link (M q)) (M q)) → Unlinks T N d
 Unlinks-from T M N d x h =

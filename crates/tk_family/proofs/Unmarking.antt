@@ -83,6 +83,7 @@ AlikeButMarks-unmarked T S k h = record {
       (unmarked_flags (T q) k.kind j).1;
 }
 
+-- rows without a mark are counted but for the code of its dot
 pub IsCountedAs-unmarked : (T S : Rows) (k : TokenId) → IsForest T
     → ((q : Dot) → S q ≡ cond (dot_eq k.dot q) (without_mark (T q) k.kind) (T q))
     → IsCountedAs S k.dot (bad_in (T k.dot))
@@ -92,6 +93,7 @@ IsCountedAs-unmarked T S k t h = IsCountedAs-at T S k.dot t.bads (AlikeButMarks-
     (unmarked_cols (T q) k.kind).2)
     (λ q ne. h q ∙ cond-false _ _ _ (dot_eq-apart k.dot q ne))
 
+-- rows without a mark, counted anew, are without that mark
 pub Unmarks-from : (T S N : Rows) (k : TokenId) → IsForest T
     → ((q : Dot) → S q ≡ cond (dot_eq k.dot q) (without_mark (T q) k.kind) (T q))
     → AlikeButCount S N → IsCounted N → Unmarks T N k

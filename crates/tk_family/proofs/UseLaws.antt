@@ -11,10 +11,12 @@ use Rattle.tk_family.specs.Uses.{uses_it, uses_by}
 use Rattle.tk_family.proofs.DotLaws.{dot_eq-true}
 use Rattle.tk_family.proofs.Growth.{uses_it-true, used_by-uses}
 
+-- a link uses the grant that the test finds
 pub uses_by-true : (o : Option Link) (k : TokenId) → uses_by o k ≡ true → use_of o ≡ Some k
 uses_by-true None k h = absurd (true≢false (sym h))
 uses_by-true (Some l) k h = uses_it-true l k h
 
+-- the test finds the grant that a link uses
 pub use_of-uses : (o : Option Link) (k : TokenId) → use_of o ≡ Some k → uses_by o k ≡ true
 use_of-uses None k h = absurd (cc)
 use_of-uses (Some l) k h = used_by-uses l k h

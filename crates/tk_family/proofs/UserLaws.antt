@@ -15,16 +15,19 @@ use Rattle.tk_family.specs.Uses.{uses_by}
 use Rattle.tk_family.proofs.DotLaws.{dot_eq-true}
 use Rattle.tk_family.proofs.UseLaws.{uses_by-true, use_of-uses, uses_named}
 
+-- a grant at a dot without a first child is used by none
 pub unnamed_unused : (f : Links) (first : Dot → Option Dot) (E : Others) (k : TokenId)
     → Hangs f first E → first k.dot ≡ None → ¬ IsUsed f k
 unnamed_unused f first E k h none u =
     h.none k.dot u.user none (uses_named (f u.user) k (use_of-uses (f u.user) k u.by))
 
+-- a user that is listed uses its grant
 pub listed_uses : (f : Links) (first : Dot → Option Dot) (E : Others) (k : TokenId) (e : Dot)
     → Hangs f first E → E k e ≡ true → use_of (f e) ≡ Some k
 listed_uses f first E k e h at =
     uses_by-true (f e) k (and_parts (uses_by (f e) k) _ (sym (h.rest k e) ∙ at)).0
 
+-- a grant whose first child doesn't use it, and which has no other user, is not used
 pub unlisted_unused : (f : Links) (first : Dot → Option Dot) (E : Others) (k : TokenId) (d : Dot)
     → Hangs f first E → first k.dot ≡ Some d → uses_by (f d) k ≡ false
     → ((e : Dot) → E k e ≡ false) → ¬ IsUsed f k

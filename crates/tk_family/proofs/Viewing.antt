@@ -45,12 +45,14 @@ get-seen_links (e ∷ es) q = get-seen_link (seen_links es) e.0 e.1.link q
     ∙ (ap (cond (dot_eq q e.0) e.1.link) (get-seen_links es q)
     ∙ link_cond (dot_eq q e.0) e.1 (lookup (dot_eq q) es))
 
+-- the link that is seen at a dot is the table's
 pub get-links : (m : RowMap) (q : Dot)
     → map.get (seen_links (map.entries m)) q ≡ links_of (table m) q
 get-links m q = get-seen_links (map.entries m) q ∙ ap link_in (entries_table m q)
 
 -- ---- marks
 
+-- tokens are in a total order
 pub tokens_total : IsTotalOrder token_cmp
 tokens_total = then_total (on_total (λ k. k.dot) dot_cmp_total)
     (on_total (λ k. kind_number k.kind) nat_cmp_total)
@@ -121,6 +123,7 @@ contains-seen_marks (e ∷ es) j =
     ∙ three (dot_eq j.dot e.0) e.1 j.kind (set.contains s0 j) (lookup (dot_eq j.dot) es)
     (contains-seen_marks es j)))))
 
+-- a mark is seen exactly if the table has it
 pub contains-marks : (m : RowMap) (j : TokenId)
     → set.contains (seen_marks (map.entries m)) j ≡ marks_of (table m) j
 contains-marks m j = contains-seen_marks (map.entries m) j
@@ -137,6 +140,7 @@ same_kind kind.Access kind.Refresh h = absurd (true≢false (sym h))
 same_kind kind.Refresh kind.Code h = absurd (true≢false (sym h))
 same_kind kind.Refresh kind.Access h = absurd (true≢false (sym h))
 
+-- tokens that tie are equal
 pub exact_tokens : (a b : TokenId) → token_cmp a b ≡ Equal → a ≡ b
 exact_tokens a b h =
     let parts : (is_eq (dot_cmp a.dot b.dot) ≡ true)
@@ -159,6 +163,7 @@ seen_same m n links marks =
     ap (λ (x : map.FinMap dot_cmp Link). record { links = x; marks = seen_marks (map.entries n) }) l
     ∙ ap (λ (y : set.FinSet token_cmp). record { links = seen_links (map.entries m); marks = y }) s
 
+-- one more link in the table is one more that is seen
 pub links_put : (m n : RowMap) (d : Dot) (l : Link)
     → ((q : Dot) → links_of (table n) q ≡ with_link (links_of (table m)) d l q)
     → seen_links (map.entries n) ≡ map.insert (seen_links (map.entries m)) d l
@@ -168,11 +173,13 @@ links_put m n d l h = map.same_map dot_cmp_total dot_cmp-IsAntisymmetric _ _ (λ
     ∙ sym (map.get-insert dot_cmp_total (seen_links (map.entries m)) d l q
     ∙ ap (cond (dot_eq q d) (Some l)) (get-links m q)))))
 
+-- marks that stay in the table stay as they are seen
 pub marks_same : (m n : RowMap) → ((k : TokenId) → marks_of (table n) k ≡ marks_of (table m) k)
     → seen_marks (map.entries n) ≡ seen_marks (map.entries m)
 marks_same m n marks = set.same_set tokens_total exact_tokens _ _
     (λ k. contains-marks n k ∙ (marks k ∙ sym (contains-marks m k)))
 
+-- a link that is taken from the table is taken from what is seen
 pub links_taken : (m n : RowMap) (d : Dot)
     → ((q : Dot) → links_of (table n) q ≡ without (links_of (table m)) d q)
     → seen_links (map.entries n) ≡ map.remove (seen_links (map.entries m)) d
@@ -188,6 +195,7 @@ links_none m none = map.same_map dot_cmp_total dot_cmp-IsAntisymmetric _ _ (λ q
     get-links m q ∙ ap link_in (ap (λ (x : RowMap). map.get x q) none ∙ map.get-empty dot_cmp q)
     ∙ sym (map.get-empty dot_cmp q))
 
+-- an empty table shows no marks
 pub marks_none : (m : RowMap) → m ≡ map.empty → seen_marks (map.entries m) ≡ set.empty
 marks_none m none = set.same_set tokens_total exact_tokens _ _ (λ k.
     contains-marks m k

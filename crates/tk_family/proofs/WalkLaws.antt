@@ -40,9 +40,11 @@ by-sound : (f : Links) (d : Dot) (o : Option Link) (p : Dot) → f d ≡ o → p
 by-sound f d None p at h = absurd (cc)
 by-sound f d (Some l) p at h = named-sound f d l (named_by l) p at refl h
 
+-- the parent that is found is the parent
 pub parent_of-sound : (f : Links) (d p : Dot) → parent_of f d ≡ Some p → IsParent f d p
 parent_of-sound f d p h = by-sound f d (f d) p refl h
 
+-- the parent is found
 pub parent_of-complete : (f : Links) (d p : Dot) → IsParent f d p → parent_of f d ≡ Some p
 parent_of-complete f d p a = ap (parent_by f) a.here
     ∙ (ap (parent_named f a.link) a.names
@@ -65,6 +67,7 @@ step-sound f n d c None rest at h = absurd (cc)
 step-sound f n d c (Some p) rest at h = let u : IsUnder f p c = rest p h in
     record { path = p ∷ u.path; leads = ((parent_of-sound f d p at, u.leads.0), u.leads.1) }
 
+-- a code that is found in some steps is the one that the dot is under
 pub code_by-sound : (f : Links) (n : ℕ) (d c : Dot) → code_by f n d ≡ Some c → IsUnder f d c
 code_by-sound f zero d c h = elim (cases_Bool (is_code_link (f d))) [
   | inl is ↦ here-sound f d c is (sym (cond-true _ _ _ is) ∙ h)
@@ -93,6 +96,7 @@ code_more f (suc m) d p c a low rest =
     cond-false _ _ _ none
     ∙ (ap (option_and_then (code_by f m)) (parent_of-complete f d p a) ∙ rest m (omega arith))
 
+-- the code at the end of a path is found in as many steps as the rank
 pub code_by-complete : (f : Links) (n : ℕ) (d : Dot) (ps : List Dot) (c : Dot) → IsPath f d ps c
     → rank_of (f d) ≤ n → code_by f n d ≡ Some c
 code_by-complete f n d [] c m low =
@@ -104,8 +108,10 @@ code_by-complete f n d (p ∷ ps) c m low =
 
 -- ---- the code that a dot is under, both ways
 
+-- the code that is found is the one that the dot is under
 pub code_of-sound : (f : Links) (d c : Dot) → code_of f d ≡ Some c → IsUnder f d c
 code_of-sound f d c h = code_by-sound f (rank_of (f d)) d c h
 
+-- the code that a dot is under is found
 pub code_of-complete : (f : Links) (d c : Dot) → IsUnder f d c → code_of f d ≡ Some c
 code_of-complete f d c u = code_by-complete f (rank_of (f d)) d u.path c u.leads (omega arith)

@@ -14,6 +14,7 @@ use Rattle.tk_family.specs.Writes.{blank, or_blank, with_code, without_code, set
 use Rattle.tk_family.proofs.DotLaws.{dots_equiv, dot_eq-true, dot_eq-same, has-append, has-left}
 use Rattle.tk_family.proofs.DotLaws.{has-right, has-cons, has-here}
 
+-- a row that was changed in its place, and the others as they were
 pub changed : (T N : Rows) (at : Dot) (r row : Row) (F : Option Row → Option Row) → T at ≡ Some r
     → F (Some r) ≡ Some row
     → ((q : Dot) → N q ≡ cond (dot_eq at q) (option_map (λ _. row) (T q)) (T q)) → (q : Dot)
@@ -71,6 +72,7 @@ listed-more F twice T M N list x before now q = elim (cases_Bool (dot_eq x q)) [
   ])))
 ]
 
+-- one more dot of a list has got its code
 pub settled-more : (T M N : Rows) (list : List Dot) (x c : Dot)
     → ((q : Dot) → M q ≡ settled T list c q)
     → ((q : Dot) → N q ≡ cond (dot_eq x q) (with_code (M q) c) (M q)) → (q : Dot)
@@ -78,6 +80,7 @@ pub settled-more : (T M N : Rows) (list : List Dot) (x c : Dot)
 settled-more T M N list x c before now q =
     listed-more (λ o. with_code o c) (λ o. twice_coded o c) T M N list x before now q
 
+-- one more dot of a list has lost its code
 pub unsettled-more : (T M N : Rows) (list : List Dot) (x : Dot)
     → ((q : Dot) → M q ≡ unsettled T list q)
     → ((q : Dot) → N q ≡ cond (dot_eq x q) (without_code (M q)) (M q)) → (q : Dot)
@@ -142,6 +145,7 @@ one_more : (b : Bool) (x y : ℕ) → x ≡ cond b y (y + 1) → x ≤ y + 1
 one_more true x y h = omega arith
 one_more false x y h = omega arith
 
+-- a table with a row inserted has one row more at most
 pub longer : (m n : RowMap) (at : Dot) (row : Row) → n ≡ map.insert m at row
     → map.len n ≤ map.len m + 1
 longer m n at row is = one_more (map.contains_key m at) (map.len n) (map.len m)
@@ -158,6 +162,7 @@ less_one : (b : Bool) (x y : ℕ) → x ≡ cond b (y - 1) y → x ≤ y
 less_one true x y h = omega arith
 less_one false x y h = omega arith
 
+-- a table without a row has no row more
 pub fewer : (m n : RowMap) (at : Dot) → n ≡ map.remove m at → map.len n ≤ map.len m
 fewer m n at is = less_one (map.contains_key m at) (map.len n) (map.len m)
     (ap map.len is ∙ map.len-remove dot_cmp_total m at)

@@ -10,6 +10,18 @@
 //! The dots whose links name a dot hang below that dot, whether or not they fit, also if it has no
 //! link yet. One of them is in the row of that dot. The others are in a set beside the rows: an
 //! entry for each further use of a token. `Hangs` of `specs/Kept.antt` states what both keep.
+//!
+//! A code, its redemption, and two uses of the redemption's refresh token, put in this order:
+//!
+//! ```text
+//! dot   link               code   first   bad   redeemed   rotated
+//! 1:3   Code               1:3    1:4     1     Once       Never
+//! 1:4   Redeems 1:3        1:3    1:5     0     Never      Often
+//! 1:5   Rotates 1:4, 1     1:3    none    0     Never      Never
+//! 1:6   Rotates 1:4, 1     1:3    none    0     Never      Never
+//! ```
+//!
+//! The set beside the rows has 1:6 below 1:4. The dot 1:4 is bad, so its code counts one bad dot.
 
 ghost use Rattle.tk_handle.specs.declared.dot.Dot.{Dot as the_dot};
 ghost use Rattle.tk_handle.specs.declared.token_id.TokenId.{TokenId as the_token};

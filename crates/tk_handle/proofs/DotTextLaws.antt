@@ -114,11 +114,13 @@ module _ (mark : ℕ) (parts : ¬ (IsInRange 48 57 mark)) where
   before_mark d h = ap (λ n. take n (parted_text mark d)) (mark_at d h)
       ∙ take_left (decimal d.region) (mark ∷ decimal d.serial)
 
+  -- the text behind the mark is the decimal form of the serial
   pub after_mark : (d : Dot) → IsDot d
       → after_first (λ b. b == mark) (parted_text mark d) ≡ decimal d.serial
   after_mark d h = ap (λ n. drop (n + 1) (parted_text mark d)) (mark_at d h)
       ∙ drop_right (decimal d.region) (decimal d.serial) mark
 
+  -- the parted text of a dot is read as the dot
   pub parted_back : (d : Dot) → IsDot d → parted_in mark (parted_text mark d) ≡ Some d
   parted_back d h =
       ap (λ t. dot_at (decimal_in t)
@@ -148,6 +150,7 @@ nothing_behind mark text n none e =
     let short = length-drop (position_or_len (λ b. b == mark) text + 1) text in
     omega (arith, long, same, short)
 
+-- a text that is read as a dot is its parted text
 pub parted_found : (mark : ℕ) (text : List ℕ) (d : Dot) → parted_in mark text ≡ Some d
     → IsPartedText mark text d
 parted_found mark text d h =
@@ -170,6 +173,7 @@ parted_found mark text d h =
 
 -- ---- dots
 
+-- a colon is no digit
 pub colon_parts : ¬ (IsInRange 48 57 colon)
 colon_parts h = absurd (omega (arith, h.1))
 
@@ -182,6 +186,7 @@ pub dot_found : (text : List ℕ) (r : Option Dot) → r ≡ parted_in colon tex
 dot_found text None e = tt
 dot_found text (Some d) e = parted_found colon text d (sym e)
 
+-- a text that is read as no dot is the text of none
 pub dot_none : (text : List ℕ) (r : Option Dot) → r ≡ parted_in colon text
     → IfNone r (IsNoDotText text)
 dot_none text None e = λ d h. none_is_not_some d
@@ -190,10 +195,12 @@ dot_none text (Some d) e = tt
 
 -- ---- ids
 
+-- the id of a dot is read as the dot
 pub id_back : (letter : ℕ) (d : Dot) → IsDot d → id_in letter (id_text letter d) ≡ Some d
 id_back letter d h = ap (λ t. cond t (parted_in dash (parted_text dash d)) None) (itself letter)
     ∙ parted_back dash dash_parts d h
 
+-- a text that is read as an id is the id of its dot
 pub id_found : (letter : ℕ) (text : List ℕ) (d : Dot) → id_in letter text ≡ Some d
     → IsIdText letter text d
 id_found letter [] d h = absurd (none_is_not_some d h)
@@ -211,6 +218,7 @@ id_found letter (b ∷ rest) d h =
       | false ↦ λ _ k. absurd (none_is_not_some d k)
     ] refl h
 
+-- reading an id finds the dot whose id it is, or that it is none
 pub reads_id : (letter : ℕ) (text : List ℕ) → ReadsId letter text (id_in letter text)
 reads_id letter text = go (id_in letter text) refl
   where

@@ -41,6 +41,7 @@ module _ {K : Type 0} {R : K → K → Ordering} (total : IsTotalOrder R) where
   turned_less : (x y : K) → R x y ≡ Greater → R y x ≡ Less
   turned_less x y h = total.antisymm y x ∙ ap ordering_reverse h
 
+  -- a tie goes both ways
   pub turned_equal : (x y : K) → R x y ≡ Equal → R y x ≡ Equal
   turned_equal x y h = total.antisymm y x ∙ ap ordering_reverse h
 
@@ -190,6 +191,7 @@ module _ {K X : Type 0} {R : K → K → Ordering} (total : IsTotalOrder R) (es 
       → get (from_sorted {R = R} es) k ≡ Some (get_or es i d).1
   get_at_place i at d = get-from_sorted R es k sorted ∙ at.found d
 
+  -- a key in a gap has no value
   pub get_at_gap : (i : ℕ) → IsGap R es k i → get (from_sorted {R = R} es) k ≡ None
   get_at_gap i gap = get-from_sorted R es k sorted ∙ gap.absent
 
@@ -198,6 +200,7 @@ module _ {K X : Type 0} {R : K → K → Ordering} (total : IsTotalOrder R) (es 
   sorted_at_gap i gap v =
       subst (λ fs. T (is_sorted R fs)) (gap.fits v) (is_sorted-put R total k v es sorted)
 
+  -- an entry that is put into its gap is inserted
   pub insert_at_gap : (i : ℕ) → IsGap R es k i → (v : X)
       → from_sorted {R = R} (insert es i (k, v)) ≡ map.insert (from_sorted es) k v
   insert_at_gap i gap v = same_entries_map _ _
@@ -210,6 +213,7 @@ module _ {K X : Type 0} {R : K → K → Ordering} (total : IsTotalOrder R) (es 
   sorted_at_place i at v d =
       subst (λ fs. T (is_sorted R fs)) (at.replaced v d) (is_sorted-put R total k v es sorted)
 
+  -- an entry that takes the place of its key's is inserted
   pub insert_at_place : (i : ℕ) → IsAt R es k i → (v : X) (d : K × X)
       → from_sorted {R = R} (set es i ((get_or es i d).0, v)) ≡ map.insert (from_sorted es) k v
   insert_at_place i at v d = same_entries_map _ _

@@ -35,7 +35,7 @@ pub enum RedirectError {
     /// A URI is not 1 to 512 visible ASCII bytes without `#`, or is no absolute URL though that was
     /// required.
     Malformed,
-    /// Memory ran out, or a URL was too long to be read.
+    /// Memory ran out, or a URL was longer than the `url` crate reads.
     Memory,
 }
 

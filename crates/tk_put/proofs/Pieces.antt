@@ -38,6 +38,7 @@ take_further (b ∷ bytes) (suc m) n =
     let same : suc (m + n) ≡ suc m + n = omega arith in
     ap (λ (t : List ℕ). b ∷ t) (take_further bytes m n) ∙ ap (λ (k : ℕ). take k (b ∷ bytes)) same
 
+-- one more part of the bytes was written
 pub put_step : (old mid new : Option (List ℕ)) (bytes rest : List ℕ) (m n : ℕ) → rest ≡ drop m bytes
     → Appends old mid (take m bytes) → Appends mid new (take n rest)
     → Appends old new (take (m + n) bytes)
@@ -68,6 +69,7 @@ pieces_at (q ∷ ps) (suc i) d lt =
     ∙ sym (append_assoc q.now (joined_text (take i ps))
     ((get_or ps i d).now ++ joined_text (drop (suc i) ps)))
 
+-- the text of the first pieces and the next one
 pub pieces_to : (ps : List (Bor (List ℕ))) (i : ℕ) (d : Bor (List ℕ)) → i < length ps
     → joined_text (take i ps) ++ (get_or ps i d).now ≡ joined_text (take (suc i) ps)
 pieces_to [] i d lt = absurd (omega arith)
@@ -75,6 +77,7 @@ pieces_to (q ∷ ps) zero d lt = sym (append-nil q.now)
 pieces_to (q ∷ ps) (suc i) d lt = append_assoc q.now (joined_text (take i ps)) (get_or ps i d).now
     ∙ ap (λ (t : List ℕ). q.now ++ t) (pieces_to ps i d (omega arith))
 
+-- one more piece was written
 pub put_more : (old mid new : Option (List ℕ)) (ps : List (Bor (List ℕ))) (i : ℕ) (d : Bor (List ℕ))
     → i < length ps
     → Appends old mid (joined_text (take i ps)) → Appends mid new (get_or ps i d).now
@@ -83,6 +86,7 @@ put_more old mid new ps i d lt before here =
     rw add-one
     (subst (Appends old new) (pieces_to ps i d lt) (Appends-trans old mid new _ _ before here))
 
+-- a writer that fails in a piece has a front of all
 pub put_failed : (old mid new : Option (List ℕ)) (ps : List (Bor (List ℕ))) (i : ℕ)
     (d : Bor (List ℕ))
     → i < length ps

@@ -41,9 +41,11 @@ cases_same a b = elim (cases_lt a b) [
 ]
 
 module _ {X : Type 0} where
+  -- a region has one front
   pub one_front : (F : map.FinMap dot_cmp X) (r m n : ℕ) → IsFrontAt F r m → IsFrontAt F r n → m ≡ n
   one_front F r m n f g = let a = f.greatest n g.held in let b = g.greatest m f.held in omega arith
 
+  -- the front is where the next dot is free
   pub front_from_next : (F : map.FinMap dot_cmp X) (r n : ℕ) → HeldUpTo F r n
       → map.get F (dot_at r (n + 1)) ≡ None → IsFrontAt F r n
   front_from_next F r n held next = record {
@@ -55,6 +57,7 @@ module _ {X : Type 0} where
     ];
   }
 
+  -- the dot behind the front is free
   pub next_of_front : (F : map.FinMap dot_cmp X) (r n : ℕ) → IsFrontAt F r n
       → map.get F (dot_at r (n + 1)) ≡ None
   next_of_front F r n f = by_next (map.get F (dot_at r (n + 1))) refl
@@ -171,6 +174,7 @@ module _ {X : Type 0} where
               (ap (λ (k : ℕ). map.get G (dot_at r (k + 1))) same ∙ next_of_front G r n f)
         ])
 
+    -- the front once a fact was taken out
     pub front_taken : (v : Vector) → IsFront G v → 0 < d.serial
         → IsFront (map.remove G d) (lowered v d.region (d.serial - 1))
     front_taken v front some r = elim (cases_same r d.region) [
@@ -204,6 +208,7 @@ module _ {X : Type 0} where
         named : (r : ℕ) (d : Dot) → r ≡ d.region → (k : ℕ) → k ≡ d.serial → dot_at r k ≡ d
         named r d same k is = λ i. record { region = same i; serial = is i }
 
+  -- the front of nothing is the empty vector
   pub front_empty : (v : Vector) → v ≡ map.empty → IsFront (map.empty {X = X} {R = dot_cmp}) v
   front_empty v none r = subst (λ (n : ℕ). IsFrontAt {X = X} map.empty r n)
       (sym (ap (λ (w : Vector). entry w r) none ∙ entry_empty r))
@@ -260,12 +265,14 @@ module _ (S : Slots) (d : Dot) (free : map.get S d ≡ None) (x : Slot) where
 
 -- ---- the slots of a store and its front
 
+-- no slots and the empty vector are kept
 pub kept_nothing : (S : Slots) (v : Vector) → S ≡ map.empty → v ≡ map.empty → IsKept S v
 kept_nothing S v none zero_front = record {
   sound = subst IsFactSet (sym (held_none S none)) IsFactSet-empty;
   front_is = subst (λ (R : Slots). IsFront R v) (sym none) (front_empty v zero_front);
 }
 
+-- slots without one, and the vector lowered to before it, are kept
 pub kept_taken : (S : Slots) (v : Vector) (d : Dot) → IsKept S v → 0 < d.serial
     → IsKept (map.remove S d) (lowered v d.region (d.serial - 1))
 kept_taken S v d kept some = record {
@@ -281,6 +288,7 @@ same_keys S R v same front r = record {
   greatest = λ m h. (front r).greatest m (λ k low le. sym (same (dot_at r k)) ∙ h k low le);
 }
 
+-- slots in which a fact became a mark are kept with the same vector
 pub kept_skipped : (S : Slots) (v : Vector) (d : Dot) → IsKept S v → IsSome (map.get S d)
     → IsKept (map.insert S d Skipped) v
 kept_skipped S v d kept known = record {
@@ -290,6 +298,7 @@ kept_skipped S v d kept known = record {
       (λ same. sym known ∙ ap (λ (x : Dot). is_some (map.get S x)) (sym same)) refl) kept.front_is;
 }
 
+-- slots with one more fact that passes are kept with their front
 pub kept_new : (S R : Slots) (v w : Vector) (d : Dot) (b : Body) → IsKept S v → refusal_of b ≡ None
     → R ≡ map.insert S d (Held b) → IsFront R w → IsKept R w
 kept_new S R v w d b kept passes is front = record {
@@ -298,6 +307,7 @@ kept_new S R v w d b kept passes is front = record {
   front_is = front;
 }
 
+-- slots with one more mark are kept with their front
 pub kept_marked : (S R : Slots) (v w : Vector) (d : Dot) → IsKept S v → R ≡ map.insert S d Skipped
     → IsFront R w → IsKept R w
 kept_marked S R v w d kept is front = record {
@@ -312,6 +322,7 @@ pub put_taken : (S R Q : Slots) (d : Dot) (b : Body) → R ≡ map.insert S d (H
 put_taken S R Q d b is rest =
     rest ∙ ap (without_fact R d) (ap (λ (X : Slots). map.get X d) is ∙ get_here S d (Held b))
 
+-- slots without a fact are kept with the lowered vector
 pub kept_without : (S : Slots) (v : Vector) (d : Dot) (o : Option Slot) → map.get S d ≡ o
     → IsSome (held_slot o) → IsKept S v → 0 < d.serial
     → IsKept (without_fact S d o) (lowered v d.region (d.serial - 1))

@@ -29,6 +29,7 @@ subset_antisym F G f g = same_set F G (λ q. alike q (map.get F q) (map.get G q)
     alike q None (Some c) h k = g q c k ∙ sym k
     alike q (Some b) o h k = h ∙ sym (f q b h)
 
+-- two lists of facts of a set are one list of its facts
 pub AllIn-append : (U : FactSet) (fs gs : Facts) → AllIn U fs → AllIn U gs → AllIn U (fs ++ gs)
 AllIn-append U [] gs a b = b
 AllIn-append U (f ∷ fs) gs a b = (a.0, AllIn-append U fs gs a.1 b)
@@ -65,6 +66,7 @@ only_with_facts F (x ∷ fs) d b h = elim (only_with_facts (map.insert F x.0 x.1
     first : (f : Dot × Body) → x.0 ≡ f.0 → x.1 ≡ f.1 → x ≡ f
     first f i j = ap (λ (d : Dot). (d, x.1)) i ∙ ap (λ (b : Body). (f.0, b)) j
 
+-- a set joins facts of a greater set by adding them
 pub joins_with_facts : (U F : FactSet) (fs : Facts) → IsSubset F U → AllIn U fs
     → JoinsFacts F fs (with_facts F fs)
 joins_with_facts U F fs within all = record {
@@ -76,12 +78,15 @@ joins_with_facts U F fs within all = record {
   joins = with_facts_is_joined F fs;
 }
 
+-- no facts join a set as it is
 pub joins_nothing : (F : FactSet) → JoinsFacts F [] F
 joins_nothing F = joins_with_facts F F [] (subset_itself F) tt
 
+-- joining facts is adding them
 pub joins_is_with_facts : {F G : FactSet} {fs : Facts} → JoinsFacts F fs G → G ≡ with_facts F fs
 joins_is_with_facts {F} {G} {fs} k = k.joins ∙ sym (with_facts_is_joined F fs)
 
+-- facts that are joined after others are joined with them
 pub joins_more : {F G H : FactSet} {fs gs : Facts} → JoinsFacts F fs G → JoinsFacts G gs H
     → JoinsFacts F (fs ++ gs) H
 joins_more {F} {G} {H} {fs} {gs} k h =
@@ -101,6 +106,7 @@ same_subset F G H fs gs k h into d b at = elim (k.only d b at) [
   | inr new ↦ AllIn-contains H gs (d, b) h.held (into (d, b) new)
 ]
 
+-- equal facts in any order join to one set
 pub joins_same : {F G H : FactSet} {fs gs : Facts} → JoinsFacts F fs G → JoinsFacts F gs H
     → SameFacts fs gs → G ≡ H
 joins_same {F} {G} {H} {fs} {gs} k h same =

@@ -51,21 +51,25 @@ in_found S (e ∷ es) q b a h = elim (cases_Bool (eq_by_cmp dot_cmp q e.0)) [
 
 -- ---- comparing entries
 
+-- before the first fact nothing is compared
 pub compared_start : (F G : FactSet) (rest : Facts) → rest ≡ map.entries G → Compared F G rest
 compared_start F G rest e =
     record { left = subst (AllIn G) (sym e) (AllIn-entries G); fit = λ a. subst (AllFit F) e a }
 
+-- one more fact fits and is compared
 pub compared_more : (F G : FactSet) (rest : Facts) (f : Dot × Body) (more : Facts) → rest ≡ f ∷ more
     → Compared F G rest → FitsIn F f → Compared F G more
 compared_more F G rest f more e c h =
     let left : AllIn G (f ∷ more) = subst (AllIn G) e c.left in
     record { left = left.1; fit = λ a. c.fit (subst (AllFit F) (sym e) (h, a)) }
 
+-- sets of which all facts were compared agree
 pub compared_all : (F G : FactSet) (rest : Facts) → rest ≡ [] → Compared F G rest → Agree F G
 compared_all F G rest e c d x y at there =
     fit_found F (map.entries G) d y (c.fit (subst (AllFit F) (sym e) tt))
     (sym (map.get-entries G d) ∙ there) x at
 
+-- a fact of a set that agrees fits
 pub compared_not : (F G : FactSet) (rest : Facts) (f : Dot × Body) (more : Facts) → rest ≡ f ∷ more
     → Compared F G rest → Agree F G → FitsIn F f
 compared_not F G rest f more e c agree b at =
@@ -73,6 +77,7 @@ compared_not F G rest f more e c agree b at =
 
 -- ---- adding entries
 
+-- before the first fact nothing is joined
 pub joins_start : (F G : FactSet) (rest : Facts) → rest ≡ map.entries G → Agree F G
     → Joins F G F rest
 joins_start F G rest e agree = record {
@@ -93,16 +98,19 @@ left_in : (F G N : FactSet) (rest : Facts) (f : Dot × Body) (more : Facts) → 
 left_in F G N rest f more e j = (let left : AllIn G (f ∷ more) = subst (AllIn G) e j.left in
     get-joined F G f.0 ∙ ap (λ x. either x (map.get F f.0)) left.0)
 
+-- the next fact fits what was joined so far
 pub joins_fits : (F G N : FactSet) (rest : Facts) (f : Dot × Body) (more : Facts) → rest ≡ f ∷ more
     → Joins F G N rest → FitsIn N f
 joins_fits F G N rest f more e j b at =
     some_injective b f.1 (sym (j.below f.0 b at) ∙ left_in F G N rest f more e j)
 
+-- the next fact passes its check
 pub joins_passes : (F G N : FactSet) (rest : Facts) (f : Dot × Body) (more : Facts)
     → rest ≡ f ∷ more → Joins F G N rest → IsFactSet G → refusal_of f.1 ≡ None
 joins_passes F G N rest f more e j sound =
     (let left : AllIn G (f ∷ more) = subst (AllIn G) e j.left in sound f.0 f.1 left.0)
 
+-- one more fact is joined
 pub joins_next : (F G N M : FactSet) (rest : Facts) (f : Dot × Body) (more : Facts)
     → rest ≡ f ∷ more → Joins F G N rest → M ≡ map.insert N f.0 f.1 → Joins F G M more
 joins_next F G N M rest f more e j is =
@@ -120,6 +128,7 @@ joins_next F G N M rest f more e j is =
           (w f.0 f.1 (ap (λ (X : FactSet). map.get X f.0) is ∙ get_here N f.0 f.1), a));
     }
 
+-- behind the last fact the sets are joined
 pub joins_end : (F G N : FactSet) (rest : Facts) → rest ≡ [] → Joins F G N rest → N ≡ joined F G
 joins_end F G N rest e j =
     same_set N (joined F G) (λ q. by_both q (map.get G q) (map.get F q) refl refl)
@@ -148,6 +157,7 @@ taken_by : (F G : FactSet) (f : Dot × Body) (a : Added) → Adds F f (Ok a) G
 taken_by F G f New adds = adds.1
 taken_by F G f Held adds = adds.1 ∙ sym (insert_held F f.0 f.1 adds.0)
 
+-- a fact that was added is in the set
 pub taken : (F G : FactSet) (f p : Dot × Body) (a : Added) → p ≡ f → Adds F p (Ok a) G
     → G ≡ map.insert F f.0 f.1
 taken F G f p a same adds =
@@ -155,20 +165,24 @@ taken F G f p a same adds =
 
 -- ---- looking for entries
 
+-- before the first fact nothing is sought
 pub sought_start : (F G : FactSet) (rest : Facts) → rest ≡ map.entries G → Sought F G rest
 sought_start F G rest e =
     record { left = subst (AllIn G) (sym e) (AllIn-entries G); all = λ a. subst (AllIn F) e a }
 
+-- one more fact was found
 pub sought_more : (F G : FactSet) (rest : Facts) (f : Dot × Body) (more : Facts) → rest ≡ f ∷ more
     → Sought F G rest → map.get F f.0 ≡ Some f.1 → Sought F G more
 sought_more F G rest f more e c h =
     let left : AllIn G (f ∷ more) = subst (AllIn G) e c.left in
     record { left = left.1; all = λ a. c.all (subst (AllIn F) (sym e) (h, a)) }
 
+-- a set of which all facts were found is part of the other
 pub sought_all : (F G : FactSet) (rest : Facts) → rest ≡ [] → Sought F G rest → IsSubset G F
 sought_all F G rest e c d b at = in_found F (map.entries G) d b (c.all (subst (AllIn F) (sym e) tt))
     (sym (map.get-entries G d) ∙ at)
 
+-- a fact of a part is found in the whole
 pub sought_not : (F G : FactSet) (rest : Facts) (f : Dot × Body) (more : Facts) → rest ≡ f ∷ more
     → Sought F G rest → IsSubset G F → map.get F f.0 ≡ Some f.1
 sought_not F G rest f more e c within =

@@ -39,6 +39,7 @@ serial_at_most : (e q : Dot) → e.region ≡ q.region → is_lt (dot_cmp e q) �
 serial_at_most e q same h = grind (arith, nat_tests)
 
 module _ {X : Type 0} where
+  -- no serial of a region is above its last
   pub at_most_last_serial : (r : ℕ) (es : List (Dot × X)) (q : Dot) (b : X) → q.region ≡ r
       → map.find dot_cmp q es ≡ Some b → q.serial ≤ last_serial r es
   at_most_last_serial r [] q b here h = absurd (none_is_not_some b h)
@@ -57,6 +58,7 @@ module _ {X : Type 0} where
           → n ≤ max (if region == r then serial else 0) rest
       first_counts r region serial rest n e f = grind (arith, nat_tests)
 
+  -- the next dot of a region is free
   pub next_is_free : (F : map.FinMap dot_cmp X) (r : ℕ) → map.get F (next_dot F r) ≡ None
   next_is_free F r =
       elim (map.get F (next_dot F r)) as (λ o. map.get F (next_dot F r) ≡ o → o ≡ None) [

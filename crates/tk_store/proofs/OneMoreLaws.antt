@@ -25,6 +25,7 @@ use Rattle.std.proofs.lemmas.Option.{none-some as none_is_not_some, same_Some as
 at_itself : (d : Dot) → eq_by_cmp dot_cmp d d ≡ true
 at_itself d = ap is_eq (tied_itself dot_cmp_total d)
 
+-- two dots are equal or not
 pub cases_dots : (a b : Dot) → (a ≡ b) ⊎ (a ≢ b)
 cases_dots a b = elim (cases_Bool (eq_by_cmp dot_cmp a b)) [
   | inl same ↦ inl (tied a b same)
@@ -46,6 +47,7 @@ pub record OneMore (F G : FactSet) (d : Dot) (b : Body) : Type 0 where
   pub here : map.get G d ≡ Some b
   pub there : (q : Dot) → q ≢ d → map.get G q ≡ map.get F q
 
+-- a set with a fact inserted at a free dot has one more
 pub more_insert : (F : FactSet) (d : Dot) (b : Body) → map.get F d ≡ None
     → OneMore F (map.insert F d b) d b
 more_insert F d b free = record {
@@ -55,6 +57,7 @@ more_insert F d b free = record {
       ∙ cond-false (eq_by_cmp dot_cmp q d) (Some b) (map.get F q) (apart_at q d ne);
 }
 
+-- a set has one more than without one of its facts
 pub more_remove : (G : FactSet) (d : Dot) (b : Body) → map.get G d ≡ Some b
     → OneMore (map.remove G d) G d b
 more_remove G d b held = record {
@@ -65,6 +68,7 @@ more_remove G d b held = record {
       ∙ cond-false (eq_by_cmp dot_cmp q d) None (map.get G q) (apart_at q d ne));
 }
 
+-- a set is part of one with one more
 pub more_subset : (F G : FactSet) (d : Dot) (b : Body) → OneMore F G d b → IsSubset F G
 more_subset F G d b m q x h = elim (cases_dots q d) [
   | inl same ↦ absurd (none_is_not_some x (sym m.free ∙ ap (map.get F) (sym same) ∙ h))

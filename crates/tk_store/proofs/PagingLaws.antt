@@ -56,6 +56,7 @@ in_kept p (f ∷ fs) d b (inr more) passes =
       | false ↦ in_kept p fs d b more passes
     ]
 
+-- an entry of a list that is below a store is below it
 pub in_all : (R : Slots) (fs : Entries) (d : Dot) (b : Slot) → IsIn d b fs → AllBelow R fs
     → SlotBelow (Some b) (sets.get R d)
 in_all R [] d b h a = absurd h
@@ -111,6 +112,7 @@ last_after f g fs = ap (slice_get (f.0 ∷ g.0 ∷ map dot_of fs)) (step (length
     step : (n : ℕ) → suc (suc n) - 1 ≡ suc (suc n - 1)
     step n = omega arith
 
+-- an entry is on the page, or above its last dot
 pub in_page : (n : ℕ) (fs : Entries) (d : Dot) (b : Slot) → T (sets.is_sorted dot_cmp fs)
     → IsIn d b fs → 0 < n → IsIn d b (take n fs) ⊎ (is_above (last_dot (take n fs)) (d, b) ≡ true)
 in_page zero fs d b s h some = absurd (omega arith)
@@ -127,6 +129,7 @@ in_page (suc (suc n)) (f ∷ g ∷ fs) d b s (inr more) some =
 
 -- ---- all pages
 
+-- an entry that a vector doesn't cover, above the cursor, is beyond both
 pub in_beyond : (S : Slots) (v : Vector) (after : Option Dot) (d : Dot) (b : Slot)
     → sets.get S d ≡ Some b → is_beyond v (d, b) ≡ true → is_above after (d, b) ≡ true
     → IsIn d b (beyond S v after)
@@ -135,11 +138,13 @@ in_beyond S v after d b known free past =
     (in_kept (is_above after) (sets.entries S) d b
     (in_found (sets.entries S) d b (sym (sets.get-entries S d) ∙ known)) past) free
 
+-- what is beyond a vector and a cursor rises
 pub rises : (S : Slots) (v : Vector) (after : Option Dot)
     → T (sets.is_sorted dot_cmp (beyond S v after))
 rises S v after = sorted_kept (is_beyond v) (above S after)
     (sorted_kept (is_above after) (sets.entries S) (sets.entries_sorted S))
 
+-- the first n of a list that isn't longer are all
 pub take_whole : (n : ℕ) (fs : Entries) → length fs ≤ n → take n fs ≡ fs
 take_whole zero [] h = refl
 take_whole (suc n) [] h = refl
@@ -179,9 +184,11 @@ taken limit v R some (U ∷ later) after S took d b known free past =
     grown : SlotBelow (Some b) (sets.get U d)
     grown = subst (λ o. SlotBelow o (sets.get U d)) known (took.2 d)
 
+-- a dot that isn't beyond a vector is covered by it
 pub covered : (v : Vector) (d : Dot) (b : Slot) → is_beyond v (d, b) ≡ false → Covers v d
 covered v d b h = grind (arith, nat_tests)
 
+-- a receiver that takes in each page has all
 pub complete : PagingCompletes
 complete limit v S R later some known took d = by_slot (sets.get S d) refl
   where

@@ -114,6 +114,7 @@ module _ (m : KeptMap) (F : Slots) (seen : slots_of m ≡ F) (after : Option Dot
       by_kept (Some None) here k = absurd (none_is_not_some b k)
       by_kept (Some (Some x)) here k = (x, here, some_injective x.value.1 b k)
 
+  -- a walk that passes over all finds no fact above
   pub passes_out : Passes m after None → above (held_in F) after ≡ []
   passes_out next = at_end (held_in F) after
       (none_in after (sets.entries (held_in F)) (sets.entries_sorted (held_in F))
@@ -128,6 +129,7 @@ module _ (m : KeptMap) (F : Slots) (seen : slots_of m ≡ F) (after : Option Dot
       (sym (sets.get-entries F d) ∙ at m F seen d ∙ ap (option_map slot_of) here)
       (λ x. up_is after d x up) (λ x. not_itself d)
 
+  -- a walk goes on to the next slot with a fact
   pub passes_on : AreHome m → (d : Dot) (k : Option Boxed) (r : SlotRef)
       → Passes m after (Some (d, k)) → Shows r k → PassesOn F after (Some (d, r))
   passes_on home d (Some b) (ref.Held f) next shows =

@@ -40,6 +40,7 @@ module _ {X : Type 0} where
         | false ↦ λ _ k. there k
       ] refl (sym (map.get-insert dot_cmp_total F d b q) ∙ h)
 
+  -- a value that was inserted is at its dot
   pub get_here : (F : map.FinMap dot_cmp X) (d : Dot) (b : X)
       → map.get (map.insert F d b) d ≡ Some b
   get_here F d b = map.get-insert dot_cmp_total F d b d
@@ -73,12 +74,14 @@ module _ {X : Type 0} where
 pub IsFactSet-empty : IsFactSet map.empty
 IsFactSet-empty d b h = absurd (none_is_not_some b (sym (map.get-empty dot_cmp d) ∙ h))
 
+-- a set of facts with one more that passes is one
 pub IsFactSet-insert : (F : FactSet) (d : Dot) (b : Body) → IsFactSet F → refusal_of b ≡ None
     → IsFactSet (map.insert F d b)
 IsFactSet-insert F d b sound passes q c h =
     of_dot F d b q c (refusal_of c ≡ None) (λ _ same. ap refusal_of (sym same) ∙ passes)
     (sound q c) h
 
+-- a set of facts without one of them is one
 pub IsFactSet-remove : (F : FactSet) (d : Dot) → IsFactSet F → IsFactSet (map.remove F d)
 IsFactSet-remove F d sound q c h =
     elim (eq_by_cmp dot_cmp q d) as

@@ -114,6 +114,7 @@ module _ (F : Slots) (v : Vector) (after : Option Dot) (f : Dot × Slot)
         (λ x. covered_between f.0 j x.0 (entry v x.0.region) same le
         (λ here. ap (entry v) here ∙ sym is)))
 
+  -- the search goes on to the next dot, and is nearer to its end
   pub seeks : (at : Dot) (is : Bool) → GoesOn v f.0 at is
       → SeeksAt F v after at is × (length (above F (Some at)) < length (above F after))
   seeks at true c = (
@@ -127,6 +128,7 @@ module _ (F : Slots) (v : Vector) (after : Option Dot) (f : Dot × Slot)
       let le : f.0.serial ≤ at.serial = omega (arith, serial, c.1) in
       (seeks_past at region le serial, fewer_past at region le)
 
+-- a search that finds no next dot has found all
 pub seeks_none : (F : Slots) (v : Vector) (after : Option Dot) → slice_get (above F after) 0 ≡ None
     → map dot_of (beyond F v after) ≡ []
 seeks_none F v after h = ap (λ l. map dot_of (filter (is_beyond v) l)) (at_end F after h)
@@ -139,6 +141,7 @@ pub record Found (F : Slots) (v : Vector) (limit : ℕ) (found : List Dot) (plac
   pub whole : found ++ map dot_of (beyond F v place) ≡ all
   pub low : length found ≤ limit
 
+-- at first nothing is found, and all is left
 pub found_none : (F : Slots) (v : Vector) (limit : ℕ) (found : List Dot) (place : Option Dot)
     → found ≡ [] → Found F v limit found place (map dot_of (beyond F v place))
 found_none F v limit found place none = record {
@@ -146,6 +149,7 @@ found_none F v limit found place none = record {
   low = omega (arith, ap length none);
 }
 
+-- one more dot was looked at, and noted if it counts
 pub found_more : (F : Slots) (v : Vector) (limit : ℕ) (found more : List Dot) (place : Option Dot)
     (all : List Dot) (at : Dot) (is : Bool)
     → Found F v limit found place all → length found < limit
@@ -164,6 +168,7 @@ found_more F v limit found more place all at false f low seeks is = record {
 
 -- ---- the end of the search
 
+-- a list that was found up to the limit is the first of all
 pub enough : {X : Type 0} (found rest all : List X) (limit : ℕ) → found ++ rest ≡ all
     → length found ≤ limit → limit ≤ length found → found ≡ take limit all
 enough found rest all limit is low high =
@@ -180,6 +185,7 @@ append_none : {X : Type 0} (xs : List X) → xs ++ [] ≡ xs
 append_none [] = refl
 append_none (x ∷ xs) = ap (λ l. x ∷ l) (append_none xs)
 
+-- a list that was found to its end is the first of all
 pub all_of_them : {X : Type 0} (found rest all : List X) (limit : ℕ) → found ++ rest ≡ all
     → rest ≡ [] → length found ≤ limit → found ≡ take limit all
 all_of_them found rest all limit is none low =

@@ -12,6 +12,7 @@ use Rattle.tk_store.proofs.FactSetLaws.{get-joined, either}
 use Rattle.tk_store.proofs.JoiningStepsLaws.{joins_start}
 use Rattle.tk_store.proofs.SubsetLaws.{subset_trans}
 
+-- two sets that agree have a join
 pub join_of : (F G : FactSet) → Agree F G → IsJoin IsSubset F G (joined F G)
 join_of F G agree = record {
   left = (joins_start F G (map.entries G) refl agree).below;
@@ -28,6 +29,7 @@ join_of F G agree = record {
     first S d (Some c) y b is at f g h = g b (is ∙ sym (ap (λ x. either x (map.get F d)) is) ∙ h)
     first S d None y b is at f g h = f b (sym (ap (λ x. either x (map.get F d)) is) ∙ h)
 
+-- the joined set is the join
 pub is_join : (F G N : FactSet) → Agree F G → N ≡ joined F G → IsJoin IsSubset F G N
 is_join F G N agree is = subst (IsJoin IsSubset F G) (sym is) (join_of F G agree)
 

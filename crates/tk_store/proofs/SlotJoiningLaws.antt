@@ -61,11 +61,13 @@ agrees_none (Some s) = tt
 
 -- ---- comparing entries
 
+-- before the first slot nothing is compared
 pub compared_start : (S T : Slots) (rest : List (Dot × Slot)) → rest ≡ map.entries T
     → Compared S T rest
 compared_start S T rest e =
     record { left = subst (AllIn T) (sym e) (AllIn-entries T); fit = λ a. subst (AllFit S) e a }
 
+-- one more slot agrees and is compared
 pub compared_more : (S T : Slots) (rest : List (Dot × Slot)) (f : Dot × Slot)
     (more : List (Dot × Slot))
     → rest ≡ f ∷ more → Compared S T rest → SlotAgrees (map.get S f.0) (Some f.1)
@@ -74,6 +76,7 @@ compared_more S T rest f more e c h =
     let left : AllIn T (f ∷ more) = subst (AllIn T) e c.left in
     record { left = left.1; fit = λ a. c.fit (subst (AllFit S) (sym e) (h, a)) }
 
+-- slots of which all were compared agree
 pub compared_all : (S T : Slots) (rest : List (Dot × Slot)) → rest ≡ [] → Compared S T rest
     → SlotsAgree S T
 compared_all S T rest e c d = by_slot (map.get T d) refl
@@ -84,6 +87,7 @@ compared_all S T rest e c d = by_slot (map.get T d) refl
         (fit_of S (map.entries T) (c.fit (subst (AllFit S) (sym e) tt)))
         (sym (map.get-entries T d) ∙ at)
 
+-- a slot of slots that agree agrees
 pub compared_not : (S T : Slots) (rest : List (Dot × Slot)) (f : Dot × Slot)
     (more : List (Dot × Slot))
     → rest ≡ f ∷ more → Compared S T rest → SlotsAgree S T → SlotAgrees (map.get S f.0) (Some f.1)
@@ -92,6 +96,7 @@ compared_not S T rest f more e c agree = (let left : AllIn T (f ∷ more) =
 
 -- ---- joining entries
 
+-- before the first slot nothing is joined
 pub joins_start : (S T : Slots) (rest : List (Dot × Slot)) → rest ≡ map.entries T → SlotsAgree S T
     → Joins S T S rest
 joins_start S T rest e agree = record {
@@ -102,6 +107,7 @@ joins_start S T rest e agree = record {
   all = λ R w a. subst (AllBelow R) e a;
 }
 
+-- the next slot agrees with what was joined so far
 pub joins_fits : (S T N : Slots) (rest : List (Dot × Slot)) (f : Dot × Slot)
     (more : List (Dot × Slot))
     → rest ≡ f ∷ more → Joins S T N rest → SlotAgrees (map.get N f.0) (Some f.1)
@@ -112,6 +118,7 @@ passes_of : (s : Slot) → ((b : Body) → held_slot (Some s) ≡ Some b → ref
 passes_of (Held b) h = h b refl
 passes_of Skipped h = tt
 
+-- the fact of the next slot passes its check
 pub joins_passes : (S T N : Slots) (rest : List (Dot × Slot)) (f : Dot × Slot)
     (more : List (Dot × Slot))
     → rest ≡ f ∷ more → Joins S T N rest → IsFactSet (held_in T) → Passes f.1
@@ -140,6 +147,7 @@ module _ (S T N M : Slots) (agree : SlotsAgree S T) (rest : List (Dot × Slot)) 
   grows = at (λ q o. SlotBelow (map.get N q) o) (join_left (map.get N f.0) f.1 fits)
       (λ q. below_itself (map.get N q))
 
+  -- one more slot is joined
   pub joins_next : Joins S T M more
   joins_next = record {
     left = left.1;
@@ -163,6 +171,7 @@ module _ (S T N M : Slots) (agree : SlotsAgree S T) (rest : List (Dot × Slot)) 
           (ap (λ (X : Slots). map.get X f.0) is ∙ get_here N f.0 (joined_slot (map.get N f.0) f.1))
           w)
 
+-- behind the last slot all are joined
 pub joins_end : (S T N : Slots) (rest : List (Dot × Slot)) → rest ≡ [] → Joins S T N rest
     → N ≡ with_slots S (map.entries T)
 joins_end S T N rest e j = slots_antisym N (with_slots S (map.entries T)) j.below
@@ -176,10 +185,12 @@ joins_end S T N rest e j = slots_antisym N (with_slots S (map.entries T)) j.belo
 
 -- ---- looking for entries
 
+-- before the first slot nothing is sought
 pub sought_start : (S T : Slots) (rest : List (Dot × Slot)) → rest ≡ map.entries T → Sought S T rest
 sought_start S T rest e =
     record { left = subst (AllIn T) (sym e) (AllIn-entries T); all = λ a. subst (AllBelow S) e a }
 
+-- one more slot was found
 pub sought_more : (S T : Slots) (rest : List (Dot × Slot)) (f : Dot × Slot)
     (more : List (Dot × Slot))
     → rest ≡ f ∷ more → Sought S T rest → SlotBelow (Some f.1) (map.get S f.0) → Sought S T more
@@ -187,6 +198,7 @@ sought_more S T rest f more e c h =
     let left : AllIn T (f ∷ more) = subst (AllIn T) e c.left in
     record { left = left.1; all = λ a. c.all (subst (AllBelow S) (sym e) (h, a)) }
 
+-- slots of which all were found are below the others
 pub sought_all : (S T : Slots) (rest : List (Dot × Slot)) → rest ≡ [] → Sought S T rest
     → SlotsBelow T S
 sought_all S T rest e c d = by_slot (map.get T d) refl
@@ -197,6 +209,7 @@ sought_all S T rest e c d = by_slot (map.get T d) refl
         (below_of S (map.entries T) (c.all (subst (AllBelow S) (sym e) tt)))
         (sym (map.get-entries T d) ∙ at)
 
+-- a slot of slots below others is below the other's
 pub sought_not : (S T : Slots) (rest : List (Dot × Slot)) (f : Dot × Slot)
     (more : List (Dot × Slot))
     → rest ≡ f ∷ more → Sought S T rest → SlotsBelow T S → SlotBelow (Some f.1) (map.get S f.0)

@@ -28,6 +28,7 @@ below_held d ((e, Held b) ∷ es) low =
     (let l = both _ _ low in and (is_lt (dot_cmp d e)) _ l.0 (below_held d es l.1))
 below_held d ((e, Skipped) ∷ es) low = below_held d es (both _ _ low).1
 
+-- the facts of sorted slots are sorted
 pub sorted_held : (es : List (Dot × Slot)) → T (map.is_sorted dot_cmp es)
     → T (map.is_sorted dot_cmp (held_entries es))
 sorted_held [] s = tt
@@ -44,6 +45,7 @@ absent_below d (e ∷ es) low =
     ap (λ t. cond t (Some e.1) (map.find dot_cmp d es)) (not_equal (dot_cmp d e.0) l.0)
     ∙ absent_below d es l.1
 
+-- the fact at a dot is that of its slot
 pub find_held : (q : Dot) (es : List (Dot × Slot)) → T (map.is_sorted dot_cmp es)
     → map.find dot_cmp q (held_entries es) ≡ held_slot (map.find dot_cmp q es)
 find_held q [] s = refl
@@ -66,10 +68,12 @@ find_held q ((e, Skipped) ∷ es) s =
       | false ↦ λ _. refl
     ] refl
 
+-- the facts that are held are those of the slots, in order
 pub entries_held : (S : Slots) → map.entries (held_in S) ≡ held_entries (map.entries S)
 entries_held S =
     map.entries-from_sorted dot_cmp _ (sorted_held (map.entries S) (map.entries_sorted S))
 
+-- the fact that is held at a dot is that of its slot
 pub get_held : (S : Slots) (q : Dot) → map.get (held_in S) q ≡ held_slot (map.get S q)
 get_held S q =
     map.get-entries (held_in S) q ∙ ap (map.find dot_cmp q) (entries_held S)
@@ -80,6 +84,7 @@ length_held [] = omega arith
 length_held ((e, Held b) ∷ es) = let l = length_held es in omega (arith, l)
 length_held ((e, Skipped) ∷ es) = let l = length_held es in omega (arith, l)
 
+-- no more facts are held than there are slots
 pub held_most : (S : Slots) → map.len (held_in S) ≤ map.len S
 held_most S =
     let l : length (held_entries (map.entries S)) ≤ length (map.entries S) =
@@ -100,6 +105,7 @@ none_if : (t : Bool) (o : Option Slot) → held_slot (cond t None o) ≡ cond t 
 none_if true o = refl
 none_if false o = refl
 
+-- a slot with a fact holds one more
 pub held_put : (S : Slots) (d : Dot) (b : Body)
     → held_in (map.insert S d (Held b)) ≡ map.insert (held_in S) d b
 held_put S d b = map.same_map dot_cmp_total dot_cmp-IsAntisymmetric _ _ (λ q.
@@ -109,6 +115,7 @@ held_put S d b = map.same_map dot_cmp_total dot_cmp-IsAntisymmetric _ _ (λ q.
     ∙ ap (cond (eq_by_cmp dot_cmp q d) (Some b)) (sym (get_held S q))
     ∙ sym (map.get-insert dot_cmp_total (held_in S) d b q))
 
+-- a fact that became a mark is not held
 pub held_skip : (S : Slots) (d : Dot) → held_in (map.insert S d Skipped) ≡ map.remove (held_in S) d
 held_skip S d = map.same_map dot_cmp_total dot_cmp-IsAntisymmetric _ _ (λ q.
     get_held (map.insert S d Skipped) q
@@ -117,6 +124,7 @@ held_skip S d = map.same_map dot_cmp_total dot_cmp-IsAntisymmetric _ _ (λ q.
     ∙ ap (cond (eq_by_cmp dot_cmp q d) None) (sym (get_held S q))
     ∙ sym (map.get-remove dot_cmp_total (held_in S) d q))
 
+-- a slot that was taken out holds no fact
 pub held_taken : (S : Slots) (d : Dot) → held_in (map.remove S d) ≡ map.remove (held_in S) d
 held_taken S d = map.same_map dot_cmp_total dot_cmp-IsAntisymmetric _ _ (λ q.
     get_held (map.remove S d) q
@@ -136,6 +144,7 @@ remove_free F d free = map.same_map dot_cmp_total dot_cmp-IsAntisymmetric _ _ (�
       | false ↦ λ _. refl
     ] refl)
 
+-- a map without an entry has one less
 pub len_less : {X : Type 0} (F : map.FinMap dot_cmp X) (d : Dot) (x : X) → map.get F d ≡ Some x
     → map.len (map.remove F d) + 1 ≡ map.len F
 len_less F d x there =
@@ -158,6 +167,7 @@ len_less F d x there =
     ∙ ap (λ o. cond (is_some o) (map.len (map.remove F d)) (map.len (map.remove F d) + 1)) free in
     sym more ∙ ap (λ (G : map.FinMap dot_cmp _). map.len G) again
 
+-- no slots hold no fact
 pub held_none : (S : Slots) → S ≡ map.empty → held_in S ≡ map.empty
 held_none S none = map.same_map dot_cmp_total dot_cmp-IsAntisymmetric _ _ (λ q.
     get_held S q ∙ ap held_slot (ap (λ (R : Slots). map.get R q) none ∙ map.get-empty dot_cmp q)
@@ -176,11 +186,13 @@ held_without S d = by_slot (map.get S d) refl
 
 -- ---- marks
 
+-- a slot that is skipped is a mark
 pub marked_is : (o : Option Slot) → is_skipped_slot o ≡ true → o ≡ Some Skipped
 marked_is None h = absurd (true≢false (sym h))
 marked_is (Some (Held b)) h = absurd (true≢false (sym h))
 marked_is (Some Skipped) h = refl
 
+-- a slot that is no mark is taken out whole
 pub without_unmarked : (S : Slots) (d : Dot) (o : Option Slot) → is_skipped_slot o ≡ false
     → without_fact S d o ≡ map.remove S d
 without_unmarked S d None h = refl
@@ -210,6 +222,7 @@ pub whole_held : (S : Slots) (d : Dot) (b : Body) → is_skipped S d ≡ false
     → map.get (held_in S) d ≡ Some b → map.get S d ≡ Some (Held b)
 whole_held S d b whole at = whole_slot (map.get S d) b whole (sym (get_held S d) ∙ at)
 
+-- a dot that is no mark and holds no fact is free
 pub whole_free : (S : Slots) (d : Dot) → is_skipped S d ≡ false → map.get (held_in S) d ≡ None
     → map.get S d ≡ None
 whole_free S d whole at = whole_none (map.get S d) whole (sym (get_held S d) ∙ at)

@@ -33,11 +33,13 @@ use Rattle.tk_handle.proofs.TestLaws.{both}
 
 -- ---- the order
 
+-- a slot is below itself
 pub below_itself : (a : Option Slot) → SlotBelow a a
 below_itself None = tt
 below_itself (Some (Held b)) = refl
 below_itself (Some Skipped) = tt
 
+-- what is below a slot that is below another is below that one
 pub below_trans : (a b c : Option Slot) → SlotBelow a b → SlotBelow b c → SlotBelow a c
 below_trans None b c x y = tt
 below_trans (Some s) None c x y = absurd x
@@ -59,18 +61,22 @@ below_antisym (Some (Held u)) (Some Skipped) x y = absurd y
 below_antisym (Some Skipped) (Some (Held v)) x y = absurd x
 below_antisym (Some Skipped) (Some Skipped) x y = refl
 
+-- slots are below themselves
 pub slots_itself : (S : Slots) → SlotsBelow S S
 slots_itself S d = below_itself (map.get S d)
 
+-- slots below others that are below more are below these
 pub slots_trans : (S T R : Slots) → SlotsBelow S T → SlotsBelow T R → SlotsBelow S R
 slots_trans S T R a b d = below_trans (map.get S d) (map.get T d) (map.get R d) (a d) (b d)
 
+-- slots that are below each other are equal
 pub slots_antisym : (S T : Slots) → SlotsBelow S T → SlotsBelow T S → S ≡ T
 slots_antisym S T a b = map.same_map dot_cmp_total dot_cmp-IsAntisymmetric _ _
     (λ d. below_antisym (map.get S d) (map.get T d) (a d) (b d))
 
 -- ---- a slot joined to what is known of its dot
 
+-- a slot is below its join with another
 pub join_left : (a : Option Slot) (s : Slot) → SlotAgrees a (Some s)
     → SlotBelow a (Some (joined_slot a s))
 join_left None s g = tt
@@ -79,6 +85,7 @@ join_left (Some (Held x)) Skipped g = g
 join_left (Some Skipped) (Held y) g = tt
 join_left (Some Skipped) Skipped g = tt
 
+-- the other slot is below the join, too
 pub join_right : (a : Option Slot) (s : Slot) → SlotAgrees a (Some s)
     → SlotBelow (Some s) (Some (joined_slot a s))
 join_right None s g = below_itself (Some s)
@@ -87,6 +94,7 @@ join_right (Some (Held x)) Skipped g = tt
 join_right (Some Skipped) (Held y) g = g
 join_right (Some Skipped) Skipped g = tt
 
+-- the join is below all that are above both
 pub join_least : (a : Option Slot) (s : Slot) (c : Option Slot) → SlotBelow a c
     → SlotBelow (Some s) c → SlotBelow (Some (joined_slot a s)) c
 join_least None s c x y = y
@@ -135,6 +143,7 @@ get_with S (e ∷ es) sorted q =
         ∙ ap (λ (a : Option Slot). Some (joined_slot a e.1)) (sym (h refl).0)
     by_dot false h = refl
 
+-- joined slots are joined dot by dot
 pub get_joined : (S T : Slots) (q : Dot)
     → map.get (with_slots S (map.entries T)) q ≡ slot_join (map.get S q) (map.get T q)
 get_joined S T q = get_with S (map.entries T) (map.entries_sorted T) q
@@ -152,14 +161,17 @@ least_of : (a b c : Option Slot) → SlotBelow a c → SlotBelow b c → SlotBel
 least_of a None c x y = x
 least_of a (Some s) c x y = join_least a s c x y
 
+-- slots are below their join with others
 pub joined_left : (S T : Slots) → SlotsAgree S T → SlotsBelow S (with_slots S (map.entries T))
 joined_left S T agree d = subst (SlotBelow (map.get S d)) (sym (get_joined S T d))
     (left_of (map.get S d) (map.get T d) (agree d))
 
+-- the other slots are below the join, too
 pub joined_right : (S T : Slots) → SlotsAgree S T → SlotsBelow T (with_slots S (map.entries T))
 joined_right S T agree d = subst (SlotBelow (map.get T d)) (sym (get_joined S T d))
     (right_of (map.get S d) (map.get T d) (agree d))
 
+-- joined slots are below all that are above both
 pub joined_least : (S T R : Slots) → SlotsBelow S R → SlotsBelow T R
     → SlotsBelow (with_slots S (map.entries T)) R
 joined_least S T R a b d = subst (λ (o : Option Slot). SlotBelow o (map.get R d))
@@ -182,6 +194,7 @@ store_antisym P Q a b =
     let horizon : P.horizon ≡ Q.horizon = omega (arith, a.horizon, b.horizon) in
     λ i. record { slots = slots i; horizon = horizon i }
 
+-- two stores that agree have a join
 pub join_of : (P Q : StoreFields) → StoresAgree P Q → IsJoin StoreBelow P Q (joined_store P Q)
 join_of P Q agree = record {
   left = record { slots = joined_left P.slots Q.slots agree; horizon = omega arith };
@@ -193,6 +206,7 @@ join_of P Q agree = record {
   };
 }
 
+-- stores and their join obey the laws of joins
 pub store_laws : JoinLaws StoreBelow StoresAgree
 store_laws = record {
   reflexive = store_itself;
@@ -201,6 +215,7 @@ store_laws = record {
   joined = λ P Q agree. (joined_store P Q, join_of P Q agree);
 }
 
+-- a store with joined slots and the later horizon is the join
 pub is_join : (P Q N : StoreFields) → StoresAgree P Q
     → N.slots ≡ with_slots P.slots (map.entries Q.slots) → N.horizon ≡ max P.horizon Q.horizon
     → IsJoin StoreBelow P Q N
@@ -219,12 +234,14 @@ whole_slots (Some (Held u)) (Some (Held v)) (Some (Held w)) whole x y = x ∙ sy
 whole_slots (Some (Held u)) (Some Skipped) (Some (Held w)) whole x y = absurd y
 whole_slots (Some Skipped) (Some t) (Some (Held w)) whole x y = absurd x
 
+-- two stores below a store in which nothing is skipped agree
 pub whole_agree : WholeAgree
 whole_agree P Q R whole a b d = whole_slots (map.get P.slots d) (map.get Q.slots d)
     (map.get R.slots d) (whole d) (a.slots d) (b.slots d)
 
 -- ---- the store after a call
 
+-- adding a fact joins its slot
 pub added_joins : (P Q : StoreFields) (f p : Dot × Body) (a : Added) → p ≡ f → AddsTo P p (Ok a) Q
     → Q.slots ≡ map.insert P.slots f.0 (joined_slot (map.get P.slots f.0) (Held f.1))
 added_joins P Q f p a same adds =
@@ -247,6 +264,7 @@ added_joins P Q f p a same adds =
             map.insert P.slots f.0 (joined_slot x (Held f.1))) at
             ∙ insert_held P.slots f.0 Skipped at)
 
+-- adding a fact leaves the horizon
 pub added_horizon : (P Q : StoreFields) (f : Dot × Body) (r : Result Added AddError)
     → AddsTo P f r Q → Q.horizon ≡ P.horizon
 added_horizon P Q f (Ok added.New) adds = ap (λ (X : StoreFields). X.horizon) adds.1
@@ -259,6 +277,7 @@ skipped_slot None = refl
 skipped_slot (Some (Held b)) = refl
 skipped_slot (Some Skipped) = refl
 
+-- skipping a dot joins a mark
 pub skipped_joins : (P Q : StoreFields) (d : Dot) (a : Added) → Skips P d (Ok a) Q
     → Q.slots ≡ map.insert P.slots d (joined_slot (map.get P.slots d) Skipped)
 skipped_joins P Q d added.New skips = ap (λ (X : StoreFields). X.slots) skips.1
@@ -266,6 +285,7 @@ skipped_joins P Q d added.New skips = ap (λ (X : StoreFields). X.slots) skips.1
 skipped_joins P Q d added.Held skips = ap (λ (X : StoreFields). X.slots) skips.1
     ∙ ap (λ (s : Slot). map.insert P.slots d s) (sym (skipped_slot (map.get P.slots d)))
 
+-- skipping a dot leaves the horizon
 pub skipped_horizon : (P Q : StoreFields) (d : Dot) (r : Result Added AddError) → Skips P d r Q
     → Q.horizon ≡ P.horizon
 skipped_horizon P Q d (Ok added.New) skips = ap (λ (X : StoreFields). X.horizon) skips.1

@@ -13,9 +13,11 @@ use Rattle.tk_fact.specs.declared.body.Body.{Body}
 use Rattle.tk_store.specs.FactSet.{FactSet, Facts, IsFactSet, AllIn, IsSubset, with_facts}
 use Rattle.tk_store.proofs.PutLaws.{by_dot, of_dot}
 
+-- a set is part of itself
 pub subset_itself : (F : FactSet) → IsSubset F F
 subset_itself F d b h = h
 
+-- a part of a part is a part
 pub subset_trans : (F G H : FactSet) → IsSubset F G → IsSubset G H → IsSubset F H
 subset_trans F G H f g d b h = g d b (f d b h)
 
@@ -31,12 +33,14 @@ keeps_insert : (F U : FactSet) (d : Dot) (b : Body) → IsSubset F U → map.get
 keeps_insert F U d b f u q c h =
     by_dot (λ o. o ≡ Some c) F d b q (λ same. sym u ∙ ap (map.get U) (sym same) ∙ f q c h) h
 
+-- a part stays one with more facts of the whole
 pub subset_with_facts : (F U : FactSet) (fs : Facts) → IsSubset F U → AllIn U fs
     → IsSubset (with_facts F fs) U
 subset_with_facts F U [] f a = f
 subset_with_facts F U (x ∷ fs) f a =
     subset_with_facts (map.insert F x.0 x.1) U fs (subset_insert F U x.0 x.1 f a.0) a.1
 
+-- a part is a part of itself with more facts
 pub keeps_with_facts : (F U : FactSet) (fs : Facts) → IsSubset F U → AllIn U fs
     → IsSubset F (with_facts F fs)
 keeps_with_facts F U [] f a = subset_itself F
@@ -44,11 +48,13 @@ keeps_with_facts F U (x ∷ fs) f a =
     subset_trans F (map.insert F x.0 x.1) _ (keeps_insert F U x.0 x.1 f a.0)
     (keeps_with_facts (map.insert F x.0 x.1) U fs (subset_insert F U x.0 x.1 f a.0) a.1)
 
+-- the first of a list of facts are in the set
 pub AllIn-take : (U : FactSet) (k : ℕ) (fs : Facts) → AllIn U fs → AllIn U (take k fs)
 AllIn-take U zero fs a = tt
 AllIn-take U (suc k) [] a = tt
 AllIn-take U (suc k) (f ∷ fs) a = (a.0, AllIn-take U k fs a.1)
 
+-- the facts that a filter keeps are in the set
 pub AllIn-filter : {X : Type 0} (U : map.FinMap dot_cmp X) (p : Dot × X → Bool)
     (fs : List (Dot × X))
     → AllIn U fs → AllIn U (filter p fs)
@@ -59,6 +65,7 @@ AllIn-filter U p (f ∷ fs) a = elim (p f) as
       | false ↦ AllIn-filter U p fs a.1
     ]
 
+-- facts of a part are in the whole
 pub AllIn-subset : (F U : FactSet) (fs : Facts) → IsSubset F U → AllIn F fs → AllIn U fs
 AllIn-subset F U [] f a = tt
 AllIn-subset F U (x ∷ fs) f a = (f x.0 x.1 a.0, AllIn-subset F U fs f a.1)

@@ -59,11 +59,13 @@ entries_said : (m : KeptMap) → sets.entries (slots_of m) ≡ map said (sets.en
 entries_said m = sets.entries-from_sorted dot_cmp _
     (subst T (sym (sorted_said (sets.entries m))) (sets.entries_sorted m))
 
+-- a slot is what the table has at its dot
 pub get_slots : (m : KeptMap) (q : Dot)
     → sets.get (slots_of m) q ≡ option_map slot_of (sets.get m q)
 get_slots m q = sets.get-entries (slots_of m) q ∙ ap (find dot_cmp q) (entries_said m)
     ∙ find_said q (sets.entries m) ∙ ap (option_map slot_of) (sym (sets.get-entries m q))
 
+-- an empty table has no slots
 pub slots_none : (m : KeptMap) → m ≡ sets.empty → slots_of m ≡ sets.empty
 slots_none m none = sets.same_map dot_cmp_total dot_cmp-IsAntisymmetric _ _ (λ q.
     get_slots m q
@@ -74,14 +76,17 @@ some_of : {A B : Type 0} (f : A → B) (o : Option A) → IsSome (option_map f o
 some_of f None h = h
 some_of f (Some a) h = refl
 
+-- what is mapped of some value is some value
 pub of_some : {A B : Type 0} (f : A → B) (o : Option A) → IsSome o → IsSome (option_map f o)
 of_some f None h = h
 of_some f (Some a) h = refl
 
 module _ (m : KeptMap) (F : Slots) (seen : slots_of m ≡ F) where
+  -- the slot at a dot is what the table has there
   pub at : (q : Dot) → sets.get F q ≡ option_map slot_of (sets.get m q)
   at q = ap (λ (s : Slots). sets.get s q) (sym seen) ∙ get_slots m q
 
+  -- the table has what is known
   pub held_there : (q : Dot) → IsSome (sets.get F q) → IsSome (sets.get m q)
   held_there q h = some_of _ (sets.get m q) (subst IsSome (at q) h)
 
@@ -106,17 +111,20 @@ module _ (m : KeptMap) (F : Slots) (seen : slots_of m ≡ F) where
   shown_kept home d ref.Skipped (Some b) here shows = absurd shows
   shown_kept home d ref.Skipped None here shows = (refl, tt)
 
+  -- what the table shows at a dot is its slot
   pub shown : AreHome m → (d : Dot) (r : SlotRef) (k : Option Boxed) → sets.get m d ≡ Some k
       → Shows r k → IsShown d (Some r) (sets.get F d)
   shown home d r k here shows =
       (let s = shown_kept home d r k here shows in (at d ∙ ap (option_map slot_of) here ∙ s.0, s.1))
 
+  -- the table shows nothing at a free dot
   pub shown_none : (d : Dot) → sets.get m d ≡ None → sets.get F d ≡ None
   shown_none d none = at d ∙ ap (option_map slot_of) none
 
   -- ---- putting and taking out
 
   module _ (n : KeptMap) (d : Dot) where
+    -- the slots with one more that was put
     pub put_slots : (k : Option Boxed)
         → ((q : Dot) → sets.get n q ≡ cond (eq_by_cmp dot_cmp q d) (Some k) (sets.get m q))
         → slots_of n ≡ sets.insert F d (slot_of k)
@@ -131,6 +139,7 @@ module _ (m : KeptMap) (F : Slots) (seen : slots_of m ≡ F) where
         mapped true o p = refl
         mapped false o p = refl
 
+    -- each fact is at its own dot with one more that is
     pub put_home : (k : Option Boxed)
         → ((q : Dot) → sets.get n q ≡ cond (eq_by_cmp dot_cmp q d) (Some k) (sets.get m q))
         → ((b : Boxed) → k ≡ Some b → b.value.0 ≡ d) → AreHome m → AreHome n
@@ -141,6 +150,7 @@ module _ (m : KeptMap) (F : Slots) (seen : slots_of m ≡ F) where
       | inr apart ↦ home q c (sym (is q ∙ cond-false _ _ _ apart) ∙ h)
     ]
 
+    -- the slots without one that was taken out
     pub taken_slots : n ≡ sets.remove m d → slots_of n ≡ sets.remove F d
     taken_slots is = sets.same_map dot_cmp_total dot_cmp-IsAntisymmetric _ _ (λ q.
         get_slots n q
@@ -155,6 +165,7 @@ module _ (m : KeptMap) (F : Slots) (seen : slots_of m ≡ F) where
         mapped true p = refl
         mapped false p = refl
 
+    -- each fact is at its own dot without one of them
     pub taken_home : n ≡ sets.remove m d → AreHome m → AreHome n
     taken_home is home q c h = elim (cases_Bool (eq_by_cmp dot_cmp q d)) [
       | inl same ↦ absurd
@@ -170,6 +181,7 @@ module _ (m : KeptMap) (F : Slots) (seen : slots_of m ≡ F) where
 
 -- ---- a table stays one
 
+-- some value is a value
 pub some_is : {A : Type 0} (o : Option A) → IsSome o → (a : A) × (o ≡ Some a)
 some_is None h = absurd (false≢true h)
 some_is (Some a) h = (a, refl)
@@ -198,11 +210,13 @@ set_over m n d k there is q =
     over None h = absurd (false≢true h)
     over (Some x) h = refl
 
+-- what a table has after an insert
 pub inserted : (m n : KeptMap) (d : Dot) (k : Option Boxed) → n ≡ sets.insert m d k → (q : Dot)
     → sets.get n q ≡ cond (eq_by_cmp dot_cmp q d) (Some k) (sets.get m q)
 inserted m n d k is q =
     ap (λ (x : KeptMap). sets.get x q) is ∙ sets.get-insert dot_cmp_total m d k q
 
+-- an empty table is a table of no facts
 pub table_none : (m : KeptMap) → m ≡ sets.empty → IsTable m 0
 table_none m none = record {
   home = λ d b h. absurd
@@ -227,6 +241,7 @@ module _ (m : KeptMap) (held : ℕ) (table : IsTable m held) (F : Slots) (seen :
       omega (arith, most, as_many, count)
 
   module _ (n : KeptMap) (d : Dot) where
+    -- a table with one more fact counts it
     pub table_put : (b : Boxed) → sets.get F d ≡ None → n ≡ sets.insert m d (Some b) → b.value.0 ≡ d
         → IsTable n (held + 1)
     table_put b free is home = record {
@@ -243,6 +258,7 @@ module _ (m : KeptMap) (held : ℕ) (table : IsTable m held) (F : Slots) (seen :
         dot_of (Some c) e = c.value.0
         dot_of None e = e
 
+    -- a table with one more mark counts as many facts
     pub table_marked : sets.get F d ≡ None → n ≡ sets.insert m d None → IsTable n held
     table_marked free is = record {
       home = put_home m F seen n d None (inserted m n d None is) (λ c e. absurd (no_fact c e))
@@ -257,6 +273,7 @@ module _ (m : KeptMap) (held : ℕ) (table : IsTable m held) (F : Slots) (seen :
         no_fact : (c : Boxed) → None ≡ Some c → ⊥
         no_fact c e = cc
 
+    -- a table in which a fact became a mark counts one less
     pub table_skipped : (x : Body) → held_slot (sets.get F d) ≡ Some x
         → ((q : Dot) → sets.get n q ≡ cond (eq_by_cmp dot_cmp q d) (Some None) (sets.get m q))
         → IsTable n (held - 1)
@@ -274,6 +291,7 @@ module _ (m : KeptMap) (held : ℕ) (table : IsTable m held) (F : Slots) (seen :
         no_fact : (c : Boxed) → None ≡ Some c → ⊥
         no_fact c e = cc
 
+    -- a table without a fact counts one less
     pub table_taken : (x : Body) → held_slot (sets.get F d) ≡ Some x → n ≡ sets.remove m d
         → IsTable n (held - 1)
     table_taken x there is = record {
@@ -294,16 +312,19 @@ module _ (m : KeptMap) (held : ℕ) (table : IsTable m held) (F : Slots) (seen :
 
 -- ---- taking out
 
+-- a value that is there is in its place
 pub value_some : {A : Type 0} (o : Option (Option A)) (x : A) → value_of o ≡ Some x
     → o ≡ Some (Some x)
 value_some None x h = absurd (none_is_not_some x h)
 value_some (Some None) x h = absurd (none_is_not_some x h)
 value_some (Some (Some y)) x h = ap (λ o. Some o) h
 
+-- a table without a value is one without its place
 pub taken_value : (m n : KeptMap) (d : Dot) (b : Boxed) → sets.get m d ≡ Some (Some b)
     → n ≡ without_value m d (sets.get m d) → n ≡ sets.remove m d
 taken_value m n d b kept rest = rest ∙ ap (without_value m d) kept
 
+-- a table in which there was no value is as before
 pub no_value_left : (m n : KeptMap) (d : Dot) (o : Option (Option Boxed)) → value_of o ≡ None
     → n ≡ without_value m d o → n ≡ m
 no_value_left m n d None h rest = rest
@@ -320,6 +341,7 @@ removed_none F d none = sets.same_map dot_cmp_total dot_cmp-IsAntisymmetric _ _
       | inr apart ↦ sym (cond-false _ _ _ apart)
     ]
 
+-- where there was no fact, none is taken and the slots are as before
 pub no_fact_left : (m : KeptMap) (F : Slots) → slots_of m ≡ F
     → (d : Dot) (o : Option (Option Boxed)) → sets.get m d ≡ o → value_of o ≡ None
     → (◌≡◌ {A = Option (Dot × Body)} None

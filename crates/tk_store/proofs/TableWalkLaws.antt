@@ -55,6 +55,7 @@ module _ {X : Type 0} where
       apart Equal p e h = absurd (false≢true h)
       apart Greater p e h = absurd (false≢true h)
 
+  -- the first entry above a dot, in a sorted list
   pub first_in : (a : Option Dot) (es : List (Dot × X)) (d : Dot) (b : X)
       → T (sets.is_sorted dot_cmp es) → find dot_cmp d es ≡ Some b → is_above a (d, b) ≡ true
       → ((q : Dot) (c : X) → find dot_cmp q es ≡ Some c → is_above a (q, c) ≡ true
@@ -92,6 +93,7 @@ module _ {X : Type 0} where
       pair : (x : Dot) (y : X) (d : Dot) (b : X) → d ≡ x → y ≡ b → ◌≡◌ {A = Dot × X} (x, y) (d, b)
       pair x y d b i j = ap (λ (z : Dot). (z, y)) (sym i) ∙ ap (λ (z : X). (d, z)) j
 
+  -- no entry is above a dot if none of the list is
   pub none_in : (a : Option Dot) (es : List (Dot × X)) → T (sets.is_sorted dot_cmp es)
       → ((q : Dot) (c : X) → find dot_cmp q es ≡ Some c → is_above a (q, c) ≡ true → ⊥)
       → slice_get (filter (is_above a) es) 0 ≡ None
@@ -107,10 +109,12 @@ module _ {X : Type 0} where
             ∙ none_in a es l.1 (λ q c h. none q c (found_past e es q c l.0 h))
       ]
 
+-- an entry that the test finds above is above
 pub up_of : {X : Type 0} (a : Option Dot) (q : Dot) (c : X) → is_above a (q, c) ≡ true → IsAbove a q
 up_of None q c h = tt
 up_of (Some d) q c h = h
 
+-- the test finds an entry that is above
 pub up_is : {X : Type 0} (a : Option Dot) (q : Dot) (c : X) → IsAbove a q → is_above a (q, c) ≡ true
 up_is None q c h = refl
 up_is (Some d) q c h = h
@@ -128,6 +132,7 @@ module _ (m : KeptMap) (F : Slots) (seen : slots_of m ≡ F) (after : Option Dot
       (sym (sets.get-entries F d) ∙ here) (up_is after d (slot_of k) next.above)
       (λ q c h up. next.least q (up_of after q c up) (there q c h))
 
+  -- the next slot of the table is the next of the walk
   pub walks_on : AreHome m → (d : Dot) (k : Option Boxed) (r : SlotRef)
       → IsNext m after (Some (d, k)) → Shows r k → WalksOn F after (Some (d, r))
   walks_on home d k r next shows =
@@ -138,6 +143,7 @@ module _ (m : KeptMap) (F : Slots) (seen : slots_of m ≡ F) (after : Option Dot
       goes_on F after (d, shown_slot r) at_first in
       (on, s.1, let more = ap length on in omega arith)
 
+  -- a table without a next slot ends the walk
   pub walks_out : IsNext m after None → above F after ≡ []
   walks_out next = at_end F after
       (none_in after (sets.entries F) (sets.entries_sorted F)
@@ -145,6 +151,7 @@ module _ (m : KeptMap) (F : Slots) (seen : slots_of m ≡ F) (after : Option Dot
 
 -- ---- the greatest serial
 
+-- the last serial in the table is that of the slots
 pub last_serial_is : (m : KeptMap) (F : Slots) → slots_of m ≡ F → (r n : ℕ) → IsLast m r n
     → n ≡ last_serial r (sets.entries F)
 last_serial_is m F seen r n last =

@@ -101,6 +101,7 @@ module _ {X : Type 0} where
       → above F a ≡ f ∷ rest → above F (Some f.0) ≡ rest
   above_next F a f rest h = walk a (map.entries F) f rest (map.entries_sorted F) h
 
+  -- all entries are above no dot
   pub above_none : (F : map.FinMap dot_cmp X) → above F None ≡ map.entries F
   above_none F = all (map.entries F)
     where
@@ -119,6 +120,7 @@ module _ {X : Type 0} where
       somes : {x y : Dot × X} → Some x ≡ Some y → x ≡ y
       somes k = cc
 
+  -- what is above a dot is its first, and what is above that
   pub goes_on : (F : map.FinMap dot_cmp X) (a : Option Dot) (f : Dot × X)
       → slice_get (above F a) 0 ≡ Some f → above F a ≡ f ∷ above F (Some f.0)
   goes_on F a f h =
@@ -132,6 +134,7 @@ module _ {X : Type 0} where
       nothing : ¬ (Some e ≡ None)
       nothing h = cc
 
+  -- nothing is above a dot that has no first above it
   pub at_end : (F : map.FinMap dot_cmp X) (a : Option Dot) → slice_get (above F a) 0 ≡ None
       → above F a ≡ []
   at_end F a h = none_left (above F a) h
@@ -145,6 +148,7 @@ module _ {X : Type 0} where
       sym old ∙ goes_on F a f here ∙ ap (λ (e : Dot). f ∷ above F (Some e)) (sym same)
       ∙ ap (λ l. f ∷ l) (sym after)
 
+  -- a list that begins with nothing is empty
   pub none_on : (F : map.FinMap dot_cmp X) (a : Option Dot) (now : List (Dot × X)) → above F a ≡ now
       → slice_get (above F a) 0 ≡ None → now ≡ []
   none_on F a now old h = sym old ∙ at_end F a h
@@ -178,6 +182,7 @@ above_held a ((d, Skipped) ∷ es) =
       | false ↦ above_held a es
     ]
 
+-- the facts above a dot are those of the slots above it
 pub held_above : (S : Slots) (a : Option Dot) → above (held_in S) a ≡ held_entries (above S a)
 held_above S a = ap (filter (is_above a)) (entries_held S) ∙ above_held a (map.entries S)
 
@@ -186,6 +191,7 @@ abbrev pub IsFirstHeld : SlotRef → Option (Dot × Body) → Type 0
 IsFirstHeld (ref.Held f) o = Some f.now ≡ o
 IsFirstHeld ref.Skipped o = Unit {0}
 
+-- a step over slots finds the first fact, if the slot has one
 pub step_held : (S : Slots) (place after : Option Dot) (d : Dot) (r : SlotRef)
     → above (held_in S) place ≡ above (held_in S) after → IsStep S place d r
     → IsFirstHeld r (slice_get (above (held_in S) after) 0)
@@ -193,6 +199,7 @@ step_held S place after d (ref.Held f) same step =
     sym step ∙ ap (λ (l : List (Dot × Body)). slice_get l 0) same
 step_held S place after d ref.Skipped same step = tt
 
+-- a walk that ends over slots ends over facts
 pub none_held : (S : Slots) (place after : Option Dot)
     → above (held_in S) place ≡ above (held_in S) after → above (held_in S) place ≡ []
     → ◌≡◌ {A = Option (Dot × Body)} None (slice_get (above (held_in S) after) 0)

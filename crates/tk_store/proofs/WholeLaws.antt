@@ -51,6 +51,7 @@ module _ (P : StoreFields) (whole : IsWhole P) where
   put_whole d b q =
       by_dot (λ o. is_skipped_slot o ≡ false) P.slots d (Held b) q (λ same. refl) (whole q)
 
+  -- a store without marks gets a fact as a set does
   pub whole_adds : (f : Dot × Body) (r : Result Added AddError) (Q : StoreFields) → AddsTo P f r Q
       → Adds (held_facts P) f r (held_facts Q) × IsWhole Q
   whole_adds f (Ok added.New) Q adds = (
@@ -87,6 +88,7 @@ module _ (P : StoreFields) (whole : IsWhole P) where
 
   -- ---- fronts and serials
 
+  -- the front of a store without marks is that of its facts
   pub whole_front : (v : Vector) → IsFront P.slots v → IsFront (held_facts P) v
   whole_front v front r = record {
     held = λ k low le. known_held (dot_at r k) ∙ (front r).held k low le;
@@ -112,6 +114,7 @@ module _ (P : StoreFields) (whole : IsWhole P) where
       ap (λ n. max (if d.region == r then d.serial else 0) n) (serials r es a.1)
   serials r ((d, Skipped) ∷ es) a = absurd (true≢false a.0)
 
+  -- the next serial of a store without marks is that of its facts
   pub whole_next : (r : ℕ) → next_serial P.slots r ≡ next_serial (held_facts P) r
   whole_next r = ap (λ n. n + 1)
       (sym (ap (last_serial r) (entries_held P.slots) ∙ serials r (sets.entries P.slots) all_plain))
@@ -153,6 +156,7 @@ module _ (P : StoreFields) (whole : IsWhole P) where
         | false ↦ one_filter v (Some a) es
       ]
 
+  -- what is beyond a vector in a store without marks is what is in its facts
   pub whole_beyond : (v : Vector) (after : Option Dot)
       → map dot_of (beyond P.slots v after) ≡ map dot_of (beyond (held_facts P) v after)
   whole_beyond v after =
@@ -182,6 +186,7 @@ module _ (P Q : StoreFields) (p : IsWhole P) (q : IsWhole Q) where
   slots_agree (Some (Held c)) (Some Skipped) h k s = absurd (true≢false k)
   slots_agree (Some Skipped) (Some b) h k s = absurd (true≢false h)
 
+  -- stores without marks agree exactly if their facts do
   pub agree_is : StoresAgree P Q ↔ Agree (held_facts P) (held_facts Q)
   agree_is = (
     λ agree d x y at there.
@@ -207,6 +212,7 @@ module _ (P Q : StoreFields) (p : IsWhole P) (q : IsWhole Q) where
   slots_below (Some (Held c)) (Some Skipped) h k s = absurd (true≢false k)
   slots_below (Some Skipped) b h k s = absurd (true≢false h)
 
+  -- a store without marks is below another exactly if its facts are part of the other's
   pub below_is : P.horizon ≤ Q.horizon → StoreBelow P Q ↔ IsSubset (held_facts P) (held_facts Q)
   below_is le = (
     λ below d x at.
@@ -222,9 +228,11 @@ module _ (P Q : StoreFields) (p : IsWhole P) (q : IsWhole Q) where
 
 -- ---- an empty store, and a call that changes nothing
 
+-- an empty store holds no facts
 pub empty_held : (P : StoreFields) → P ≡ empty_store → held_facts P ≡ sets.empty
 empty_held P is = held_none P.slots (ap (λ (Q : StoreFields). Q.slots) is)
 
+-- an empty store has no marks
 pub empty_whole : (P : StoreFields) → P ≡ empty_store → IsWhole P
 empty_whole P is d = ap (λ (Q : StoreFields). is_skipped Q.slots d) is
     ∙ ap is_skipped_slot (sets.get-empty dot_cmp d)

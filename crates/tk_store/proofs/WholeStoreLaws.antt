@@ -43,6 +43,7 @@ entries_as : (F : FactSet) → sets.entries (whole_store F).slots ≡ map as_slo
 entries_as F = sets.entries-from_sorted dot_cmp _
     (subst T (sym (sorted_as (sets.entries F))) (sets.entries_sorted F))
 
+-- a store of facts alone has each in its slot
 pub get_whole_store : (F : FactSet) (q : Dot)
     → sets.get (whole_store F).slots q ≡ option_map Held (sets.get F q)
 get_whole_store F q = sets.get-entries (whole_store F).slots q ∙ ap (find dot_cmp q) (entries_as F)
@@ -52,6 +53,7 @@ back : (o : Option Body) → held_slot (option_map Held o) ≡ o
 back None = refl
 back (Some b) = refl
 
+-- a store of facts alone holds these facts
 pub held_whole_store : (F : FactSet) → held_facts (whole_store F) ≡ F
 held_whole_store F = sets.same_map dot_cmp_total dot_cmp-IsAntisymmetric _ _ (λ q.
     get_held (whole_store F).slots q ∙ ap held_slot (get_whole_store F q) ∙ back (sets.get F q))
@@ -66,6 +68,7 @@ slots_are P whole = sets.same_map dot_cmp_total dot_cmp-IsAntisymmetric _ _ (λ 
     plain (sets.get P.slots q) (whole q) ∙ ap (option_map Held) (sym (get_held P.slots q))
     ∙ sym (get_whole_store (held_facts P) q))
 
+-- a store without marks and horizon is that of its facts alone
 pub whole_is : (P : StoreFields) → IsWhole P → P.horizon ≡ 0 → P ≡ whole_store (held_facts P)
 whole_is P whole level =
     let slots = slots_are P whole in

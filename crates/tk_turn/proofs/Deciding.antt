@@ -30,6 +30,7 @@ use Rattle.tk_turn.specs.Requests.{AreDecided, AreRequests, Request, Requests}
 pub record Deciding {S : Type 0} (decides : Decides S) (old : S) (input : List ℕ) (over : Bool)
     (replies records : List ℕ) (now : S) (at count : ℕ) (replied_now logged_now : List ℕ)
     : Type 0 where
+  -- requests that were decided, and those behind them, are decided one after the other
   pub joins : (next : Request) (others : List Request) (last : Outcome) (replied logged : List ℕ)
       (new : S) (rest : List ℕ)
       → AreDecided decides now (drop at input) over (next ∷ others) last replied logged new rest

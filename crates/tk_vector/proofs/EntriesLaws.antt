@@ -108,6 +108,7 @@ neighbours (e ∷ f ∷ es) h =
 abbrev pub Answers : Entries → Bool → Type 0
 Answers es answer = IsAllAdjacentAnswer (λ one next b. b ≡ nat_lt one.0 next.0) es answer
 
+-- the answer is whether the entries rise by region
 pub is_rising : (es : Entries) (answer : Bool) → Answers es answer → answer ≡ is_sorted nat_cmp es
 is_rising es true h = sym (true_of _
     (neighbours es

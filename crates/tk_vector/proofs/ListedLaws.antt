@@ -37,6 +37,7 @@ gets count (Ok v) old after new e h = e ∙ h
 gets count (Err Malformed) old after new e h = e ∙ h
 gets count (Err Memory) old after new e h = tt
 
+-- a magic, a count and as many entries are read as the list of entries
 pub gets_listed : (count : ℕ) (result : Result (Vec (ℕ × ℕ)) ReadError)
     (old rest after new : List ℕ)
     → Some rest ≡ ((bytes_of (length magic)).read old >>= λ m.

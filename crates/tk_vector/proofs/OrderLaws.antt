@@ -36,12 +36,15 @@ at_most_both None (Some m) h k = absurd k
 at_most_both (Some n) None h k = absurd h
 at_most_both (Some n) (Some m) h k = ap Some (omega arith)
 
+-- a vector is below itself
 pub below_itself : (v : Vector) → Below v v
 below_itself v r = at_most_itself (map.get v r)
 
+-- what is below a vector that is below another is below that one
 pub below_trans : (u v w : Vector) → Below u v → Below v w → Below u w
 below_trans u v w h k r = at_most_trans (map.get u r) (map.get v r) (map.get w r) (h r) (k r)
 
+-- vectors that are below each other are equal
 pub below_antisymmetric : (v w : Vector) → Below v w → Below w v → v ≡ w
 below_antisymmetric v w h k = map.same_map nat_cmp_total map.nat_cmp-IsAntisymmetric v w
     (λ r. at_most_both (map.get v r) (map.get w r) (h r) (k r))
@@ -70,6 +73,7 @@ entry_high : (o : Option ℕ) (n : ℕ) → 0 < n → n ≤ unwrap_or o 0 → At
 entry_high None n some h = absurd (omega arith)
 entry_high (Some m) n some h = h
 
+-- a vector is below itself raised
 pub raised_keeps : (v : Vector) (r n : ℕ) → Below v (raised v r n)
 raised_keeps v r n q = elim (cases_lt (entry v r) n) [
   | inl lt ↦
@@ -81,6 +85,7 @@ raised_keeps v r n q = elim (cases_lt (entry v r) n) [
       (sym (raised_within v r n ge)) (at_most_itself (map.get v q))
 ]
 
+-- a raised vector has at least the number that was given
 pub raised_has : (v : Vector) (r n : ℕ) → 0 < n → AtMost (Some n) (map.get (raised v r n) r)
 raised_has v r n some = elim (cases_lt (entry v r) n) [
   | inl lt ↦ subst (λ (w : Vector). AtMost (Some n) (map.get w r)) (sym (raised_above v r n lt))
@@ -92,6 +97,7 @@ raised_has v r n some = elim (cases_lt (entry v r) n) [
       (entry_high (map.get v r) n some ge)
 ]
 
+-- a raised vector is below those that are above it and have the number
 pub raised_below : (v w : Vector) (r n : ℕ) → Below v w → AtMost (Some n) (map.get w r)
     → Below (raised v r n) w
 raised_below v w r n low high q = elim (cases_lt (entry v r) n) [
@@ -105,6 +111,7 @@ raised_below v w r n low high q = elim (cases_lt (entry v r) n) [
 
 -- ---- raising each of some entries
 
+-- one more entry has been raised
 pub raised_more : (V : Vector) (es : List (ℕ × ℕ)) (N M : Vector) (i r n : ℕ) → RaisedBy V es N i
     → i < length es → ((d : ℕ × ℕ) → get_or es i d ≡ (r, n)) → 0 < n → M ≡ raised N r n
     → RaisedBy V es M (i + 1)
@@ -145,17 +152,20 @@ found_below (e ∷ es) c q all = elim (cases_Bool (eq_by_cmp nat_cmp q e.0)) [
 module _ (es : List (ℕ × ℕ)) (W : Vector) (seen : (q : ℕ) → map.get W q ≡ map.find nat_cmp q es)
     (found : (k : ℕ) (d : ℕ × ℕ) → k < length es
     → map.get W (get_or es k d).0 ≡ Some (get_or es k d).1) where
+  -- each entry of a vector that is below another is at most the other's
   pub each_below : (c : Vector) → Below W c → (k : ℕ) (d : ℕ × ℕ) → k < length es
       → AtMost (Some (get_or es k d).1) (map.get c (get_or es k d).0)
   each_below c low k d lt =
       subst (λ o. AtMost o (map.get c (get_or es k d).0)) (found k d lt) (low (get_or es k d).0)
 
+  -- a vector each of whose entries is at most another's is below that one
   pub all_below : (c : Vector)
       → ((k : ℕ) (d : ℕ × ℕ) → k < length es
       → AtMost (Some (get_or es k d).1) (map.get c (get_or es k d).0))
       → Below W c
   all_below c all q = subst (λ o. AtMost o (map.get c q)) (sym (seen q)) (found_below es c q all)
 
+  -- a vector raised by all entries of another is the join of both
   pub raised_all : (V N : Vector) → RaisedBy V es N (length es) → IsJoin Below V W N
   raised_all V N so = record {
     left = so.above;
@@ -163,10 +173,12 @@ module _ (es : List (ℕ × ℕ)) (W : Vector) (seen : (q : ℕ) → map.get W q
     least = λ c low high. so.least c low (each_below c high);
   }
 
+  -- a vector raised by some entries of another is below all that are above both
   pub raised_some : (V N : Vector) (i : ℕ) → RaisedBy V es N i → (c : Vector) → Below V c
       → Below W c → Below N c
   raised_some V N i so c low high = so.least c low (each_below c high)
 
+  -- each entry of a vector is at most another's exactly if the vector is below that one
   pub is_below : (V : Vector)
       → (AllAtMost es (length es) V → Below W V) × (Below W V → AllAtMost es (length es) V)
   is_below V = (all_below V, each_below V)
@@ -251,11 +263,13 @@ found_there es sorted k d lt = find_at_place nat_cmp (get_or es k d).0 es k lt
     (λ x. ap (nat_cmp (get_or es k d).0) (ap (λ (e : ℕ × ℕ). e.0) (get_or-any es k x d lt))
     ∙ tied_itself nat_cmp_total (get_or es k d).0) d
 
+-- the entry at a place is what the vector has of its region
 pub found_entries : (W : Vector) (k : ℕ) (d : ℕ × ℕ) → k < length (map.entries W)
     → map.get W (get_or (map.entries W) k d).0 ≡ Some (get_or (map.entries W) k d).1
 found_entries W k d lt = map.get-entries W (get_or (map.entries W) k d).0
     ∙ found_there (map.entries W) (map.entries_sorted W) k d lt
 
+-- each two vectors have a join
 pub join_of : (v w : Vector) → (c : Vector) × IsJoin Below v w c
 join_of v w =
     let es = map.entries w in (
@@ -281,17 +295,21 @@ module _ (es : List (ℕ × ℕ)) (W : Vector) (sorted : T (map.is_sorted nat_cm
       → map.get W (get_or es k d).0 ≡ Some (get_or es k d).1
   found_at k d lt = seen_at (get_or es k d).0 ∙ found_there es sorted k d lt
 
+  -- for entries that were read: each is at most another's exactly if the vector is below
   pub kept_below : (V : Vector)
       → (AllAtMost es (length es) V → Below W V) × (Below W V → AllAtMost es (length es) V)
   kept_below = is_below es W seen_at found_at
 
+  -- for entries that were read: raised by all of them is the join
   pub kept_join : (V N : Vector) → RaisedBy V es N (length es) → IsJoin Below V W N
   kept_join = raised_all es W seen_at found_at
 
+  -- for entries that were read: raised by some of them is below the join
   pub kept_some : (V N : Vector) (i : ℕ) → RaisedBy V es N i → (c : Vector) → Below V c → Below W c
       → Below N c
   kept_some = raised_some es W seen_at found_at
 
+-- vectors and their join obey the laws of joins
 pub vector_laws : JoinLaws Below (λ a b. ⊤)
 vector_laws = record {
   reflexive = below_itself;

@@ -38,6 +38,7 @@ abbrev pub Answers : List Dot → Bool → Type 0
 Answers dots answer =
     IsAllAdjacentAnswer (λ one next b. b ≡ nat_lt one.region next.region) dots answer
 
+-- dots that the answer finds rising rise
 pub rising : (dots : List Dot) (answer : Bool) → Answers dots answer → answer ≡ true → IsRising dots
 rising dots true h e = λ k d lt. lt_from_test _ _ (h k d lt)
 rising dots false h e = absurd (cc)
@@ -48,6 +49,7 @@ not_rising dots true h e up = cc
 not_rising dots false (k, lt, h) e up = let d : Dot = record { region = 0; serial = 0 } in
     test_from_lt _ _ (up k d lt) (h d)
 
+-- a text with an entry that is no dot is no list of dots
 pub entry_there : (text entry : List ℕ) (k : ℕ)
     → (k < length (slice_split is_comma text))
     × (entry ≡ get_or (slice_split is_comma text) k entry)
@@ -62,6 +64,7 @@ entry_there text entry k at none dots h =
           ∙ get_or-map dot_text dots k d entry there;
     })
 
+-- a text whose dots don't rise is no list of dots
 pub none_rising : (text : List ℕ) (dots : List Dot) (answer : Bool)
     → slice_split is_comma text ≡ map dot_text dots → All IsDot dots → Answers dots answer
     → answer ≡ false → AreNoDots text

@@ -15,15 +15,19 @@ use Rattle.tk_vector.specs.VersionVector.{Vector, entry, raised, lowered}
 number_tied : (a b : ℕ) → is_eq (nat_cmp a b) ≡ (a == b)
 number_tied a b = grind (arith, nat_tests)
 
+-- raising an entry that is lower sets it
 pub raised_above : (v : Vector) (r n : ℕ) → entry v r < n → raised v r n ≡ map.insert v r n
 raised_above v r n h = grind (arith, nat_tests)
 
+-- raising an entry that isn't lower changes nothing
 pub raised_within : (v : Vector) (r n : ℕ) → n ≤ entry v r → raised v r n ≡ v
 raised_within v r n h = grind (arith, nat_tests)
 
+-- a number that compares as less is less
 pub lt_from_cmp : (x y : ℕ) (b : Bool) → b ≡ is_lt (nat_cmp x y) → b ≡ true → x < y
 lt_from_cmp x y b e h = grind (arith, nat_tests)
 
+-- a number that doesn't compare as less is not less
 pub ge_from_cmp : (x y : ℕ) (b : Bool) → b ≡ is_lt (nat_cmp x y) → b ≡ false → y ≤ x
 ge_from_cmp x y b e h = grind (arith, nat_tests)
 
@@ -31,6 +35,7 @@ ge_from_cmp x y b e h = grind (arith, nat_tests)
 pub entry_at : (v : Vector) (r n : ℕ) → map.get v r ≡ Some n → entry v r ≡ n
 entry_at v r n h = ap (λ o. unwrap_or o 0) h
 
+-- the entry of an absent region is 0
 pub entry_absent : (v : Vector) (r : ℕ) → map.get v r ≡ None → entry v r ≡ 0
 entry_absent v r h = ap (λ o. unwrap_or o 0) h
 
@@ -38,10 +43,12 @@ entry_absent v r h = ap (λ o. unwrap_or o 0) h
 pub lowered_none : (v : Vector) (r n : ℕ) → n ≡ 0 → lowered v r n ≡ map.remove v r
 lowered_none v r n z = ap (λ k. lowered v r k) z
 
+-- lowering an entry that is higher sets it
 pub lowered_below : (v : Vector) (r n : ℕ) → 0 < n → n < entry v r
     → lowered v r n ≡ map.insert v r n
 lowered_below v r n p h = grind (arith, nat_tests)
 
+-- lowering an entry that isn't higher changes nothing
 pub lowered_within : (v : Vector) (r n : ℕ) → 0 < n → entry v r ≤ n → lowered v r n ≡ v
 lowered_within v r n p h = grind (arith, nat_tests)
 
@@ -65,9 +72,11 @@ entry_remove v r q = ap (λ o. unwrap_or o 0) (map.get-remove nat_cmp_total v r 
     inside true t e o = rw (← e) refl
     inside false t e o = rw (← e) refl
 
+-- each entry of the empty vector is 0
 pub entry_empty : (r : ℕ) → entry map.empty r ≡ 0
 entry_empty r = ap (λ o. unwrap_or o 0) (map.get-empty nat_cmp r)
 
+-- the entries of a raised vector
 pub entry_raised : (v : Vector) (r n q : ℕ)
     → entry (raised v r n) q ≡ (if q == r then max n (entry v r) else entry v q)
 entry_raised v r n q = elim (cases_lt (entry v r) n) [
@@ -80,6 +89,7 @@ entry_raised v r n q = elim (cases_lt (entry v r) n) [
     kept : (x y : ℕ) → n ≤ y → (q ≡ r → x ≡ y) → x ≡ (if q == r then max n y else x)
     kept x y le same = grind (arith, nat_tests)
 
+-- the entries of a lowered vector
 pub entry_lowered : (v : Vector) (r n q : ℕ)
     → entry (lowered v r n) q ≡ (if q == r then min n (entry v r) else entry v q)
 entry_lowered v r n q = elim (cases_lt 0 n) [
