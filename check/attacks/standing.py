@@ -10,7 +10,7 @@ import re
 import urllib.parse
 
 from lib.cases import Case
-from lib.facts import MARK, bundle, client, clients, dot, mark, retirement, text
+from lib.facts import MARK, bundle, client, clients, dot, mark, retirement, secret_set, text
 from lib.waiting import until
 
 STARTER = "../starter/tokend-start"
@@ -75,6 +75,17 @@ class ByPeers(Case):
         self.assertEqual(it.push([fact])[0], 200)
         form = b"client_id=c3-1&client_secret=guess&token=x"
         self.assertEqual(it.ask("/introspect", form), (200, b'{"active":false}'))
+
+    def test_a_secret_of_the_last_turn_takes_a_client_over(self):
+        it = self.tokend(1)
+        self.login(it)
+        self.assertEqual(it.push([secret_set((3, 1), (1, 1), 1_000_000, b"guess")])[0], 200)
+        for secret, status in (b"guess", 200), (b"s3cret", 401):
+            form = b"client_id=c1-1&token=x&client_secret=" + secret
+            self.assertEqual(it.ask("/introspect", form)[0], status)
+        for old in b"", b"&old=ended":
+            form = b"client_id=c1-1&secret=n3w" + old
+            self.assertEqual(it.ask("/admin/secret", form)[0], 400)
 
     def redeem(self, it, code):
         """What a redemption of the code gets, by the client c1-1."""

@@ -18,7 +18,10 @@ REFRESHED = bytes.fromhex("4f5442340001004b000100000000000000060c000100000000000
 LIMITED = bytes.fromhex("4f5442340001004300010000000000000007"
                         "0d00000472656164010016" + b"https://app.example/cb".hex()
                         + "00000000000002580000000000000e100000000000093a80")
-ALL = ADDED, RETIRED, SIGNED_OUT, SKIPPED, REFRESHED, LIMITED
+CHANGED = bytes.fromhex("4f544234000100450001000000000000000a0f00020000000000000001"
+                        "0000000000000001264a7f2eb0de4fdf2aecac04f24a1c0cc7234d4b522b94db"
+                        "f6193dcdf61dec81000000000000041a")
+ALL = ADDED, RETIRED, SIGNED_OUT, SKIPPED, REFRESHED, LIMITED, CHANGED
 VECTOR = bytes.fromhex("4f54563100020001000000000000000400020000000000000001")
 
 
@@ -38,7 +41,7 @@ def bundle(*items, magic=b"OTB1", horizon=None):
 
 class Bundles(unittest.TestCase):
     def test_examples_are_read_and_written(self):
-        counts = [(1, 0, None)] * 3 + [(0, 2, 1100)] + [(1, 0, None)] * 2
+        counts = [(1, 0, None)] * 3 + [(0, 2, 1100)] + [(1, 0, None)] * 3
         for data, wanted in zip(ALL, counts):
             it = read_bundle(data)
             self.assertEqual((it.facts, it.marks, it.horizon), wanted)
@@ -65,12 +68,14 @@ class Bundles(unittest.TestCase):
                 "1:9223372036854775808 is no dot": bundle(fact(2**63)),
                 "kind 11": bundle(fact(1, kind=11)),
                 "kind 14": bundle(fact(1, kind=14)),
+                "kind 16": bundle(fact(1, kind=16)),
                 "items of b'OTB1'": bundle(fact(1), magic=b"OTB2"),
                 "items of b'OTB2'": bundle(fact(1, kind=10)),
                 "items of b'OTB3' in a bundle b'OTB5'": bundle(mark, magic=b"OTB5", horizon=7),
                 "items of b'OTB4' in a bundle b'OTB2'": bundle(fact(1, kind=12), magic=b"OTB2"),
                 "items of b'OTB4' in a bundle b'OTB1'": bundle(KEEPING),
                 "items of b'OTB4' in a bundle b'OTB3'": b"OTB3" + bytes(8) + LIMITED[4:],
+                "items of b'OTB4' in a bundle b'OTB5'": b"OTB5" + bytes(8) + CHANGED[4:],
                 "items of b'OTB5' in a bundle b'OTB3'": bundle(
                     fact(1, kind=12), mark, magic=b"OTB3", horizon=7),
                 "no moment": bundle(mark, magic=b"OTB3", horizon=253402300800),
@@ -106,6 +111,13 @@ class Bundles(unittest.TestCase):
     def test_versions_of_clients_with_lives(self):
         mixed = Bundle((fact(1, kind=13), fact(2), fact(3), Dot(1, 4).write()), 1100)
         self.assertEqual(mixed.version, b"OTB5")
+        self.assertEqual(mixed.facts_alone().version, b"OTB4")
+        self.assertEqual([it.version for it in mixed.halves()], [b"OTB4", b"OTB3"])
+
+    def test_versions_of_secrets_that_were_changed(self):
+        mixed = Bundle((fact(1), fact(2, size=69, kind=15), fact(3), Dot(1, 4).write()), 1100)
+        self.assertEqual(mixed.version, b"OTB5")
+        self.assertEqual(read_bundle(mixed.write()), mixed)
         self.assertEqual(mixed.facts_alone().version, b"OTB4")
         self.assertEqual([it.version for it in mixed.halves()], [b"OTB4", b"OTB3"])
 

@@ -8,7 +8,7 @@ from pathlib import Path
 
 from bundles import Records, read_bundle, read_vector
 from carrier import empty, saying
-from formats import ALL, LIMITED, REFRESHED, RETIRED, SKIPPED
+from formats import ALL, CHANGED, LIMITED, REFRESHED, RETIRED, SKIPPED
 from lib import TOP
 from lib.cases import Case
 from lib.facts import EMPTY_VECTOR, bundle, bundle_with_runs, client, clients, mark, run
@@ -134,8 +134,9 @@ class Follow(Case):
         (self.live / "1.otb").write_bytes(b"".join(ALL) + RETIRED)
         found = self.taken(self.logs())
         self.assertEqual([it.write() for it in found[-2:]],
-                         [SKIPPED, b"OTB4\0\3" + REFRESHED[6:] + LIMITED[6:] + RETIRED[6:]])
-        self.assertEqual([len(it.items) for it in found], [2, 1, 2, 3])
+                         [SKIPPED, b"OTB4\0\4" + REFRESHED[6:] + LIMITED[6:] + CHANGED[6:]
+                          + RETIRED[6:]])
+        self.assertEqual([len(it.items) for it in found], [2, 1, 2, 4])
 
     def test_records_with_runs(self):
         """A long one is a message of its own, and a short one joins others."""

@@ -156,12 +156,38 @@ class Fronted(Celled):
         for method, path, form in (
                 ("POST", "/admin/signout", {"subject": "ann"}),
                 ("GET", "/admin/client?client_id=" + self.client, None),
+                ("POST", "/admin/secret", {"client_id": self.client, "secret": "s3cret"}),
                 ("POST", "/admin/retire", {"client_id": self.client})):
             self.assertEqual(self.ask(method, path, form, is_inner=True)[0], 200)
             self.assertEqual(self.by()[-1], "directory/dir1")
         self.assertEqual(self.ask("GET", "/sync/vector", is_inner=True)[0], 404)
         for path in "/admin/client", "/sync/vector":
             self.assertEqual(self.ask("GET", path)[0], 403)
+
+    def change(self, secret, **given):
+        """Changes the client's secret by the inner side."""
+        form = {"client_id": self.client, "secret": secret} | given
+        self.assertEqual(self.ask("POST", "/admin/secret", form, is_inner=True)[0], 201)
+        self.assertEqual(self.by()[-1], "directory/dir1")
+
+    def authenticated(self, secret):
+        """The sites of the cells that take this secret."""
+        mine = {"Authorization": "Basic " + basic(self.client, secret)}
+        return [name for name in ("a1", "a2", "b1")
+                if self.server(name).ask_as("POST", "/revoke", {"token": "none"}, **mine)[0] == 200]
+
+    def test_a_secret_that_was_changed_counts_in_each_cell_once_it_is_carried(self):
+        self.change("one")
+        self.assertEqual(self.authenticated("one"), [])
+        self.done("carry", "--once")
+        for secret in "s3cret", "one":
+            self.assertEqual(self.authenticated(secret), ["a1", "a2", "b1"])
+        self.change("two", old="ended")
+        self.assertEqual(self.authenticated("one"), ["a1", "a2", "b1"])
+        self.done("carry", "--once")
+        for secret in "s3cret", "one":
+            self.assertEqual(self.authenticated(secret), [])
+        self.assertEqual(self.authenticated("two"), ["a1", "a2", "b1"])
 
     def test_no_spelling_leads_to_another_cell(self):
         user = self.of_site("b1")

@@ -12,8 +12,8 @@ import unittest
 from lib import TOP
 from lib.command import GIVEN
 from lib.reading import Region, lines_of, printed
-from lib.writing import (BUNDLES, LAST, bundle, dot, fact, marks, number, sign_out,
-                             text, vector)
+from lib.writing import (BUNDLES, LAST, bundle, dot, fact, marks, number, secret_set, sign_out,
+                         text, vector)
 
 BAD = b"OTBX\0\0\0\0\0\0"
 EACH_BAD = (
@@ -23,6 +23,9 @@ EACH_BAD = (
     bundle([fact(2, dot(1, 1), 2), fact(2, dot(1, 1), 1)]),
     bundle([sign_out(b"ann", LAST + 1)], b"OTB2"),
     bundle([sign_out(b"a b", 7)], b"OTB2"),
+    bundle([secret_set(0)], b"OTB4"), bundle([secret_set(1000001)], b"OTB4"),
+    bundle([secret_set(1)]), bundle([secret_set(1)[:-1]], b"OTB4"),
+    bundle([secret_set(1) + b"\0"], b"OTB4"), bundle([secret_set(1, LAST + 1)], b"OTB4"),
     vector((2, 1), (1, 1)), vector((1, 1), (1, 2)), vector((1, 0)),
     b"OTB1" + number(129, 2), b"OTB1\0\1" + number(8193, 2))
 
@@ -87,10 +90,10 @@ class Kinds(unittest.TestCase):
 
     def test_records_of_the_document(self):
         records = list(records_in_document())
-        self.assertEqual([record[10] for _, record in records], [2, 3, 4, 5, 6, 7, 8])
+        self.assertEqual([record[10] for _, record in records], [2, 3, 4, 5, 6, 7, 8, 15])
         for name, record in records:
             with self.subTest(name):
-                data = bundle([record])
+                data = bundle([record], b"OTB4" if record[10] == 15 else b"OTB1")
                 self.assertEqual(run(data), expected(data))
                 self.assertEqual(json.loads(run(data)[0])["kind"], snake(name))
 

@@ -11,7 +11,8 @@ import time
 LIFE, FAMILY = 86_400, 2_592_000
 CODE, ACCESS, REFRESH = 1, 2, 3
 SCOPE, REDIRECT = b"read write", b"https://app.example/callback"
-CLIENT_ADDED, SUBJECT_OUT, ACCESS_REFRESHED, LIMITED_ADDED = 1, 10, 12, 13  # kinds of facts
+CLIENT_ADDED, SUBJECT_OUT, ACCESS_REFRESHED = 1, 10, 12  # kinds of facts
+LIMITED_ADDED, SECRET_SET = 13, 15
 KEEPING = 3  # the client kind of a client that keeps its refresh token
 MARKED = {b"OTB3", b"OTB5", b"OTB6"}  # the versions with marks, and so with a horizon
 MARK = 10  # the length of the mark of a skipped fact, its dot
@@ -67,6 +68,12 @@ def clients(region, *serials):
 
 def retirement(at, of):
     return dot(at) + b"\2" + dot(of)
+
+
+def secret_set(at, of, turn, secret, moment=1000):
+    """The change of the secret of the client at a dot, at this turn."""
+    return (dot(at) + bytes((SECRET_SET,)) + dot(of) + struct.pack(">Q", turn)
+            + hashlib.sha256(secret).digest() + struct.pack(">Q", moment))
 
 
 def consent(at, of, subject, scope=b"read"):
@@ -184,7 +191,7 @@ def version_of(items):
     """The first version that has all of these items."""
     marked = any(len(it) == MARK for it in items)
     kinds = {it[MARK:MARK + 2] for it in items if len(it) > MARK}
-    newest = ACCESS_REFRESHED, LIMITED_ADDED
+    newest = ACCESS_REFRESHED, LIMITED_ADDED, SECRET_SET
     if any(it[0] in newest or it == bytes((CLIENT_ADDED, KEEPING)) for it in kinds):
         return b"OTB5" if marked else b"OTB4"
     if marked:

@@ -8,7 +8,8 @@ import json
 
 KINDS = {1: "client_added", 2: "client_retired", 3: "consent_given", 4: "consent_withdrawn",
          5: "code_issued", 6: "code_redeemed", 7: "refresh_rotated", 8: "token_revoked",
-         9: "reuse_seen", 10: "subject_out", 12: "access_refreshed", 13: "client_added"}
+         9: "reuse_seen", 10: "subject_out", 12: "access_refreshed", 13: "client_added",
+         15: "secret_set"}
 LIMITED = 13  # the kind of a client that is added with lives of its own
 CLIENT_KINDS = ["public", "confidential", "resource", "confidential"]
 KEEPING = 3  # the client kind of a confidential client that keeps its refresh token
@@ -124,6 +125,9 @@ def fields_of(kind, item):
         "access_refreshed": lambda item: {"parent": item.dot(),
                                           **moment("start", item.number(8)),
                                           "access_token": minted(item)},
+        "secret_set": lambda item: {"client": item.dot(), "turn": item.number(8),
+                                    "secret_digest": item.take(32).hex(),
+                                    **moment("moment", item.number(8))},
     }
     return readers[kind](item)
 

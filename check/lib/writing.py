@@ -56,6 +56,11 @@ def sign_out(subject, moment, serial=1, region=1):
     return fact(10, text(subject) + moments(moment), serial, region)
 
 
+def secret_set(turn, moment=1020, of=(1, 1)):
+    """The change of a client's secret at this turn, the sixth fact of region 1."""
+    return fact(15, dot(*of) + number(turn, 8) + DIGEST + moments(moment), 6)
+
+
 def client(sort, uris):
     secret = DIGEST if sort else b""
     return number(sort, 1) + secret + text(b"read") + number(len(uris), 1) + b"".join(
@@ -105,6 +110,11 @@ BUNDLES = {
     "a refreshed access token and a mark": bundle(
         [dot(1, 3), fact(12, dot(1, 4) + moments(0) + minted(OTHER, 0), 5)], b"OTB5",
         moments(1100)),
+    "the first change of a secret": bundle([secret_set(1)], b"OTB4"),
+    "the last change of a secret, of the last dots": bundle(
+        [secret_set(1000000, LAST, (65535, 2**63 - 1))], b"OTB4"),
+    "a change of a secret and a mark": bundle([dot(1, 3), secret_set(2, 0)], b"OTB5",
+                                              moments(1100)),
     "marks": marks(1100, (1, 3), (1, 4), (2, 1)),
     "a mark and a fact": bundle([dot(1, 3), sign_out(b"ann", 7, 4)], b"OTB3", moments(LAST)),
     "a run of marks": bundle([run(1, 3, 4)], b"OTB6", moments(1100)),

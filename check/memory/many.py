@@ -35,6 +35,7 @@ ENDS = [
 ]
 REST = """
 retire 1 1005 c1-3
+req 1 1005 POST /admin/secret - - client_id=c1-1&secret=n3w
 follow
 deliver {all} 3
 follow 3 - - all

@@ -48,6 +48,8 @@ ASKED = """
 req 1 0 POST /admin/client - - kind=public&scope=read&redirects=https://c.example/
 req 1 0 REDEEM {code2}
 req 1 0 POST /admin/logout - - login_id=l2-5
+req 1 0 POST /admin/secret - - client_id=c2-2&secret=n3w
+req 1 0 POST /admin/secret - - client_id=c2-1&secret=n3w&old=ended
 req 1 0 ROTATE {refresh1}
 req 1 0 REDEEM {code1}
 req 1 0 REVOKE {access1}
@@ -164,12 +166,12 @@ class Scene:
                 return Talk(self, server, firsts, request)
         return self.remembered((tuple(firsts), request.sent, options), make)
 
-    def read_back(self, facts):
-        """The look-ups of a server of another number that loaded these facts."""
+    def read_back(self, facts, choices):
+        """The look-ups of a server of another number, by these choices, that loaded the facts."""
         def make():
-            with Server(self.lab, READER, facts) as server:
+            with Server(self.lab, READER, facts, choices) as server:
                 return server.ask_all(self.looks)
-        return self.remembered(facts, make)
+        return self.remembered(("read back", facts, choices), make)
 
     def loaded(self, facts, options):
         """What a server of another number holds once it loaded this, or None if it refuses it."""
@@ -211,7 +213,8 @@ def wrong(scene, talk, request):
     if talk.errors != "fault memory\n" * empty or empty > talk.refused:
         return "%d replies are empty, %d allocations failed, and standard error has %r" % (
             empty, talk.refused, talk.errors)
-    if scene.read_back(body_of(talk.looks[1])) != talk.looks:
+    choices = CHOICES if request.options == CHOICES else ""
+    if scene.read_back(body_of(talk.looks[1]), choices) != talk.looks:
         return "a server that loads the facts held after the request answers otherwise"
     told = None
     for cut in request.cuts if talk.firsts[0] == b"" else [request.sent]:

@@ -132,6 +132,27 @@ class Fronts(Case):
         for subject in "dan", "ann":
             self.assertEqual(self.listed(subject, "one"), self.listed(subject, "two"))
 
+    def test_changes_of_a_secret_go_to_the_site_of_the_client(self):
+        """So each is of a turn of its own, and the other site takes it once it is handed over."""
+        self.enrol()
+        name, other = ("one", "two") if self.client.startswith("c1-") else ("two", "one")
+        for number, secret in enumerate(("one", "two", "three")):
+            said = self.front.ask("POST", "/admin/secret", {
+                "client_id": self.client, "secret": secret}, is_inner=True)
+            self.assertEqual(said[0], 201)
+            self.assert_soon(["%s/%s" % (name, name)], lambda: self.front.by()[-1:])
+            wanted = ["s3cret", "one", "two", "three"][number:number + 2]
+            self.assertEqual(self.good(name), wanted)
+        self.assertEqual(self.good(other), ["s3cret"])
+        self.meet()
+        self.assertEqual(self.good(other), ["two", "three"])
+
+    def good(self, name):
+        """The secrets of the client that a site takes."""
+        return [it for it in ("s3cret", "one", "two", "three")
+                if self.sites[name].ask_as("POST", "/revoke", {"token": "none"}, **{
+                    "Authorization": "Basic " + basic(self.client, it)})[0] == 200]
+
     def test_unknown_logins_and_requests_that_name_none(self):
         for login, where in ("l1-999", "one/one"), ("l%d-999" % FIRST["two"], "two/two"):
             self.assertEqual(self.log_out(login_id=login), NOT_FOUND)

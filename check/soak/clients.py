@@ -10,9 +10,13 @@ KINDS = "access_token", "refresh_token"
 CLIENTS, LEAST = 12, 8  # at the beginning, and below which none is retired
 
 
-class Client(typing.NamedTuple):
-    id: str
-    secret: str
+class Client:
+    """`secret` is what it uses. `secrets` are all that it was to have, also by requests that got no
+    reply; `changed` is the round of the last one.
+    """
+
+    def __init__(self, name, secret, number):
+        self.id, self.secret, self.secrets, self.changed = name, secret, [secret], number
 
 
 class Consent(typing.NamedTuple):
@@ -57,7 +61,7 @@ class Clients:
         self.ways, self.weights = zip(
             (self.log_in, 300), (self.use, 320), (self.reuse, 40), (self.use_again, 40),
             (self.revoke, 80), (self.sign_out, 6), (self.retire, 1), (self.withdraw, 5),
-            (self.add_client, 2), (self.probe, 206))
+            (self.add_client, 2), (self.change_secret, 4), (self.probe, 202))
 
     def begin(self):
         """Adds the resource server, which all regions ask as, and the first clients."""
@@ -95,10 +99,24 @@ class Clients:
                                     scope="read write", redirects=REDIRECT_TEXT)
         if not self.wanted((201,), "a new client", status, said):
             return None
-        client = Client(json.loads(said)["client_id"], secret)
+        client = Client(json.loads(said)["client_id"], secret, self.world.round)
         if kind == "confidential":
             self.clients.append(client)
         return client
+
+    def change_secret(self, region):
+        """Changes the secret of a client, once a round: all regions know its last turn then."""
+        clients = [it for it in self.clients if it.changed < self.world.round]
+        if not clients:
+            return
+        client = self.dice.choice(clients)
+        client.changed = self.world.round
+        client.secrets.append("%032x" % self.dice.getrandbits(128))
+        ended = {"old": "ended"} if self.world.chance(0.3) else {}
+        status, said, _ = self.post(region, "/admin/secret", client_id=client.id,
+                                    secret=client.secrets[-1], **ended)
+        if self.wanted((201, 404), "a new secret", status, said):
+            client.secret = client.secrets[-1]
 
     def consent(self, region, client):
         """A consent of a random subject; None if the region doesn't know the client."""

@@ -5,7 +5,7 @@ from lib.facts import MARK
 from lib.reading import Bytes
 from model import Model, facts_alone, handle_of
 
-SAMPLE, ALONE, TRIED = 60, 40, 12
+SAMPLE, ALONE, TRIED, SECRETS = 60, 40, 12, 8
 SOME = 4  # regions whose facts are all compared, but for the last round
 AT_ONCE = 4  # regions that are asked
 PAUSES = 0, 1, 600, 7200, 30_000  # seconds until a comparison
@@ -30,6 +30,7 @@ class Comparison:
         self.vectors()
         self.learn()
         self.lost_tokens()
+        self.secrets()
         live = self.introspections()
         regions = self.world.regions
         for it in regions if is_last else self.dice.sample(regions, min(SOME, len(regions))):
@@ -69,6 +70,23 @@ class Comparison:
                 self.world.found("the fact of %s is lost" % it)
             elif it.ended and self.model.is_active(it.text, self.world.now):
                 self.world.found("active by the model after its %s: %s" % (it.ended, it))
+
+    def secrets(self):
+        """Every region takes the secrets that are good by the model. Each client then uses one."""
+        clients = self.clients.clients
+        for client in clients:
+            good = [it for it in client.secrets if self.model.is_good_secret(client.id, it)]
+            if good and client.secret not in good:  # a change that got no reply was made
+                client.secret = good[-1]
+        for client in self.dice.sample(clients, min(len(clients), SECRETS)):
+            for secret in client.secrets[-4:]:
+                wanted = self.model.is_good_secret(client.id, secret)
+                for region in self.world.witness, *self.world.regions:
+                    if region.takes(client.id, secret) != wanted:
+                        self.world.found("%s: a secret of %s, good by the model: %s" % (
+                            region, client.id, wanted))
+                self.world.count("good secrets" if wanted else "secrets that ended",
+                                 1 + len(self.world.regions))
 
     def sample(self):
         """Tokens of this round, older ones, and some that are active: these are also returned."""

@@ -10,8 +10,8 @@ import hashlib
 import typing
 
 from lib import Broken
-from lib.facts import MARK
-from lib.reading import PASSING, TOKENS, Bytes, item_of
+from lib.facts import MARK, read_dot
+from lib.reading import PASSING, TOKENS, Bytes, items_of
 
 INACTIVE = {"active": False}
 MINTING = {"code_redeemed", "refresh_rotated"}
@@ -33,7 +33,7 @@ def handle_of(text):
 
 @functools.lru_cache(maxsize=None)
 def fact_of(item):
-    return item_of(item, None)
+    return items_of(item, None)[0]
 
 
 class Model:
@@ -53,7 +53,7 @@ class Model:
         self.settle()
 
     def settle(self):
-        """Makes the tables of uses, reuses, revocations, sign-outs and families anew."""
+        """Makes the tables of uses, reuses, revocations, secrets, sign-outs and families anew."""
         kinds = collections.defaultdict(list)
         for it in self.facts.values():
             kinds[it["kind"]].append(it)
@@ -64,6 +64,10 @@ class Model:
                         for it in kinds["token_revoked"]}
         self.retired = {it["client"] for it in kinds["client_retired"]}
         self.withdrawn = {it["consent"] for it in kinds["consent_withdrawn"]}
+        self.secrets = {it["dot"]: [(0, it["secret_digest"])] for it in kinds["client_added"]
+                        if "secret_digest" in it}
+        for it in kinds["secret_set"]:
+            self.secrets.setdefault(it["client"], []).append((it["turn"], it["secret_digest"]))
         self.signed_out = {}
         for it in kinds["subject_out"]:
             before = self.signed_out.get(it["subject"], it["moment_seconds"])
@@ -125,6 +129,15 @@ class Model:
                 and consent and consent["kind"] == "consent_given"
                 and consent["dot"] not in self.withdrawn and consent["client"] == code["client"]
                 and consent["subject"] == code["subject"])
+
+    def is_good_secret(self, client_id, secret):
+        """Whether a client is live, and has this secret at its last turn or the one before."""
+        client, digest = "%d:%d" % read_dot(client_id), hashlib.sha256(secret.encode()).hexdigest()
+        if client not in self.facts or client in self.retired:
+            return False
+        secrets = self.secrets[client]
+        last, _ = max(secrets)
+        return any(turn >= last - 1 and it == digest for turn, it in secrets)
 
     def introspect(self, text, now):
         """What a resource server gets for a handle at a moment."""

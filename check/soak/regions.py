@@ -5,7 +5,7 @@ import urllib.parse
 
 from bundles import Dot, Vector, read_bundle
 from lib import Broken
-from lib.asking import REDIRECT_TEXT, body_of, request
+from lib.asking import REDIRECT_TEXT, basic, body_of, request
 from lib.server import Server, Tokend
 from lib.site import Site
 from lib.waiting import until
@@ -46,6 +46,12 @@ class Answering(Tokend):
                        "Authorization: Basic " + self.resource)
         status, said = self.send(sent)
         return json.loads(body_of(said)) if status == 200 else None
+
+    def takes(self, client_id, secret):
+        """Whether this is a good secret of the client here."""
+        sent = request("POST", "/revoke", b"token=none", FORM,
+                       "Authorization: Basic " + basic(client_id, secret))
+        return self.send(sent)[0] == 200
 
     def bundles(self, serials):
         """The pages of what a vector doesn't cover."""

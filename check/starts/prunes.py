@@ -6,7 +6,7 @@ import time
 from families import LOGINS, OldLogins, marks_of
 from lib import TOP
 from lib.asking import CLIENT
-from lib.facts import bundle, limited_client, mark
+from lib.facts import bundle, limited_client, mark, secret_set
 from lib.peer import Peer
 from room import Child, dated, retirements, wanted
 
@@ -94,10 +94,11 @@ def peer_ahead_stops_no_start(room):
     marks = bundle([mark(51, 5)], horizon)
     peer = room.serve(50)
     peer.push([limited_client(51, 1), *retirements(51, 2, 2)])
+    peer.push([secret_set((51, 3), (1, 1), 1, b"n3w")])
     said = peer.ask("/sync/push", marks)
     wanted(said == (200, b'{"took":1}'), "the peer took no mark", said)
     run = room.start(peers=[peer.url]).listening()
-    wanted(run.held_to() == {51: 2}, "the facts are not there", run.held_to())
+    wanted(run.held_to() == {51: 3}, "the facts are not there", run.held_to())
     wanted(run.add_client() == (1, 1), "it makes no fact")
     wanted("started without its marks" in run.errors(), "nothing is said of it", run.errors())
     said = run.ask("/sync/push", marks)

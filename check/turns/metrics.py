@@ -28,9 +28,9 @@ PLACES = {  # endpoints that clients reach, and their paths
     "health": "/health", "unknown": "/nowhere",
 }
 INNER = {it: "/" + it for it in (
-    "admin/client", "admin/clients", "admin/retire", "admin/consent", "admin/withdraw",
-    "admin/subject", "admin/signout", "admin/logout", "sync/vector", "sync/pull", "sync/push",
-    "metrics")}
+    "admin/client", "admin/clients", "admin/retire", "admin/secret", "admin/consent",
+    "admin/withdraw", "admin/subject", "admin/signout", "admin/logout", "sync/vector", "sync/pull",
+    "sync/push", "metrics")}
 REACHED = {"clients": PLACES, "all": {**PLACES, **INNER}}
 LAST_PUSH = "tokend_last_push_timestamp_seconds"
 

@@ -8,8 +8,8 @@ from lib.command import GIVEN
 from lib.server import Server
 from shared import GET, SECONDS, Asking, post, rest_of
 
-INNER = ("/admin/client", "/admin/retire", "/admin/consent", "/admin/withdraw", "/admin/signout",
-         "/sync/vector", "/sync/pull", "/sync/push")
+INNER = ("/admin/client", "/admin/retire", "/admin/secret", "/admin/consent", "/admin/withdraw",
+         "/admin/signout", "/sync/vector", "/sync/pull", "/sync/push")
 CLIENTS = "/authorize", "/token", "/introspect", "/revoke"
 UNKNOWN = request("GET", "/nowhere")
 

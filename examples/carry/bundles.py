@@ -15,14 +15,14 @@ MOST_BYTES = 8192  # of a fact
 MARK = 10  # the bytes of a mark: its dot
 RUN = 14  # where a fact has its kind: a run of marks
 MOST_RUN_ITEMS = 1024  # of a bundle with runs, whose pieces are at most MOST_ITEMS
-CLIENT_ADDED, SUBJECT_OUT, ACCESS_REFRESHED, LIMITED_ADDED = 1, 10, 12, 13
-KINDS = {*range(1, 11), ACCESS_REFRESHED, LIMITED_ADDED}
+CLIENT_ADDED, SUBJECT_OUT, ACCESS_REFRESHED, LIMITED_ADDED, SECRET_SET = 1, 10, 12, 13, 15
+KINDS = {*range(1, 11), ACCESS_REFRESHED, LIMITED_ADDED, SECRET_SET}
 KEEPING = 3  # the client kind of a client that keeps its refresh token
 GREATEST_SERIAL = 2**63 - 1
 GREATEST_MOMENT = 253_402_300_799
 # A version: the newest kind that it has, and whether it has marks, and so a horizon.
 VERSIONS = {b"OTB1": (9, False), b"OTB2": (10, False), b"OTB3": (10, True),
-            b"OTB4": (13, False), b"OTB5": (13, True), b"OTB6": (13, True)}
+            b"OTB4": (15, False), b"OTB5": (15, True), b"OTB6": (15, True)}
 RUNS = b"OTB6"  # the version with runs
 VECTOR = b"OTV1"
 FROM_THE_START = bytes(10)  # the cursor of a first page

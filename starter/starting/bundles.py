@@ -9,7 +9,8 @@ RUN = struct.Struct(">HHQBQ")  # a run's length, its first dot, RUN_KIND, and it
 RUN_KIND = 14  # where a fact has its kind
 DOT = struct.Struct(">HQ")
 HORIZON = struct.Struct(">Q")
-CLIENT_ADDED, SIGN_OUT, ACCESS_REFRESHED, LIMITED_ADDED = 1, 10, 12, 13  # kinds of facts
+CLIENT_ADDED, SIGN_OUT, ACCESS_REFRESHED = 1, 10, 12  # kinds of facts
+LIMITED_ADDED, SECRET_SET = 13, 15
 KEEPING = 3  # the client kind of a client that keeps its refresh token
 MOST_ITEMS, LEAST_BYTES, MOST_BYTES = 128, 10, 8192
 MOST_RUN_ITEMS = 1024  # of a bundle with runs, whose pieces are at most MOST_ITEMS
@@ -147,7 +148,7 @@ def facts_alone(page):
 def version_of(facts):
     """The version of a bundle of these facts, which are behind their lengths."""
     kinds = {bytes(it[2 + DOT.size:4 + DOT.size]) for it in facts}
-    newest = ACCESS_REFRESHED, LIMITED_ADDED
+    newest = ACCESS_REFRESHED, LIMITED_ADDED, SECRET_SET
     if any(it[0] in newest or it == bytes((CLIENT_ADDED, KEEPING)) for it in kinds):
         return b"OTB4"
     return b"OTB2" if any(it[0] == SIGN_OUT for it in kinds) else b"OTB1"

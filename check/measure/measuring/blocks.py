@@ -129,7 +129,8 @@ def memory(parts):
     it = part(parts, "memory")
     places = "memory", "on the wire", "in a log"
     rows = [["a " + kind] + [it.number("bytes of a %s, %s" % (kind, place)) for place in places]
-            for kind in ("login", "refresh", "refresh of a token that is kept")]
+            for kind in ("login", "refresh", "refresh of a token that is kept",
+                         "change of a secret")]
     return it, text_of(["bytes of", *places], rows)
 
 

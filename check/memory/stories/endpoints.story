@@ -1,7 +1,7 @@
 # One region, each of whose endpoints is asked: clients of three kinds, consents, codes with and
 # without a challenge, rotations, a reuse of a refresh token and of a code, revocations of each
 # kind, a list, a retirement, a withdrawal, a sign-out, a refresh token that is kept by a client with
-# lives, and what is refused.
+# lives, changes of its secret, and what is refused.
 asker c1-2:s3cret
 
 open 1
@@ -46,6 +46,10 @@ req 1 1024 POST /admin/consent - - client_id={kept}&subject=eve&scope=read
 req 1 1024 GET /authorize?response_type=code&client_id={kept}&state=w - eve - => code11
 req 1 1024 POST /token - - grant_type=authorization_code&client_id={kept}&client_secret=s3cret&code={code11} => access11 refresh11
 req 1 1024 POST /token - - grant_type=refresh_token&client_id={kept}&client_secret=s3cret&refresh_token={refresh11} => access12
+req 1 1024 POST /admin/secret - - client_id={kept}&secret=n3w
+req 1 1024 POST /token - - grant_type=refresh_token&client_id={kept}&client_secret=n3w&refresh_token={refresh11} => access13
+req 1 1024 POST /admin/secret - - client_id={kept}&secret=n3w&old=ended
+req 1 1024 POST /token - - grant_type=refresh_token&client_id={kept}&client_secret=s3cret&refresh_token={refresh11}
 req 1 1024 GET /nowhere - - -
 pull 1 - -
 
