@@ -187,7 +187,7 @@ loud_by_kind P seen now client_kind asker h a s t kind.Access may e =
 loud_by_kind P seen now client_kind asker h a s t kind.Refresh may e =
     loud_as P seen now client_kind asker h a s t kind.Refresh may
 
--- an active token that the asker sees is told with its fields
+-- the reply for an active token that the asker sees has its fields
 pub says_active : (P : StoreFields) (seen : RefreshSeen) (now : ℕ) (client_kind : ClientKind)
     (asker : Dot) (h : Handle) (a : IsActive (map.get (held_facts P)) now h)
     → sees seen client_kind h.id.kind asker a.issued.client ≡ true

@@ -159,7 +159,7 @@ module _ (n : ℕ) (settings : SettingsFields) (U : FactSet) (P : StoreFields) (
     Tells heard = TellsBy (region_of Q) k.facts now words heard
         (answer_by (region_of P) now words heard) (fact_by (region_of P) now words heard)
 
-    -- whatever was heard, the region over either store tells what the other tells
+    -- whatever was heard, the region replies alike over either store
     pub tells_by : (heard : Arrival) → Tells heard
     tells_by Silence = inl (refl, refl)
     tells_by (Refused why) = inl (refl, refl)

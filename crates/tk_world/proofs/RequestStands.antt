@@ -92,7 +92,7 @@ module _ (w : WorldFields) (U : FactSet) (s : State) (S : WorldStands w U s) (r 
       neither : nat_lt now P.horizon ≡ nat_lt now 0
       neither = grind (arith, nat_tests, soon)
 
-      -- the region over the store and the one over all facts tell the same of what was heard
+      -- the region over the store and the one over all facts reply alike to what was heard
       pub tells_unpruned : TellsBy (region_with s r (unpruned kept)) stood now words heard
           (answer_by (region_at w r P) now words heard) (fact_by (region_at w r P) now words heard)
       tells_unpruned =

@@ -136,7 +136,7 @@ facts_fault s input fault old new h = by (map string_bytes s.names.items) h
     by [] h = source_fault _ input fault old new h
     by (name ∷ more) h = each_fault (name ∷ more) input fault old new h
 
--- facts are printed once all sources are, and what was dropped is told
+-- facts are printed once all sources are, and the dropped bytes reported
 pub all_printed : (s : Sources) (input : Option (List ℕ)) (r : Result ℕ Fault) (cut : ℕ)
     (mid : Option (List ℕ)) (output : Change) (faults : Writing)
     → r ≡ Ok cut
