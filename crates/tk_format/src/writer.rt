@@ -78,8 +78,8 @@ impl Writer {
         self.bytes.extend_from_slice(bytes)
     }
 
-    /// Writes the length of `content` as a number in two bytes, and then `content`. Fails if memory
-    /// runs out, and writes nothing then.
+    /// Writes the length of `content`, at most 65,535, as a number in two bytes, and then
+    /// `content`. Fails if memory runs out, and writes nothing then.
     #[tactic(auto, unfolding(crate::specs::Format::text_spelling, crate::specs::Format::number_spelling))]
     pub fn put_text(&mut self, content: &[u8]) -> Result<(), AllocError>
         requires { length content.now < 2 ^ 16 }

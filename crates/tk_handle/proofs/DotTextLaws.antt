@@ -26,16 +26,20 @@ use Rattle.std.proofs.lemmas.Option.{none-some as none_is_not_some}
 
 -- ---- lists
 
+-- a byte of the first of two texts is at the same place in both together
 get_or_left : (xs ys : List ℕ) (k : ℕ) → k < length xs → get_or (xs ++ ys) k 0 ≡ get_or xs k 0
 get_or_left xs ys k lt = grind (arith, common_steps)
 
+-- the byte behind a text is at the place of the text's length
 get_or_seam : (xs ys : List ℕ) (c : ℕ) → get_or (xs ++ c ∷ ys) (length xs) 0 ≡ c
 get_or_seam xs ys c = grind (arith, common_steps)
 
+-- the first bytes of two texts, as many as the first has, are the first text
 take_left : (xs ys : List ℕ) → take (length xs) (xs ++ ys) ≡ xs
 take_left [] ys = refl
 take_left (x ∷ xs) ys = ap (λ l. x ∷ l) (take_left xs ys)
 
+-- what is behind a text and one byte is the rest
 drop_right : (xs ys : List ℕ) (c : ℕ) → drop (length xs + 1) (xs ++ c ∷ ys) ≡ ys
 drop_right xs ys c =
     subst (λ n. drop n (xs ++ c ∷ ys) ≡ ys) {x = suc (length xs)} (omega arith) (go xs)
@@ -44,11 +48,13 @@ drop_right xs ys c =
     go [] = refl
     go (x ∷ xs) = go xs
 
+-- a text with a byte behind is longer
 longer : (xs ys : List ℕ) (c : ℕ) → length xs < length (xs ++ c ∷ ys)
 longer xs ys c = grind (arith, common_steps)
 
 -- ---- numbers
 
+-- a byte equals itself, by the test
 itself : (c : ℕ) → (c == c) ≡ true
 itself c = grind (arith, nat_tests)
 
@@ -56,9 +62,11 @@ itself c = grind (arith, nat_tests)
 region_fits : (d : Dot) → IsDot d → d.region < 2 ^ 64
 region_fits d h = omega arith
 
+-- the serial of a dot in range is below 2^64
 serial_fits : (d : Dot) → IsDot d → d.serial < 2 ^ 64
 serial_fits d h = omega arith
 
+-- a region and a serial in range are those of a dot
 in_range : (r s : ℕ) → IsRegion r → IsSerial s
     → dot_at (Some r) (Some s) ≡ Some (record { region = r; serial = s })
 in_range r s a b = grind (arith, nat_tests)
@@ -177,6 +185,7 @@ parted_found mark text d h =
 pub colon_parts : ¬ (IsInRange 48 57 colon)
 colon_parts h = absurd (omega (arith, h.1))
 
+-- a dash is no digit
 dash_parts : ¬ (IsInRange 48 57 dash)
 dash_parts h = absurd (omega (arith, h.0))
 

@@ -23,21 +23,26 @@ use Rattle.tk_handle.specs.SortedEntries.{IsAt, IsGap}
 use Rattle.std.specs.FinMap.Entries.{by_order, below_all, is_sorted-put}
 use Rattle.tk_handle.proofs.TestLaws.{lesser as less}
 
+-- a place that is at most another is the other, or below
 at_or_below : (i j : ℕ) → i ≤ j → (i ≡ j) ⊎ (i < j)
 at_or_below i j le = elim (cases_lt i j) [ inl lt ↦ inr lt | inr ge ↦ inl (omega arith) ]
 
+-- the first of two tests that both hold holds
 left : (a b : Bool) → T (a && b) → T a
 left true b p = tt
 left false b p = p
 
+-- the second of two tests that both hold holds
 right : (a b : Bool) → T (a && b) → T b
 right true b p = p
 right false b p = absurd p
 
 module _ {K : Type 0} {R : K → K → Ordering} (total : IsTotalOrder R) where
+  -- if one key is less than another, that one is greater
   turned_greater : (x y : K) → R x y ≡ Less → R y x ≡ Greater
   turned_greater x y h = total.antisymm y x ∙ ap ordering_reverse h
 
+  -- if one key is greater than another, that one is less
   turned_less : (x y : K) → R x y ≡ Greater → R y x ≡ Less
   turned_less x y h = total.antisymm y x ∙ ap ordering_reverse h
 
@@ -121,6 +126,7 @@ module _ {K X : Type 0} (R : K → K → Ordering) where
       ∙ ap (λ rest. e ∷ rest)
       (put_at_place k v es i (omega arith) (λ j d lt. below (suc j) d (omega arith)) here d)
 
+  -- a key below all entries is below the entry at each index
   below_by_index : (x : K) (es : List (K × X)) → T (below_all R x es) → (j : ℕ) (d : K × X)
       → j < length es → R x (get_or es j d).0 ≡ Less
   below_by_index x [] h j d lt = absurd (omega arith)
@@ -137,6 +143,7 @@ module _ {K X : Type 0} (R : K → K → Ordering) where
       rises es (right _ _ h) i j d (omega arith) (omega arith)
 
   module _ (total : IsTotalOrder R) where
+    -- along sorted entries, the comparison with a key never falls
     comparisons_rise : (es : List (K × X)) → T (is_sorted R es) → (k : K)
         → IsNonDecreasingBy (λ e. ordering_index (R e.0 k)) es
     comparisons_rise es sorted k i j d le within =

@@ -1,11 +1,16 @@
 -- Laws of tests, orders and results that proofs of many crates cite. Key results:
 --   both, and, is_true        a test of two parts holds if both hold
+--   and_first, and_second, neither   the parts of two tests that hold, or fail
 --   less, lesser, equal_of    the ordering that a test finds
+--   tied                      dots that compare as equal are equal
 --   on_ok, on_err, either_way   what follows of a result in each of its cases
-use Rattle.std.proofs.Common.{◌≡◌, Bool, true, false, ◌&&◌, T, Option, None, Some, IsSome}
+use Rattle.std.proofs.Common.{◌≡◌, Bool, true, false, ◌&&◌, ◌||◌, T, Option, None, Some, IsSome}
 use Rattle.std.proofs.Common.{is_some, is_eq, is_lt, Ordering, Less, Equal, Greater}
 use Rattle.std.proofs.Common.{Result, Ok, Err, OnOk, OnErr, sym, ap, refl, ◌∙◌}
+use Rattle.std.specs.Ordering.{eq_by_cmp}
 use Rattle.std.proofs.lemmas.Bool.{false≢true}
+use Rattle.tk_handle.specs.Dot.{dot_cmp, dot_cmp-IsAntisymmetric}
+use Rattle.tk_handle.specs.declared.dot.Dot.{Dot}
 
 -- ---- tests
 
@@ -23,6 +28,21 @@ and false b p q = p
 pub is_true : (b : Bool) → T b → b ≡ true
 is_true true h = refl
 is_true false h = absurd h
+
+-- if both tests hold, the first does
+pub and_first : (a b : Bool) → (a && b) ≡ true → a ≡ true
+and_first true b h = refl
+and_first false b h = absurd (false≢true h)
+
+-- if both tests hold, the second does
+pub and_second : (a b : Bool) → (a && b) ≡ true → b ≡ true
+and_second true b h = h
+and_second false b h = absurd (false≢true h)
+
+-- if none of two tests holds, each fails
+pub neither : (a b : Bool) → (a || b) ≡ false → (a ≡ false) × (b ≡ false)
+neither false b h = (refl, h)
+neither true b h = absurd (false≢true (sym h))
 
 -- ---- orders
 
@@ -43,6 +63,10 @@ pub equal_of : (o : Ordering) → is_eq o ≡ true → o ≡ Equal
 equal_of Equal h = refl
 equal_of Less h = absurd (false≢true h)
 equal_of Greater h = absurd (false≢true h)
+
+-- dots that compare as equal are equal
+pub tied : (q d : Dot) → eq_by_cmp dot_cmp q d ≡ true → q ≡ d
+tied q d h = dot_cmp-IsAntisymmetric q d (equal_of (dot_cmp q d) h)
 
 -- what is less doesn't tie
 pub not_tied : (o : Ordering) → T (is_lt o) → is_eq o ≡ false
@@ -74,6 +98,14 @@ on_ok (Err e) h f = tt
 pub on_err : {A E P Q : Type 0} (r : Result A E) → OnErr r P → (P → Q) → OnErr r Q
 on_err (Ok a) h f = tt
 on_err (Err e) h f = f h
+
+-- what follows from success holds after success, with both named
+pub ok_then : {A E : Type 0} (r : Result A E) (P Q : Type 0) → OnOk r P → (P → Q) → OnOk r Q
+ok_then r P Q = on_ok r
+
+-- what follows from an error holds after an error, with both named
+pub err_then : {A E : Type 0} (r : Result A E) (P Q : Type 0) → OnErr r P → (P → Q) → OnErr r Q
+err_then r P Q = on_err r
 
 -- what holds anyway holds after an error
 pub always_err : {A E : Type 0} (P : Type 0) (r : Result A E) → P → OnErr r P

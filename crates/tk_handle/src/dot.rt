@@ -43,7 +43,7 @@ impl Dot {
     pub fn new(region: RegionNumber, serial: u64) -> Option<Dot>
         ensures { SomeIff result (IsSerial serial) (record { region = region; serial = serial }) }
     {
-        if serial == 0 || serial > Serial::GREATEST {
+        if serial == 0 || serial > Serial::MAX {
             return None;
         }
         Some(Dot {
@@ -68,7 +68,7 @@ impl Dot {
     {
         Dot {
             region: u16::MAX,
-            serial: Serial::GREATEST,
+            serial: Serial::MAX,
         }
     }
 

@@ -33,13 +33,13 @@ use tk_format::{Reader, Writer};
 
 impl Moment {
     /// The seconds of the greatest moment, 9999-12-31T23:59:59Z.
-    pub const GREATEST: u64 = 253_402_300_799;
+    pub const MAX: u64 = 253_402_300_799;
 
     /// Returns the moment of that second, or `None` if it is above the greatest.
     pub fn new(seconds: u64) -> Option<Moment>
         ensures { SomeIff result (IsMoment seconds) seconds }
     {
-        if seconds > Self::GREATEST {
+        if seconds > Self::MAX {
             return None;
         }
         Some(Moment { seconds })
@@ -59,7 +59,7 @@ impl Moment {
     {
         let later = self.seconds.saturating_add(seconds);
         Moment {
-            seconds: later.min(Self::GREATEST),
+            seconds: later.min(Self::MAX),
         }
     }
 

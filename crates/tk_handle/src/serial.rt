@@ -27,13 +27,13 @@ ghost use Rattle.tk_handle.specs.Ranges.{IsSerial};
 
 impl Serial {
     /// The greatest number of a serial.
-    pub const GREATEST: u64 = 9_223_372_036_854_775_807;
+    pub const MAX: u64 = 9_223_372_036_854_775_807;
 
     /// Returns the serial of that number, or `None` if it is 0 or above the greatest.
     pub fn new(number: u64) -> Option<Serial>
         ensures { SomeIff result (IsSerial number) number }
     {
-        if number == 0 || number > Self::GREATEST {
+        if number == 0 || number > Self::MAX {
             return None;
         }
         Some(Serial { number })

@@ -27,6 +27,7 @@ starts start text rest true is h =
     ∙ ap (λ x. start ++ x) more
 starts start text rest false is h = cc
 
+-- a text that has a rest behind a start is the start and the rest
 behind_is : (start text rest : List ℕ) → behind start text ≡ Some rest → text ≡ start ++ rest
 behind_is start text rest h =
     starts start text rest (bytes_eq (take (length start) text) start) refl h
@@ -78,6 +79,7 @@ port_is text h = by_number (decimal_in text) refl h
         let most : nat_le n max_port ≡ true = p.1 in
         (n, grind (arith, nat_tests), grind (arith, nat_tests), (decimal_found text n is).spelled)
 
+-- a port part is empty, or a colon and a port
 port_part_is : (text : List ℕ) → is_port_part text ≡ true → IsPortPart text
 port_part_is [] h = inl refl
 port_part_is (b ∷ text) h =

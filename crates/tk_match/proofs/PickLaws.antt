@@ -29,6 +29,7 @@ matches_is registered sent h = by_kind (is_any_port registered) refl h
     by_kind true is e = inr (differs_in_port registered sent e)
     by_kind false is e = inl ((bytes_eq-Decides registered sent).0 e, is)
 
+-- a sent URI that is picked matches a registered one
 sent_matches : (uris : List (List ℕ)) (sent uri : List ℕ) (b : Bool)
     → (is_uri sent && list_any (λ x. matches x sent) uris) ≡ b → cond b (Uri sent) Unknown ≡ Uri uri
     → MatchesSome uris uri
@@ -40,11 +41,13 @@ sent_matches uris sent uri true is h =
     (found.0, found.1, found.2, found.3, matches_is found.1 sent found.4)
 sent_matches uris sent uri false is h = cc
 
+-- the only URI of a list, if it is picked, matches itself
 own_matches : (x uri : List ℕ) (b : Bool) → is_any_port x ≡ b → cond b Missing (Uri x) ≡ Uri uri
     → MatchesSome (x ∷ []) uri
 own_matches x uri true is h = cc
 own_matches x uri false is h = let same : x ≡ uri = cc in (0, x, omega arith, refl, inl (same, is))
 
+-- the URI that is picked if no URI is sent matches one of the list
 only_matches : (uris : List (List ℕ)) (uri : List ℕ) → only_uri uris ≡ Uri uri
     → MatchesSome uris uri
 only_matches [] uri h = cc
@@ -58,14 +61,17 @@ picked_matches uris None uri h = only_matches uris uri h
 picked_matches uris (Some sent) uri h =
     sent_matches uris sent uri (is_uri sent && list_any (λ x. matches x sent) uris) refl h
 
+-- the URI that is picked if one is sent is the sent one
 sent_meant : (sent uri : List ℕ) (b : Bool) → cond b (Uri sent) Unknown ≡ Uri uri → sent ≡ uri
 sent_meant sent uri true h = cc
 sent_meant sent uri false h = cc
 
+-- the only URI of a list is the one that is picked of it
 own_meant : (x uri : List ℕ) (b : Bool) → cond b Missing (Uri x) ≡ Uri uri → x ≡ uri
 own_meant x uri true h = cc
 own_meant x uri false h = cc
 
+-- the URI that is picked if no URI is sent is the only one of the list
 only_meant : (uris : List (List ℕ)) (uri : List ℕ) → only_uri uris ≡ Uri uri → uris ≡ uri ∷ []
 only_meant [] uri h = cc
 only_meant (x ∷ []) uri h = ap (λ (y : List ℕ). y ∷ []) (own_meant x uri (is_any_port x) h)

@@ -21,6 +21,7 @@ same_part text more i j low high =
     ap (take (j - i)) (drop-append-le i text more (omega arith))
     ∙ take-append-le (j - i) (drop i text) more (omega (arith, length-drop i text))
 
+-- the pair at a place is the same once bytes are added behind
 same_pair : (text more : List ℕ) (p : Place) → IsPlace text p
     → pair_at (text ++ more) p ≡ pair_at text p
 same_pair text more p h =
@@ -28,6 +29,7 @@ same_pair text more p h =
     (same_part text more p.start p.middle h.starts (omega (arith, h.parted, h.within)))
     (same_part text more p.middle p.end h.parted h.within)
 
+-- a place is a place still once bytes are added behind
 stays : (text more : List ℕ) (p : Place) → IsPlace text p → IsPlace (text ++ more) p
 stays text more p h = record {
   starts = h.starts;

@@ -26,9 +26,9 @@ ghost use Rattle.std.specs.Prelude.{◌≡◌, ◌==◌, ◌<◌, ◌+◌, IfOk,
 ghost use Rattle.std.specs.Prelude.{length, position, take, drop};
 ghost use Rattle.std.specs.Option.{option_copied, option_map};
 ghost use Rattle.form_urlencoded.specs.Form.{pair_text};
-ghost use Rattle.tk_params.specs.Params.{text_of};
 ghost use Rattle.tk_params.specs.Basic as spec;
 ghost use Rattle.tk_params.specs.Credentials.{secret_in};
+ghost use Rattle.tk_params.specs.Params.{text_of};
 
 use base64::DecodeAllocError;
 use base64::engine::general_purpose::STANDARD;

@@ -39,9 +39,9 @@ pub enum One<'a> {
 ghost use Rattle.std.specs.Prelude.{◌≡◌, ◌∷◌, ◌++◌, [], All, IfOk, OnOk, map};
 ghost use Rattle.std.specs.List.{list_any};
 ghost use Rattle.std.specs.Option.{option_copied};
+ghost use Rattle.tk_params.specs.One.{IsOne};
 ghost use Rattle.tk_params.specs.Params.{params_of, values_of, value_of, is_twice, has_twice};
 ghost use Rattle.tk_params.specs.Places.{IsPlace, pairs_at};
-ghost use Rattle.tk_params.specs.One.{IsOne};
 
 use form_urlencoded::parse;
 use std::alloc::{AllocError, Global};

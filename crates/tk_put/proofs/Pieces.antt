@@ -26,10 +26,12 @@ front_more old mid new before text rest all done begun same = record {
 
 -- ---- bytes
 
+-- the first bytes of no bytes are none
 take_nil : (k : ℕ) → take {A = ℕ} k [] ≡ []
 take_nil zero = refl
 take_nil (suc k) = refl
 
+-- the first m bytes, and the first n of the rest, are the first m + n
 take_further : (bytes : List ℕ) (m n : ℕ)
     → take m bytes ++ take n (drop m bytes) ≡ take (m + n) bytes
 take_further bytes zero n = let same : n ≡ 0 + n = omega arith in ap (λ (k : ℕ). take k bytes) same
@@ -59,6 +61,7 @@ front_taken old new bytes m done = record {
 
 -- ---- pieces
 
+-- the text of some pieces is that of those before one, of that one, and of those behind
 pieces_at : (ps : List (Bor (List ℕ))) (i : ℕ) (d : Bor (List ℕ)) → i < length ps
     → joined_text ps
     ≡ joined_text (take i ps) ++ ((get_or ps i d).now ++ joined_text (drop (suc i) ps))

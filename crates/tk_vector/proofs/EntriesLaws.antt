@@ -24,26 +24,33 @@ use Rattle.tk_vector.specs.VectorBytes.{entry_field, rising}
 use Rattle.tk_vector.specs.VersionVector.{Vector}
 use Rattle.tk_handle.proofs.TestLaws.{and as both, is_true as true_of}
 
+-- regions with their serials
 abbrev Entries : Type 0
 Entries = List (ℕ × ℕ)
 
+-- the first of two tests that both hold holds
 left : (a b : Bool) → T (a && b) → T a
 left true b p = tt
 left false b p = p
 
+-- the second of two tests that both hold holds
 right : (a b : Bool) → T (a && b) → T b
 right true b p = p
 right false b p = absurd p
 
+-- a number that compares as less is less
 below : (a b : ℕ) → T (is_lt (nat_cmp a b)) → a < b
 below a b h = grind (arith, nat_tests)
 
+-- a number that is less compares as less
 is_below : (a b : ℕ) → a < b → T (is_lt (nat_cmp a b))
 is_below a b h = grind (arith, nat_tests)
 
+-- a number that is less by the test is less
 lt_from_test : (a b : ℕ) → true ≡ nat_lt a b → a < b
 lt_from_test a b h = grind (arith, nat_tests)
 
+-- a number that compares as less is not found to be no less
 not_less : (a b : ℕ) → nat_cmp a b ≡ Less → ¬ (false ≡ nat_lt a b)
 not_less a b h e = grind (arith, nat_tests)
 
@@ -53,6 +60,7 @@ one_more : (es : Entries) (i : ℕ) (e : ℕ × ℕ) → i < length es → e ≡
 one_more es i e within is =
     (take_at_read es i e within).1 ∙ ap (λ x. take i es ++ (x ∷ [])) (sym is)
 
+-- entries that fit, and more entries that fit, all fit
 all_append : (es fs : Entries) → AllByRecursion entry_field.Fits es
     → AllByRecursion entry_field.Fits fs → AllByRecursion entry_field.Fits (es ++ fs)
 all_append [] fs a b = b
@@ -94,6 +102,7 @@ below_all_from a b (e ∷ es) lt h =
     let next = below b e.0 (left _ _ h) in
     both _ _ (is_below a e.0 (omega arith)) (below_all_from a b es lt (right _ _ h))
 
+-- entries of which each is below the next, by region, are sorted
 neighbours : (es : Entries)
     → ((k : ℕ) (d : ℕ × ℕ) → suc k < length es → (get_or es k d).0 < (get_or es (suc k) d).0)
     → T (is_sorted nat_cmp es)

@@ -30,6 +30,7 @@ behind {A} f (Some m) rest h = by_test (bytes_eq m.0 magic) h
     by_test true k = ap f (sym (same k))
     by_test false k = absurd (nothing k)
 
+-- for `gets_listed`: by what reading the entries returns
 gets : (count : ℕ) (result : Result (Vec (ℕ × ℕ)) ReadError) (old after new : List ℕ)
     → listed.read old ≡ read_many entry_field.read count after
     → GetsManyBy entry_field.read count result after new → Gets (λ v. v.items) listed result old new

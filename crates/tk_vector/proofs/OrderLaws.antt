@@ -20,16 +20,19 @@ use Rattle.tk_vector.specs.Join.{IsJoin, JoinLaws}
 use Rattle.tk_vector.proofs.VersionVectorLaws.{raised_above, raised_within}
 use Rattle.tk_handle.proofs.TestLaws.{equal_of}
 
+-- an entry is at most itself
 at_most_itself : (o : Option ℕ) → AtMost o o
 at_most_itself None = tt
 at_most_itself (Some n) = omega arith
 
+-- an entry is at most another if it is at most one that is at most the other
 at_most_trans : (o p q : Option ℕ) → AtMost o p → AtMost p q → AtMost o q
 at_most_trans None p q h k = tt
 at_most_trans (Some n) None q h k = absurd h
 at_most_trans (Some n) (Some m) None h k = absurd k
 at_most_trans (Some n) (Some m) (Some l) h k = omega arith
 
+-- entries that are at most each other are equal
 at_most_both : (o p : Option ℕ) → AtMost o p → AtMost p o → o ≡ p
 at_most_both None None h k = refl
 at_most_both None (Some m) h k = absurd k
@@ -49,6 +52,7 @@ pub below_antisymmetric : (v w : Vector) → Below v w → Below w v → v ≡ w
 below_antisymmetric v w h k = map.same_map nat_cmp_total map.nat_cmp-IsAntisymmetric v w
     (λ r. at_most_both (map.get v r) (map.get w r) (h r) (k r))
 
+-- regions that compare as equal are equal
 tied : (q r : ℕ) → eq_by_cmp nat_cmp q r ≡ true → q ≡ r
 tied q r h = map.nat_cmp-IsAntisymmetric q r (equal_of (nat_cmp q r) h)
 
@@ -65,10 +69,12 @@ by_region P v r n q here there =
 
 -- ---- raising an entry
 
+-- an entry below a number is at most the number
 entry_low : (o : Option ℕ) (n : ℕ) → unwrap_or o 0 < n → AtMost o (Some n)
 entry_low None n h = tt
 entry_low (Some m) n h = omega arith
 
+-- a number above 0 that an entry reaches is at most the entry
 entry_high : (o : Option ℕ) (n : ℕ) → 0 < n → n ≤ unwrap_or o 0 → AtMost (Some n) o
 entry_high None n some h = absurd (omega arith)
 entry_high (Some m) n some h = h
@@ -185,13 +191,16 @@ module _ (es : List (ℕ × ℕ)) (W : Vector) (seen : (q : ℕ) → map.get W q
 
 -- ---- the least vector above two
 
+-- a vector with one entry raised to a serial
 abbrev topped : Vector → ℕ → ℕ → Vector
 topped v r n = map.insert v r (max n (entry v r))
 
+-- a vector with each entry of a list raised
 abbrev pub with_entries : Vector → List (ℕ × ℕ) → Vector
 with_entries v [] = v
 with_entries v (e ∷ es) = topped (with_entries v es) e.0 e.1
 
+-- a vector is below itself with one entry topped up
 topped_keeps : (v : Vector) (r n : ℕ) → Below v (topped v r n)
 topped_keeps v r n q = by_region (AtMost (map.get v q)) v r (max n (entry v r)) q
     (λ same. subst (λ (k : ℕ). AtMost (map.get v q) (Some (max n (entry v k)))) same
@@ -201,12 +210,14 @@ topped_keeps v r n q = by_region (AtMost (map.get v q)) v r (max n (entry v r)) 
     own None = tt
     own (Some m) = omega arith
 
+-- a vector with one entry topped up has at least the number there
 topped_has : (v : Vector) (r n : ℕ) → AtMost (Some n) (map.get (topped v r n) r)
 topped_has v r n = subst (AtMost (Some n))
     (sym (map.get-insert nat_cmp_total v r (max n (entry v r)) r
     ∙ ap (λ o. cond (is_eq o) (Some (max n (entry v r))) (map.get v r))
     (tied_itself nat_cmp_total r))) (omega arith)
 
+-- a vector with one entry topped up is below each one above it that has the number
 topped_below : (v w : Vector) (r n : ℕ) → Below v w → AtMost (Some n) (map.get w r)
     → Below (topped v r n) w
 topped_below v w r n low high q = by_region (λ o. AtMost o (map.get w q)) v r (max n (entry v r)) q
@@ -219,11 +230,13 @@ topped_below v w r n low high q = by_region (λ o. AtMost o (map.get w q)) v r (
     two None (Some m) h k = omega arith
     two (Some l) (Some m) h k = omega arith
 
+-- a vector is below itself with some more entries
 with_keeps : (v : Vector) (es : List (ℕ × ℕ)) → Below v (with_entries v es)
 with_keeps v [] = below_itself v
 with_keeps v (e ∷ es) = below_trans v (with_entries v es) (topped (with_entries v es) e.0 e.1)
     (with_keeps v es) (topped_keeps (with_entries v es) e.0 e.1)
 
+-- a vector with some more entries has at least each of them
 with_has : (v : Vector) (es : List (ℕ × ℕ)) (q : ℕ)
     → AtMost (map.find nat_cmp q es) (map.get (with_entries v es) q)
 with_has v [] q = tt
@@ -238,6 +251,7 @@ with_has v (e ∷ es) q = elim (cases_Bool (eq_by_cmp nat_cmp q e.0)) [
       (topped_keeps (with_entries v es) e.0 e.1 q))
 ]
 
+-- a vector with some more entries is below each one above it that has the entries
 with_below : (v w : Vector) (es : List (ℕ × ℕ)) → Below v w → AllAtMost es (length es) w
     → Below (with_entries v es) w
 with_below v w [] low all = low
@@ -285,12 +299,15 @@ join_of v w =
 
 module _ (es : List (ℕ × ℕ)) (W : Vector) (sorted : T (map.is_sorted nat_cmp es))
     (seen : map.from_sorted es ≡ W) where
+  -- the entries of the vector are the sorted list
   kept_entries : map.entries W ≡ es
   kept_entries = ap map.entries (sym seen) ∙ map.entries-from_sorted nat_cmp es sorted
 
+  -- the vector has at a region what is found in the list
   seen_at : (q : ℕ) → map.get W q ≡ map.find nat_cmp q es
   seen_at q = map.get-entries W q ∙ ap (map.find nat_cmp q) kept_entries
 
+  -- the vector has each entry of the list
   found_at : (k : ℕ) (d : ℕ × ℕ) → k < length es
       → map.get W (get_or es k d).0 ≡ Some (get_or es k d).1
   found_at k d lt = seen_at (get_or es k d).0 ∙ found_there es sorted k d lt

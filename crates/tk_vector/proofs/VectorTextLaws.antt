@@ -14,9 +14,11 @@ use Rattle.tk_handle.specs.DotText.{colon, dot_text, IsNoDotText}
 use Rattle.tk_handle.proofs.DotTextLaws.{colon_parts, parted_injective}
 use Rattle.tk_vector.specs.VectorText.{is_comma, AreNoDots, IsRising}
 
+-- a number that is less by the test is less
 lt_from_test : (a b : ℕ) → true ≡ nat_lt a b → a < b
 lt_from_test a b h = grind (arith, nat_tests)
 
+-- a number that is less is not found to be no less
 test_from_lt : (a b : ℕ) → a < b → ¬ (false ≡ nat_lt a b)
 test_from_lt a b lt h = grind (arith, nat_tests)
 
@@ -43,6 +45,7 @@ pub rising : (dots : List Dot) (answer : Bool) → Answers dots answer → answe
 rising dots true h e = λ k d lt. lt_from_test _ _ (h k d lt)
 rising dots false h e = absurd (cc)
 
+-- dots that the answer finds not to rise don't rise
 not_rising : (dots : List Dot) (answer : Bool) → Answers dots answer → answer ≡ false
     → ¬ (IsRising dots)
 not_rising dots true h e up = cc

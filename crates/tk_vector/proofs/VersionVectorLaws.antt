@@ -12,7 +12,7 @@ use Rattle.std.proofs.lemmas.Bool.Decides.{nat_tests}
 use Rattle.tk_vector.specs.VersionVector.{Vector, entry, raised, lowered}
 
 -- two numbers compare as equal exactly if they are equal
-number_tied : (a b : ℕ) → is_eq (nat_cmp a b) ≡ (a == b)
+pub number_tied : (a b : ℕ) → is_eq (nat_cmp a b) ≡ (a == b)
 number_tied a b = grind (arith, nat_tests)
 
 -- raising an entry that is lower sets it
@@ -63,6 +63,7 @@ entry_insert v r n q = ap (λ o. unwrap_or o 0) (map.get-insert nat_cmp_total v 
     inside true t e o = rw (← e) refl
     inside false t e o = rw (← e) refl
 
+-- the entries after a removal
 entry_remove : (v : Vector) (r q : ℕ) → entry (map.remove v r) q ≡ (if q == r then 0 else entry v q)
 entry_remove v r q = ap (λ o. unwrap_or o 0) (map.get-remove nat_cmp_total v r q)
     ∙ inside (eq_by_cmp nat_cmp q r) (q == r) (number_tied q r) (map.get v q)

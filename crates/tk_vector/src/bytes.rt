@@ -1,9 +1,9 @@
 //! The bytes of a version vector.
 
 ghost use Rattle.std.specs.Prelude.{◌≡◌, ◌≢◌, ◌++◌, T, length, IfOk, IsErrOf, OnOk};
+ghost use Rattle.std.specs.FinMap as map;
 ghost use Rattle.std.specs.List.{AllByRecursion, flat_map};
 ghost use Rattle.std.specs.Ordering.{nat_cmp};
-ghost use Rattle.std.specs.FinMap as map;
 ghost use Rattle.tk_format.specs.Reading.{Gets, GetsAll, GetsManyBy, Reads};
 ghost use Rattle.tk_vector.specs.VectorBytes.{entry_field, listed, vector, vector_bytes};
 ghost use Rattle.tk_vector.specs.VersionVector.{Vector};

@@ -13,8 +13,8 @@ pub struct VersionVector {
 impl Model for VersionVector {
     ghost use Rattle.std.specs.Prelude.{ℕ, T};
     ghost use Rattle.std.specs.Coded.{coded_ℕ};
-    ghost use Rattle.std.specs.Ordering.{nat_cmp};
     ghost use Rattle.std.specs.FinMap as map;
+    ghost use Rattle.std.specs.Ordering.{nat_cmp};
 
     ghost Value = { map.FinMap nat_cmp ℕ };
 
@@ -27,8 +27,8 @@ impl Model for VersionVector {
 
 ghost use Rattle.std.specs.Prelude.{◌≡◌, ℕ, ◌≤◌, ◌↔◌, T, IsTrue, length, ⊤, IfOk, OnOk, OnErr};
 ghost use Rattle.std.specs.Prelude.{MatchResult};
-ghost use Rattle.std.specs.Ordering.{nat_cmp};
 ghost use Rattle.std.specs.FinMap as map;
+ghost use Rattle.std.specs.Ordering.{nat_cmp};
 ghost use Rattle.tk_handle.specs.Ranges.{greatest_serial};
 ghost use Rattle.tk_handle.specs.SortedEntries.{IsAt, IsGap};
 ghost use Rattle.tk_vector.specs.Join.{JoinLaws};
@@ -105,8 +105,8 @@ impl VersionVector {
         Ok(())
     }
 
-    /// Lowers the region's entry to `serial`, if the entry is greater. A 0 removes the entry. Takes
-    /// no memory.
+    /// Lowers the region's entry to `serial`, if the entry is greater. `serial` is at most
+    /// 9,223,372,036,854,775,807; a 0 removes the entry. Takes no memory.
     pub fn lower(&mut self, region: RegionNumber, serial: u64)
         requires { serial ≤ greatest_serial }
         ensures { self.new ≡ lowered self.old region serial }

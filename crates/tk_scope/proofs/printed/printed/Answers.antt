@@ -20,9 +20,11 @@ use Rattle.tk_scope.proofs.printed.printed.Goals as goal
 abbrev Token : Type 0
 Token = Bor (List ℕ)
 
+-- two tokens have the same text
 abbrev same_token : Token → Token → Bool
 same_token a b = bytes_eq a.now b.now
 
+-- the texts of tokens
 abbrev texts_of : List Token → List (List ℕ)
 texts_of = map (λ t. t.now)
 
