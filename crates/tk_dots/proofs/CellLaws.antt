@@ -1,7 +1,7 @@
 -- A write at one place of one page is a write at one dot. Key results:
 --   seen_put, seen_same, seen_taken        the map after the write
 --   paged_new, paged_over, paged_less ..   the number of values after the write
-use Rattle.std.proofs.Common.{◌≡◌, ◌≢◌, ℕ, ◌+◌, ◌%◌, ◌-◌, ◌≤◌, ◌==◌, ◌&&◌, Bool}
+use Rattle.std.proofs.Common.{◌≡◌, ℕ, ◌+◌, ◌%◌, ◌-◌, ◌≤◌, ◌==◌, ◌&&◌, Bool}
 use Rattle.std.proofs.Common.{true, false, cond, Option, Some, None, is_some}
 use Rattle.std.proofs.Common.{option_map, refl, sym, ap, ◌∙◌, inl, inr, arith}
 use Rattle.std.proofs.Common.{eqb-true as nat_same}
@@ -9,19 +9,20 @@ use Rattle.std.proofs.lemmas.Bool.{cases_Bool, cond-true, cond-false, cases_lt, 
 use Rattle.std.proofs.lemmas.Bool.{false_from_ne_true, and_from as and_true}
 use Rattle.std.proofs.lemmas.Bool.Decides.{nat_tests}
 use Rattle.std.specs.Ordering.{eq_by_cmp}
-use Rattle.std.specs.BTreeMap.{get}
 use Rattle.std.specs.FinMap as map
 use Rattle.tk_handle.specs.declared.dot.Dot.{Dot}
 use Rattle.tk_handle.specs.Dot.{dot_cmp, dot_cmp_total, dot_cmp-IsAntisymmetric}
 use mathlib.Core.Bool.{false≢true}
 use Rattle.tk_dots.specs.Pages.{span, page_of, Pages, cell, cell_at, seen, IsPages}
 use Rattle.tk_dots.specs.Pages.{IsPaged}
-use Rattle.tk_dots.proofs.PlaceLaws.{tied, tied_same, same_place, get_seen}
+use Rattle.tk_dots.proofs.PlaceLaws.{tied_same, same_place, get_seen}
+use Rattle.tk_handle.proofs.TestLaws.{tied}
 
 -- equal numbers are equal by the test
 pub nat_is : (a b : ℕ) → a ≡ b → (a == b) ≡ true
 nat_is a b h = grind (arith, nat_tests)
 
+-- two dots are equal exactly if their pages and their places on the pages are
 same_test : (q d : Dot)
     → (eq_by_cmp dot_cmp (page_of q) (page_of d) && ((q.serial % span) == (d.serial % span)))
     ≡ eq_by_cmp dot_cmp q d
@@ -43,6 +44,7 @@ same_test q d = elim (cases_Bool (eq_by_cmp dot_cmp q d)) [
 ]
 
 module _ {X : Type 0} where
+  -- a value set where one is, and nowhere else, replaces what is there
   set_here : (o : Option X) (x : X) → cond (is_some o) (Some x) None ≡ option_map (λ _. x) o
   set_here None x = refl
   set_here (Some y) x = refl
@@ -54,6 +56,7 @@ module _ {X : Type 0} where
     Written o =
         (k : Dot) (j : ℕ) → cell N k j ≡ cond (eq_by_cmp dot_cmp k k0 && (j == i)) o (cell P k j)
 
+    -- a write at one place of one page is one at the dot of that place
     written_at : (o : Option X) → Written o → (q : Dot)
         → cell_at N q ≡ cond (eq_by_cmp dot_cmp q d) o (cell_at P q)
     written_at o h q =
@@ -65,6 +68,7 @@ module _ {X : Type 0} where
         (cell_at P q)) place
         ∙ ap (λ (b : Bool). cond b o (cell_at P q)) (same_test q d)
 
+    -- the value at the place of a dot is that of the map
     at_seen : (q : Dot) → cell_at P q ≡ map.get F q
     at_seen q = sym (get_seen P q) ∙ ap (λ (m : map.FinMap dot_cmp X). map.get m q) is
 
@@ -73,6 +77,7 @@ module _ {X : Type 0} where
     get_here =
         ap (λ (k : Dot). cell P k i) page ∙ ap (λ (n : ℕ). cell P (page_of d) n) place ∙ at_seen d
 
+    -- after the write the map has the new value at that dot, and the old ones at the others
     get_written : (o : Option X) → Written o → (q : Dot)
         → map.get (seen N.entries) q ≡ cond (eq_by_cmp dot_cmp q d) o (map.get F q)
     get_written o h q =
@@ -108,9 +113,11 @@ module _ {X : Type 0} where
     -- ---- the number of values
 
     module _ (len : ℕ) (counted : len ≡ map.len (seen P.entries)) where
+      -- the count is the number of values in the map
       counted_here : len ≡ map.len F
       counted_here = counted ∙ ap map.len is
 
+      -- a value is at the place exactly if the map has one at the dot
       held : (b : Bool) → is_some (cell P k0 i) ≡ b → is_some (map.get F d) ≡ b
       held b e = ap is_some (sym get_here) ∙ e
 

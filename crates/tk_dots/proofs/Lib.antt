@@ -1,6 +1,7 @@
 pub mod PlaceLaws
 pub mod CellLaws
 pub mod OrderLaws
+pub mod NextLaws
 pub mod PageLaws
 pub mod RunLaws
 pub mod RunAddLaws

@@ -13,12 +13,13 @@ use Rattle.std.specs.FinSet as set
 use Rattle.tk_handle.specs.declared.dot.Dot.{Dot}
 use Rattle.tk_handle.specs.Dot.{dot_cmp, dot_cmp_total, dot_cmp-IsAntisymmetric}
 use mathlib.Core.Bool.{false≢true}
-use Rattle.tk_dots.specs.Marks.{MarkedMap, with_marks, marked, AreApart, without_value, value_of}
+use Rattle.tk_dots.specs.Marks.{MarkedMap, with_marks, marked, AreApart, value_of}
 use Rattle.tk_dots.specs.Runs.{DotSet}
-use Rattle.tk_dots.proofs.PlaceLaws.{tied}
+use Rattle.tk_handle.proofs.TestLaws.{tied}
 use Rattle.tk_handle.proofs.TestLaws.{some_none}
 use Rattle.std.proofs.lemmas.Option.{none-some as none_is}
 
+-- two tests in a row that choose the same value are one test, of either
 cond_or : {A : Type 0} (a b : Bool) (x y : A) → cond a x (cond b x y) ≡ cond (a || b) x y
 cond_or true b x y = refl
 cond_or false b x y = refl
@@ -28,6 +29,7 @@ module _ {X : Type 0} where
   abbrev pub no_value : Option X
   no_value = None
 
+  -- a map with marks at dots has a mark at each of them, and its own values elsewhere
   get_marks : (m : MarkedMap X) (ds : List Dot) (q : Dot)
       → map.get (with_marks m ds) q
       ≡ cond (list_any (eq_by_cmp dot_cmp q) ds) (Some None) (map.get m q)
@@ -80,10 +82,6 @@ module _ {X : Type 0} where
       | inr off ↦ off
     ]
 
-    -- a free dot is on no page
-    pub free_page : (q : Dot) → map.get F q ≡ None → map.get m q ≡ None
-    free_page q free = sym (at_page q (free_run q free)) ∙ free
-
     -- what is on a page is at the dot, since no run has it
     pub page_is : AreApart m s → (q : Dot) (o : Option X) → map.get m q ≡ Some o
         → map.get F q ≡ Some o
@@ -113,6 +111,7 @@ module _ {X : Type 0} where
 
     module _ (n : MarkedMap X) (d : Dot) (x : Option X) (free : map.get F d ≡ None)
         (put : n ≡ map.insert m d x) where
+      -- a value put at a dot is there, and the other dots are as before
       get_put : (q : Dot) → map.get n q ≡ cond (eq_by_cmp dot_cmp q d) (Some x) (map.get m q)
       get_put q = ap (λ (y : MarkedMap X). map.get y q) put ∙ map.get-insert dot_cmp_total m d x q
 
@@ -144,25 +143,10 @@ module _ {X : Type 0} where
     -- ---- a mark is put
 
     module _ (t : DotSet) (d : Dot) (add : t ≡ set.insert s d) where
+      -- what the runs have with one mark more
       has_added : (q : Dot) → set.contains t q ≡ (eq_by_cmp dot_cmp q d || set.contains s q)
       has_added q =
           ap (λ (y : DotSet). set.contains y q) add ∙ set.contains-insert dot_cmp_total s d q
-
-      -- the map with one more mark in its run
-      pub mark_marked : marked m t ≡ map.insert F d None
-      mark_marked = same_marked m t (map.insert F d None) (λ q.
-          ap (λ (b : Bool). cond b (Some None) (map.get m q)) (has_added q)
-          ∙ sym (cond_or (eq_by_cmp dot_cmp q d) (set.contains s q) (Some None) (map.get m q))
-          ∙ ap (cond (eq_by_cmp dot_cmp q d) (Some None)) (sym (at q))
-          ∙ sym (map.get-insert dot_cmp_total F d None q))
-
-      -- pages and runs stay apart with one more mark
-      pub mark_apart : map.get m d ≡ None → AreApart m s → AreApart m t
-      mark_apart free apart q on = elim (cases_Bool (eq_by_cmp dot_cmp q d)) [
-        | inl same ↦ ap (map.get m) (tied q d same) ∙ free
-        | inr other ↦
-            apart q (sym (has_added q ∙ ap (λ (b : Bool). b || set.contains s q) other) ∙ on)
-      ]
 
     -- ---- a mark takes the place of what is at a dot
 
@@ -197,18 +181,10 @@ module _ {X : Type 0} where
                 ∙ sym (at q) ∙ sym (cond-false _ _ _ apart)
           ]
 
-      -- pages and runs stay apart if a value takes the place of another
-      pub over_apart : AreApart m s → AreApart n s
-      over_apart apart q on = set' q ∙ none_over (eq_by_cmp dot_cmp q d) (apart q on)
-        where
-          none_over : (b : Bool) → map.get m q ≡ None
-              → cond b (option_map (λ _. no_value) (map.get m q)) (map.get m q) ≡ None
-          none_over true none = ap (option_map (λ _. no_value)) none
-          none_over false none = none
-
       -- in the runs, and on no page
       module _ (k : MarkedMap X) (t : DotSet) (add : t ≡ set.insert s d)
           (gone : k ≡ map.remove n d) where
+        -- what the pages have without the value
         get_gone : (q : Dot) → map.get k q ≡ cond (eq_by_cmp dot_cmp q d) None (map.get m q)
         get_gone q =
             ap (λ (y : MarkedMap X). map.get y q) gone ∙ map.get-remove dot_cmp_total n d q
@@ -248,6 +224,7 @@ module _ {X : Type 0} where
     -- a mark is moved from its page to the runs
     module _ (k : MarkedMap X) (t : DotSet) (d : Dot) (here : map.get m d ≡ Some no_value)
         (add : t ≡ set.insert s d) (gone : k ≡ map.remove m d) where
+      -- a mark that is put once more at its dot changes nothing
       itself : (q : Dot)
           → map.get m q
           ≡ cond (eq_by_cmp dot_cmp q d) (option_map (λ _. no_value) (map.get m q)) (map.get m q)
@@ -330,10 +307,3 @@ module _ {X : Type 0} where
           none_taken : (b : Bool) → map.get m q ≡ None → cond b None (map.get m q) ≡ None
           none_taken true none = refl
           none_taken false none = none
-
-  -- without a value nothing is taken
-  pub not_taken : (F : MarkedMap X) (d : Dot) (o : Option (Option X)) → is_some (value_of o) ≡ false
-      → (None ≡ value_of o) × (F ≡ without_value F d o)
-  not_taken F d None h = (refl, refl)
-  not_taken F d (Some None) h = (refl, refl)
-  not_taken F d (Some (Some x)) h = absurd (false≢true (sym h))

@@ -21,10 +21,12 @@ use Rattle.tk_dots.proofs.MarkLaws.{at_page, at_run, page_is, value_on}
 
 -- ---- walks
 
+-- a dot that isn't below another isn't below one that is lower than that
 below_both : (q a d : Dot) → is_lt (dot_cmp a d) ≡ true → is_lt (dot_cmp q d) ≡ false
     → is_lt (dot_cmp q a) ≡ false
 below_both q a d h i = grind (arith, nat_tests)
 
+-- a dot that isn't below a second, which isn't below a third, isn't below the third
 above_both : (q a d : Dot) → is_lt (dot_cmp a d) ≡ false → is_lt (dot_cmp q a) ≡ false
     → is_lt (dot_cmp q d) ≡ false
 above_both q a d h i = grind (arith, nat_tests)
@@ -38,9 +40,11 @@ module _ {X : Type 0} (m : MarkedMap X) (s : DotSet) (F : MarkedMap X) (is : mar
     | inr off ↦ inr (subst IsSome (at_page m s F is q off) h)
   ]
 
+  -- a dot that is on no page and in no run is free
   free_at : (q : Dot) → set.contains s q ≡ false → map.get m q ≡ None → map.get F q ≡ None
   free_at q off none = at_page m s F is q off ∙ none
 
+  -- the next dot in the runs, if no page has a lower one, is the next dot, with a mark
   near_mark : (after : Option Dot) (a : Dot) → IsNextIn s after (Some a)
       → ((q : Dot) → IsAbove after q → IsSome (map.get m q) → is_lt (dot_cmp q a) ≡ false)
       → IsNext F after (Some (a, None))
@@ -51,6 +55,7 @@ module _ {X : Type 0} (m : MarkedMap X) (s : DotSet) (F : MarkedMap X) (is : mar
         elim (known_at q some) [ inl on ↦ next.2 q up on | inr here ↦ pages q up here ];
   }
 
+  -- the next value on a page, if no run has a lower dot, is the next
   near_place : (after : Option Dot) (p : Dot × Option X) → IsNext m after (Some p)
       → ((q : Dot) → IsAbove after q → set.contains s q ≡ true → is_lt (dot_cmp q p.0) ≡ false)
       → IsNext F after (Some p)

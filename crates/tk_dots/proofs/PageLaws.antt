@@ -14,9 +14,11 @@ use Rattle.tk_handle.specs.Dot.{dot_cmp}
 use Rattle.tk_handle.specs.Ranges.{greatest_serial}
 use mathlib.Core.Bool.{false≢true}
 use Rattle.tk_dots.specs.Pages.{span, Slots, Pages, slot_in, cell, EndsFull, IsPage, IsPages}
-use Rattle.tk_dots.proofs.PlaceLaws.{tied, tied_same}
+use Rattle.tk_dots.proofs.PlaceLaws.{tied_same}
+use Rattle.tk_handle.proofs.TestLaws.{tied}
 use Rattle.tk_dots.proofs.CellLaws.{nat_is}
 
+-- two dots that differ do so whichever is first
 turned : (k q : Dot) → is_at (dot_cmp k) q ≡ false → eq_by_cmp dot_cmp q k ≡ false
 turned k q off = elim (cases_Bool (eq_by_cmp dot_cmp q k)) [
   | inl same ↦ absurd (false≢true (sym off ∙ tied_same k q (sym (tied q k same))))
@@ -58,6 +60,7 @@ cells_kept {X} m n k0 w updates same k j = elim (cases_Bool (is_at (dot_cmp k0) 
   | inr apart ↦ ap (λ (p : Option (Slots X)). slot_in p j) (updates k ∙ cond-false _ _ _ apart)
 ]
 
+-- a test that failed fails again
 cond_twice : {A : Type 0} (b : Bool) (x y z : A) → cond b x (cond b y z) ≡ cond b x z
 cond_twice true x y z = refl
 cond_twice false x y z = refl
@@ -74,16 +77,6 @@ taken_out m l n k0 w there gone q = gone q ∙ ap (cond (is_at (dot_cmp k0) q) N
 pub same_lookups : {X : Type 0} (m n : Pages X) → n.entries ≡ m.entries → (q : Dot)
     → get dot_cmp n q ≡ get dot_cmp m q
 same_lookups {X} m n e q = ap (λ (es : List (Dot × Slots X)). lookup (is_at (dot_cmp q)) es) e
-
--- what follows from success holds after success
-pub on_ok : {A E : Type 0} (r : Result A E) (P Q : Type 0) → OnOk r P → (P → Q) → OnOk r Q
-on_ok (Ok a) P Q h f = f h
-on_ok (Err e) P Q h f = tt
-
--- what follows from an error holds after an error
-pub on_err : {A E : Type 0} (r : Result A E) (P Q : Type 0) → OnErr r P → (P → Q) → OnErr r Q
-on_err (Ok a) P Q h f = tt
-on_err (Err e) P Q h f = f h
 
 -- what follows from success and from an error holds
 pub on_both : {A E : Type 0} (r : Result A E) (P Q S R : Type 0) → OnOk r P → OnOk r Q → OnErr r S

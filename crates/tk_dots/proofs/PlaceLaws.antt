@@ -1,36 +1,34 @@
 -- A dot is known by its page and its place there. Key results:
 --   get_seen    the value at a dot, in the map that pages hold, is the value at its place
 --   same_place  two dots with one page and one place are equal
-use Rattle.std.proofs.Common.{◌≡◌, ◌≢◌, ℕ, zero, suc, ◌+◌, ◌*◌, ◌/◌, ◌%◌, ◌-◌, ◌<◌, ◌≤◌}
+--   cases_dots  two dots are equal or not
+use Rattle.std.proofs.Common.{◌≡◌, ◌≢◌, ℕ, zero, suc, ◌+◌, ◌*◌, ◌/◌, ◌%◌, ◌<◌, ◌≤◌}
 use Rattle.std.proofs.Common.{Bool, true, false, cond, List, [], ◌∷◌, Option, Some, None}
-use Rattle.std.proofs.Common.{refl, sym, ap, subst, ◌∙◌, inl, inr, arith, get_or}
+use Rattle.std.proofs.Common.{refl, sym, ap, subst, ◌∙◌, ◌⊎◌, inl, inr, arith, get_or}
 use Rattle.std.proofs.lemmas.Bool.{cases_Bool, cond-true, cond-false}
 use Rattle.std.specs.Ordering.{eq_by_cmp, is_eq}
 use Rattle.std.specs.FinMap as map
 use Rattle.std.specs.Map.{lookup}
-use Rattle.std.specs.BTreeMap.{is_at, get}
+use Rattle.std.specs.BTreeMap.{is_at}
 use Rattle.std.proofs.lemmas.Cmp.{tied_itself}
 use Rattle.tk_handle.specs.declared.dot.Dot.{Dot}
-use Rattle.tk_handle.specs.Dot.{dot_cmp, dot_cmp_total, dot_cmp-IsAntisymmetric}
-use Rattle.std.specs.declared.cmp.Ordering.{Ordering}
-use Rattle.std.specs.declared.cmp.Ordering.TheVariants.{Less, Equal, Greater}
+use Rattle.tk_handle.specs.Dot.{dot_cmp, dot_cmp_total}
+use Rattle.tk_handle.proofs.TestLaws.{tied}
 use mathlib.Core.Bool.{false≢true}
 use Rattle.tk_dots.specs.Pages.{span, page_of, Slots, Pages, slot_in, cell_at, with_slot}
 use Rattle.tk_dots.specs.Pages.{with_places, with_page, seen}
-
--- dots that compare as equal are equal
-pub tied : (q d : Dot) → eq_by_cmp dot_cmp q d ≡ true → q ≡ d
-tied q d h = dot_cmp-IsAntisymmetric q d (equal_of (dot_cmp q d) h)
-  where
-    equal_of : (o : Ordering) → is_eq o ≡ true → o ≡ Equal
-    equal_of Less e = absurd (false≢true e)
-    equal_of Equal e = refl
-    equal_of Greater e = absurd (false≢true e)
 
 -- equal dots tie
 pub tied_same : (q d : Dot) → q ≡ d → eq_by_cmp dot_cmp q d ≡ true
 tied_same q d e =
     subst (λ (x : Dot). eq_by_cmp dot_cmp q x ≡ true) e (ap is_eq (tied_itself dot_cmp_total q))
+
+-- two dots are equal or not
+pub cases_dots : (a b : Dot) → (a ≡ b) ⊎ (a ≢ b)
+cases_dots a b = elim (cases_Bool (eq_by_cmp dot_cmp a b)) [
+  | inl same ↦ inl (tied a b same)
+  | inr apart ↦ inr (λ is. false≢true (sym apart ∙ tied_same a b is))
+]
 
 -- dots of one region and serial are equal
 pub dot_is : (q d : Dot) → q.region ≡ d.region → q.serial ≡ d.serial → q ≡ d
@@ -43,6 +41,7 @@ same_place q d pages places =
     dot_is q d (ap (λ (x : Dot). x.region) pages) (omega arith)
 
 module _ {X : Type 0} where
+  -- the value at a dot, once a value or none was put at a dot
   get_slot : (m : map.FinMap dot_cmp X) (d : Dot) (o : Option X) (q : Dot)
       → map.get (with_slot m d o) q ≡ cond (eq_by_cmp dot_cmp q d) o (map.get m q)
   get_slot m d None q = map.get-remove dot_cmp_total m d q
@@ -86,6 +85,7 @@ module _ {X : Type 0} where
         | inr apart ↦ cond-false _ _ _ apart ∙ other_places r p os n m q (omega arith) off
       ]
 
+  -- the value at a dot, once a page was put over the others
   get_page : (r s : ℕ) (os : List (Option X)) (m : map.FinMap dot_cmp X) (q : Dot)
       → map.get (with_page r s os m) q
       ≡ cond (eq_by_cmp dot_cmp (page_of q) (record { region = r; serial = s }))
@@ -116,11 +116,13 @@ module _ {X : Type 0} where
             ∙ sym (cond-false _ _ _ apart)
       ]
 
+  -- the cell of one page or another is a cell of the one or the other
   cond_slot : (b : Bool) (v : Slots X) (o : Option (Slots X)) (i : ℕ)
       → cond b (get_or v.items i None) (slot_in o i) ≡ slot_in (cond b (Some v) o) i
   cond_slot true v o i = refl
   cond_slot false v o i = refl
 
+  -- the value at a dot, in the map that a list of pages holds
   get_entries : (es : List (Dot × Slots X)) (q : Dot)
       → map.get (seen es) q ≡ slot_in (lookup (is_at (dot_cmp (page_of q))) es) (q.serial % span)
   get_entries [] q = map.get-empty dot_cmp q

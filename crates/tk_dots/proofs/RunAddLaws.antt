@@ -1,7 +1,7 @@
 -- One dot more in the runs. Key results:
 --   added        the set has that dot too
 --   added_runs   no two runs touch
-use Rattle.std.proofs.Common.{◌≡◌, ◌≢◌, ℕ, ◌+◌, ◌-◌, ◌<◌, ◌≤◌, true, false, Some, refl, sym, ap}
+use Rattle.std.proofs.Common.{◌≡◌, ◌≢◌, ℕ, ◌+◌, ◌<◌, ◌≤◌, Some, refl, sym, ap}
 use Rattle.std.proofs.Common.{subst, ◌∙◌, inl, inr, ◌⊎◌, arith}
 use Rattle.std.proofs.lemmas.Bool.{cases_Bool, cases_lt, cases_eq, cond-true, cond-false, or_cases}
 use Rattle.std.proofs.lemmas.Bool.{or_left, or_right, false_from_ne_true}
@@ -14,22 +14,26 @@ use Rattle.tk_handle.specs.Ranges.{greatest_serial}
 use mathlib.Core.Bool.{false≢true}
 use Rattle.tk_dots.specs.Runs.{Runs, dot_of, run_set, IsCovered, IsRuns, IsEndAbove, IsStart}
 use Rattle.tk_dots.specs.Runs.{Joined}
-use Rattle.tk_dots.proofs.PlaceLaws.{tied, tied_same, dot_is}
+use Rattle.tk_dots.proofs.PlaceLaws.{tied_same, dot_is}
+use Rattle.tk_handle.proofs.TestLaws.{tied}
 use Rattle.tk_dots.proofs.RunLaws.{covers, has_dot, covered_is}
 use Rattle.std.proofs.lemmas.Option.{same_Some as some_same, none-some as none_is}
 
 module _ (m n : Runs) (runs : IsRuns m) (d : Dot) (s end : ℕ) (free : IsCovered m d → ⊥)
     (low : IsStart m d s) (high : IsEndAbove m d end)
     (updates : Joined m d s end n) where
+  -- the joined run starts at the dot or below
   start_low : s ≤ d.serial
   start_low = elim low [ inl x ↦ (let e = x.0 in omega (arith, e)) | inr x ↦ x.3 ]
 
+  -- the joined run ends at the dot or above
   end_high : d.serial ≤ end
   end_high = elim high [
     | inl x ↦ (let e = x.0 in omega (arith, e))
     | inr x ↦ (let e = x.0 in omega (arith, e))
   ]
 
+  -- the runs have the joined run at its start
   at_start : get dot_cmp n (dot_of d.region s) ≡ Some end
   at_start =
       updates (dot_of d.region s)

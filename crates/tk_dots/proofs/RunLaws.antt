@@ -1,7 +1,6 @@
 -- The set of the dots of runs. Key results:
 --   covers, has_dot         a dot is in the set exactly if a run has it
 --   below_free, below_has   what the run below a dot says of it
---   stretch_is              how far dots follow one another
 use Rattle.std.proofs.Common.{◌≡◌, ◌≢◌, ℕ, zero, suc, ◌+◌, ◌-◌, ◌<◌, ◌≤◌, ◌==◌, ◌||◌, Bool, true}
 use Rattle.std.proofs.Common.{false, nat_le, List, [], ◌∷◌, Some, None, IsSome, is_some, refl, sym}
 use Rattle.std.proofs.Common.{ap, subst, ◌∙◌, inl, inr, ◌⊎◌, arith}
@@ -23,8 +22,9 @@ use Rattle.tk_handle.specs.Dot.{dot_cmp, dot_cmp_total, dot_cmp-IsAntisymmetric}
 use Rattle.tk_handle.specs.Ranges.{greatest_serial}
 use mathlib.Core.Bool.{false≢true}
 use Rattle.tk_dots.specs.Runs.{Runs, DotSet, dot_of, with_run, run_set, IsCovered, IsRuns}
-use Rattle.tk_dots.specs.Runs.{IsRunBelow, IsEndAbove, IsStartAt, IsStretch}
-use Rattle.tk_dots.proofs.PlaceLaws.{tied, tied_same, dot_is}
+use Rattle.tk_dots.specs.Runs.{IsRunBelow, IsEndAbove}
+use Rattle.tk_dots.proofs.PlaceLaws.{tied_same, dot_is}
+use Rattle.tk_handle.proofs.TestLaws.{tied}
 use Rattle.std.proofs.lemmas.Option.{none-some as none_is, same_Some as some_same}
 
 -- numbers that the test finds equal are equal
@@ -37,6 +37,7 @@ nat_apart x y a b e f h = grind (arith, nat_tests)
 
 -- ---- the dots of one run
 
+-- a dot in a set with a run added is in the run, or was in the set
 within_run : (r first n : ℕ) (s : DotSet) (q : Dot) → set.contains (with_run r first n s) q ≡ true
     → ((q.region ≡ r) × (first ≤ q.serial) × (q.serial < first + n)) ⊎ (set.contains s q ≡ true)
 unfolding with_run
@@ -58,6 +59,7 @@ within_run r first (suc n) s q h = elim (or_cases (eq_by_cmp dot_cmp q (dot_of r
       ]
     ]
 
+-- a set with a run added has the dots that it had
 run_keeps : (r first n : ℕ) (s : DotSet) (q : Dot) → set.contains s q ≡ true
     → set.contains (with_run r first n s) q ≡ true
 unfolding with_run
@@ -66,6 +68,7 @@ run_keeps r first (suc n) s q h = set.contains-insert dot_cmp_total (with_run r 
     (dot_of r (first + n)) q
     ∙ or_right _ _ (run_keeps r first n s q h)
 
+-- a set with a run added has the dots of the run
 run_has : (r first n : ℕ) (s : DotSet) (q : Dot) → q.region ≡ r → first ≤ q.serial
     → q.serial < first + n → set.contains (with_run r first n s) q ≡ true
 unfolding with_run
@@ -81,6 +84,7 @@ run_has r first (suc n) s q region low high =
 
 -- ---- the dots of all runs
 
+-- a dot in the set of some of a map's runs is covered by the map
 covered_in : (m : Runs) (es : List (Dot × ℕ)) → All (λ e. get dot_cmp m e.0 ≡ Some e.1) es
     → (q : Dot) → set.contains (run_set es) q ≡ true → IsCovered m q
 covered_in m [] all q h = absurd (false≢true (sym (set.contains-empty dot_cmp q) ∙ h))
@@ -100,6 +104,7 @@ covered_in m (e ∷ es) all q h =
       | inr more ↦ covered_in m es (All-tail (λ e. get dot_cmp m e.0 ≡ Some e.1) e es all) q more
     ]
 
+-- a set of the dots of runs has each dot of a run that is found among them
 has_in : (es : List (Dot × ℕ)) (k : Dot) (last : ℕ) → lookup (is_at (dot_cmp k)) es ≡ Some last
     → (q : Dot) → q.region ≡ k.region → k.serial ≤ q.serial → q.serial ≤ last
     → set.contains (run_set es) q ≡ true
@@ -283,86 +288,3 @@ module _ (m : Runs) (runs : IsRuns m) (d : Dot) where
   pub none_test : IsRunBelow m d None → false ≡ set.contains (run_set m.entries) d
   none_test none =
       covered_is m runs.ordered d false (λ h. absurd (false≢true h)) (λ _. none_below none)
-
-  -- what the run below leaves between itself and the dot
-  pub below_gap : (p : Dot × ℕ) → IsRunBelow m d (Some p) → p.1 + 1 ≢ d.serial → (k last : ℕ)
-      → k ≤ d.serial → get dot_cmp m (dot_of d.region k) ≡ Some last → last + 1 ≢ d.serial
-  below_gap p below other k last le at = elim (cases_lt k p.0.serial) [
-    | inl lt ↦
-        let gap : last + 1 < p.0.serial = runs.apart d.region k p.0.serial last p.1 at below.2 lt in
-        let low = below.1 in
-        (λ e. absurd (omega (arith, gap, low, e)))
-    | inr ge ↦
-        let most : k ≤ p.0.serial = below.3 k last le at in
-        let same : p.0.serial ≡ k = omega (arith, ge, most) in
-        let end : p.1 ≡ last =
-        some_same p.1 last (sym below.2 ∙ ap (λ n. get dot_cmp m (dot_of d.region n)) same ∙ at) in
-        (λ e. other (ap (λ (n : ℕ). n + 1) end ∙ e))
-  ]
-
-  -- where the run of a new dot begins
-  pub start_none : IsRunBelow m d None → 0 < d.serial → IsStartAt m d (Some d)
-  start_none none some =
-      (none_below none, refl, inl (refl, λ k last le at. absurd (none k last le at)), some)
-
-  -- the run that ends before a dot is the one that the dot goes on
-  pub start_below : (p : Dot × ℕ) → IsRunBelow m d (Some p) → p.1 + 1 ≡ d.serial
-      → IsStartAt m d (Some p.0)
-  start_below p below e = (
-    below_free p below (omega (arith, e)),
-    below.0,
-    inr (p.1, below.2, e, below.1),
-    runs.some (dot_of d.region p.0.serial) p.1 below.2,
-  )
-
-  -- a dot whose run below ends earlier begins a run of its own
-  pub start_here : (p : Dot × ℕ) → IsRunBelow m d (Some p) → p.1 < d.serial → p.1 + 1 ≢ d.serial
-      → 0 < d.serial → IsStartAt m d (Some d)
-  start_here p below early apart some =
-      (below_free p below early, refl, inl (refl, below_gap p below apart), some)
-
-  -- the dots from one on that follow one another end with its run
-  pub stretch_is : (p : Dot × ℕ) → IsRunBelow m d (Some p) → d.serial ≤ p.1
-      → IsStretch (run_set m.entries) d (Some p.1)
-  stretch_is p below late = (
-    late,
-    λ n from to.
-        has_dot m (dot_of d.region n)
-        (record {
-          first = p.0.serial;
-          has = record {
-            last = p.1;
-            here = below.2;
-            low = (let low = below.1 in omega (arith, low, from));
-            high = to;
-          };
-        }),
-    false_from_ne_true _ (λ h. ends (covers m runs.ordered (dot_of d.region (p.1 + 1)) h)),
-  )
-    where
-      ends : IsCovered m (dot_of d.region (p.1 + 1)) → ⊥
-      ends x = elim (cases_lt p.0.serial x.first) [
-        | inl lt ↦
-            let gap : p.1 + 1 < x.first =
-            runs.apart d.region p.0.serial x.first p.1 x.has.last below.2 x.has.here lt in
-            let low = x.has.low in
-            absurd (omega (arith, gap, low))
-        | inr ge ↦ elim (cases_lt x.first p.0.serial) [
-          | inl less ↦
-              let gap : x.has.last + 1 < p.0.serial =
-              runs.apart d.region x.first p.0.serial x.has.last p.1 x.has.here below.2 less in
-              let high = x.has.high in
-              let low = below.1 in
-              absurd (omega (arith, gap, high, low, late))
-          | inr more ↦
-              let same : p.0.serial ≡ x.first = omega (arith, ge, more) in
-              let end : p.1 ≡ x.has.last = some_same p.1 x.has.last
-              (sym below.2 ∙ ap (λ n. get dot_cmp m (dot_of d.region n)) same ∙ x.has.here) in
-              let high = x.has.high in
-              absurd (omega (arith, end, high))
-        ]
-      ]
-
-  -- a dot in no run is in no stretch
-  pub stretch_none : (IsCovered m d → ⊥) → IsStretch (run_set m.entries) d None
-  stretch_none free = false_from_ne_true _ (λ h. free (covers m runs.ordered d h))

@@ -1,15 +1,15 @@
 -- Walks over the dots of runs. Key results:
 --   next_right, next_first   the least dot above a dot
 --   last_in, last_none       the greatest serial of a region
-use Rattle.std.proofs.Common.{◌≡◌, ◌≢◌, ℕ, ◌+◌, ◌<◌, ◌≤◌, true, false, slice_get, IfSome, List}
-use Rattle.std.proofs.Common.{[], ◌∷◌, Option, Some, None, IsSome, is_some, refl, sym, ap, subst}
+use Rattle.std.proofs.Common.{◌≡◌, ℕ, ◌+◌, ◌<◌, ◌≤◌, true, false, slice_get, IfSome, List}
+use Rattle.std.proofs.Common.{◌∷◌, Option, Some, None, IsSome, is_some, refl, sym, ap, subst}
 use Rattle.std.proofs.Common.{◌∙◌, inl, inr, arith}
 use Rattle.std.proofs.lemmas.Bool.{cases_Bool, cases_lt, false_from_ne_true}
 use Rattle.std.proofs.lemmas.Bool.Decides.{nat_tests}
 use Rattle.std.specs.Ordering.{is_lt}
 use Rattle.std.specs.BTreeMap.{get}
 use Rattle.std.specs.BTreeMap.Range.{IsLeBy, IsRangeOf, IsEntryInRange}
-use Rattle.std.specs.declared.ops.Bound.TheVariants.{Excluded, Unbounded}
+use Rattle.std.specs.declared.ops.Bound.TheVariants.{Unbounded}
 use Rattle.std.specs.FinSet as set
 use Rattle.tk_handle.specs.declared.dot.Dot.{Dot}
 use Rattle.tk_handle.specs.Dot.{dot_cmp}
@@ -20,7 +20,7 @@ use Rattle.tk_dots.specs.Runs.{IsRightAbove, IsNextIn, IsLastIn}
 use Rattle.tk_dots.proofs.OrderLaws.{le_not_lt}
 use Rattle.tk_dots.proofs.PlaceLaws.{dot_is}
 use Rattle.tk_dots.proofs.RunLaws.{covers, has_dot}
-use Rattle.tk_handle.proofs.TestLaws.{not_none as none_some, less as is_less}
+use Rattle.tk_handle.proofs.TestLaws.{not_none as none_some}
 use Rattle.std.proofs.lemmas.Option.{same_Some as some_same}
 
 -- a dot that is not below another, where a third is not above it, is not below that either
@@ -29,9 +29,11 @@ not_lower : (q k f : Dot) → k.region ≡ q.region → k.serial ≤ q.serial �
 not_lower q k f region le h = grind (arith, nat_tests)
 
 module _ (m : Runs) (runs : IsRuns m) where
+  -- the dots of the runs
   abbrev S : DotSet
   S = run_set m.entries
 
+  -- the first dot of a run is in the set
   first_in : (f : Dot) → IsSome (get dot_cmp m f) → set.contains S f ≡ true
   first_in f some = by_value (get dot_cmp m f) refl some
     where
@@ -48,6 +50,7 @@ module _ (m : Runs) (runs : IsRuns m) where
             };
           })
 
+  -- the run that covers a dot is there at its first dot
   begins : (q : Dot) (x : IsCovered m q) → IsSome (get dot_cmp m (dot_of q.region x.first))
   begins q x = ap is_some x.has.here
 
@@ -136,10 +139,12 @@ module _ (m : Runs) (runs : IsRuns m) where
 
   module _ (r : ℕ) (first last : Dot) (lo : first ≡ dot_of r 1)
       (hi : last ≡ dot_of r greatest_serial) where
+    -- a dot between the least and the greatest of a region is of that region
     region_of : (e : Dot) → IsLeBy dot_cmp (dot_of r 1) e
         → IsLeBy dot_cmp e (dot_of r greatest_serial) → e.region ≡ r
     region_of e low high = grind (arith, nat_tests)
 
+    -- a serial in range gives a dot between the least and the greatest of the region
     within : (n : ℕ) → 0 < n → n ≤ greatest_serial
         → IsLeBy dot_cmp first (dot_of r n) × IsLeBy dot_cmp (dot_of r n) last
     within n some high = (
@@ -224,23 +229,6 @@ module _ (m : Runs) (runs : IsRuns m) where
           (ap is_some x.has.here)));
     }
 
--- the first key of a range above a dot
-pub first_excluded : (m : Runs) (a : Dot) (part rest : List (Dot × ℕ)) (k : Dot) (v : ℕ)
-    → IsRangeOf dot_cmp (Excluded a) Unbounded m part → part ≡ (k, v) ∷ rest
-    → IsFirstAbove m (Some a) (Some k)
-first_excluded m a part rest k v range steps =
-    let there : IfSome (slice_get ((k, v) ∷ rest) 0)
-    (IsEntryInRange dot_cmp (Excluded a) Unbounded m) =
-    subst (λ (l : List (Dot × ℕ)).
-    IfSome (slice_get l 0) (IsEntryInRange dot_cmp (Excluded a) Unbounded m)) steps range.1 in (
-      ap is_lt there.0.0,
-      ap is_some there.1,
-      λ q above held.
-          le_not_lt k q
-          (subst (λ (l : List (Dot × ℕ)). IfSome (slice_get l 0) (λ e. IsLeBy dot_cmp e.0 q)) steps
-          (range.2 q (is_less (dot_cmp a q) above, tt) held)),
-    )
-
 -- the first run is the first of all
 pub first_all : (m : Runs) (part rest : List (Dot × ℕ)) (k : Dot) (v : ℕ)
     → IsRangeOf dot_cmp Unbounded Unbounded m part → part ≡ (k, v) ∷ rest
@@ -257,13 +245,3 @@ first_all m part rest k v range steps =
           (subst (λ (l : List (Dot × ℕ)). IfSome (slice_get l 0) (λ e. IsLeBy dot_cmp e.0 q)) steps
           (range.2 q (tt, tt) held)),
     )
-
--- no run is above a dot if the range above it is empty
-pub first_excluded_none : (m : Runs) (a : Dot) (part : List (Dot × ℕ))
-    → IsRangeOf dot_cmp (Excluded a) Unbounded m part → part ≡ [] → IsFirstAbove m (Some a) None
-first_excluded_none m a part range none k above = range.5 none k (is_less (dot_cmp a k) above, tt)
-
--- there is no first run if the whole range is empty
-pub first_all_none : (m : Runs) (part : List (Dot × ℕ))
-    → IsRangeOf dot_cmp Unbounded Unbounded m part → part ≡ [] → IsFirstAbove m None None
-first_all_none m part range none k above = range.5 none k (tt, tt)

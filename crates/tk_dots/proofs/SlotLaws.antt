@@ -1,5 +1,5 @@
 -- The places of one page after a write.
-use Rattle.std.proofs.Common.{◌≡◌, ◌≢◌, ℕ, ◌+◌, ◌-◌, ◌==◌, true, false, cond}
+use Rattle.std.proofs.Common.{◌≡◌, ◌≢◌, ℕ, ◌==◌, cond}
 use Rattle.std.proofs.Common.{length, List, [], ◌∷◌, ◌++◌, Option, Some, None}
 use Rattle.std.proofs.Common.{refl, sym, ◌∙◌, inl, inr, arith, get_or, zero, suc}
 use Rattle.std.proofs.Common.{length-append, eqb-true as nat_same}

@@ -11,7 +11,6 @@
 --   IsRightAbove         the dot right above a dot, if it is in a set
 --   IsNextIn             the least dot of a set above a dot
 --   IsLastIn             the greatest serial of a region in a set
---   IsStretch            how far the dots of a set follow one another from a dot on
 use Rattle.std.specs.Prelude.{◌≡◌, ◌≢◌, ◌⊎◌, ℕ, zero, suc, ◌+◌, ◌-◌, ◌<◌, ◌≤◌, true, false}
 use Rattle.std.specs.Prelude.{List, []}
 use Rattle.std.specs.Prelude.{◌∷◌, Option, Some, None, IsSome, if◌then◌else◌}
@@ -132,11 +131,3 @@ IsNextIn s after (Some d) =
 pub record IsLastIn (s : DotSet) (region serial : ℕ) : Type 0 where
   pub there : 0 < serial → set.contains s (dot_of region serial) ≡ true
   pub greatest : (n : ℕ) → set.contains s (dot_of region n) ≡ true → n ≤ serial
-
--- the dots from d to the serial are in the set, and the one behind is not; or d is not
-abbrev pub IsStretch : DotSet → Dot → Option ℕ → Type 0
-IsStretch s d None = set.contains s d ≡ false
-IsStretch s d (Some end) =
-    (d.serial ≤ end)
-    × ((n : ℕ) → d.serial ≤ n → n ≤ end → set.contains s (dot_of d.region n) ≡ true)
-    × (set.contains s (dot_of d.region (end + 1)) ≡ false)

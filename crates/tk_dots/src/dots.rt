@@ -16,8 +16,8 @@ pub struct DotMap<V> {
 
 impl<V> Model for DotMap<V> {
     ghost use Rattle.std.specs.FinMap as map;
-    ghost use Rattle.tk_dots.specs.Pages.{seen, IsPaged};
     ghost use Rattle.tk_handle.specs.Dot.{coded_dot, dot_cmp};
+    ghost use Rattle.tk_dots.specs.Pages.{seen, IsPaged};
 
     ghost Value = { map.FinMap dot_cmp V };
 
@@ -32,10 +32,10 @@ ghost use Rattle.std.specs.Prelude.{◌≡◌, ◌≤◌, OnOk, OnErr, IsSome, i
 ghost use Rattle.std.specs.Prelude.{option_map, is_some};
 ghost use Rattle.std.specs.FinMap as maps;
 ghost use Rattle.std.specs.Ordering.{eq_by_cmp};
-ghost use Rattle.tk_dots.specs.Pages.{IsNext, IsLast};
-ghost use Rattle.tk_handle.specs.declared.dot.Dot.{Dot as the_dot};
 ghost use Rattle.tk_handle.specs.Dot.{dot_cmp};
 ghost use Rattle.tk_handle.specs.Ranges.{greatest_serial};
+ghost use Rattle.tk_handle.specs.declared.dot.Dot.{Dot as the_dot};
+ghost use Rattle.tk_dots.specs.Pages.{IsNext, IsLast};
 
 use crate::pages::{first_of_pages, get_in, put_in, rest_of_page, set_in, take_in};
 use crate::place::{SPAN, page_of, place_of};
@@ -154,8 +154,7 @@ impl<V> DotMap<V> {
         ensures last { IsLast self.now region result }
         ensures high { result ≤ greatest_serial }
     {
-        let (Some(first), Some(last)) = (Dot::new(region, 1), Dot::new(region, Serial::GREATEST))
-        else {
+        let (Some(first), Some(last)) = (Dot::new(region, 1), Dot::new(region, Serial::MAX)) else {
             unreachable!("both serials are in range")
         };
         match self

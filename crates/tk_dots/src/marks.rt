@@ -24,8 +24,8 @@ pub struct MarkMap<V> {
 impl<V> Model for MarkMap<V> {
     ghost use Rattle.std.specs.Coded.{coded_option};
     ghost use Rattle.std.specs.FinMap as map;
-    ghost use Rattle.tk_dots.specs.Marks.{MarkedMap, marked, AreApart};
     ghost use Rattle.tk_handle.specs.Dot.{coded_dot};
+    ghost use Rattle.tk_dots.specs.Marks.{MarkedMap, marked, AreApart};
 
     ghost Value = { MarkedMap V };
 
@@ -39,6 +39,8 @@ impl<V> Model for MarkMap<V> {
 ghost use Rattle.std.specs.Prelude.{◌≡◌, ◌≤◌, OnOk, OnErr, IsSome, Some, None, option_copied};
 ghost use Rattle.std.specs.Prelude.{option_map, is_some, true};
 ghost use Rattle.std.specs.FinMap as maps;
+ghost use Rattle.tk_handle.specs.Ranges.{greatest_serial};
+ghost use Rattle.tk_handle.specs.declared.dot.Dot.{Dot as the_dot};
 ghost use Rattle.tk_dots.specs.Marks.{
   marked,
   without_value,
@@ -47,10 +49,8 @@ ghost use Rattle.tk_dots.specs.Marks.{
   IsMarkBelow,
   Passes,
 };
-ghost use Rattle.tk_dots.specs.Runs.{IsNextIn};
 ghost use Rattle.tk_dots.specs.Pages.{IsNext, IsLast};
-ghost use Rattle.tk_handle.specs.declared.dot.Dot.{Dot as the_dot};
-ghost use Rattle.tk_handle.specs.Ranges.{greatest_serial};
+ghost use Rattle.tk_dots.specs.Runs.{IsNextIn};
 
 use crate::place::SPAN;
 use std::alloc::{AllocError, Global};
@@ -149,7 +149,7 @@ impl<V> MarkMap<V> {
         }
     }
 
-    /// Puts a value at a dot that is free.
+    /// Puts a value at a dot that is free: [`MarkMap::get`] tells.
     ///
     /// Fails if memory runs out; the map is unchanged then. Fails too at 2^64 - 1 values.
     pub fn put(&mut self, dot: Dot, value: V) -> Result<(), AllocError>
@@ -162,7 +162,7 @@ impl<V> MarkMap<V> {
         self.pages.put(dot, Some(value))
     }
 
-    /// Puts a mark at a dot that is free.
+    /// Puts a mark at a dot that is free: [`MarkMap::get`] tells.
     ///
     /// Fails if memory runs out; the map is unchanged then.
     pub fn mark(&mut self, dot: Dot) -> Result<(), AllocError>
@@ -177,8 +177,8 @@ impl<V> MarkMap<V> {
         Ok(())
     }
 
-    /// Puts a mark in place of what is at a dot that is not free. Can't fail: if memory runs out,
-    /// the marks of the page stay there.
+    /// Puts a mark in place of what is at a dot that is not free: [`MarkMap::get`] tells. Can't
+    /// fail: if memory runs out, the marks of the page stay there.
     pub fn skip(&mut self, dot: Dot)
     where
         V: Drop,

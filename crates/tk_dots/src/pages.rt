@@ -5,11 +5,11 @@ ghost use Rattle.std.specs.Prelude.{is_some, if◌then◌else◌, option_copied,
 ghost use Rattle.std.specs.Prelude.{IfOk};
 ghost use Rattle.std.specs.BTreeMap.{get};
 ghost use Rattle.std.specs.Ordering.{eq_by_cmp};
-ghost use Rattle.tk_dots.specs.Pages.{cell, page_of, span, FirstIn, FirstOn, FirstOfPages, IsPage};
-ghost use Rattle.tk_dots.specs.Pages.{IsPages};
-ghost use Rattle.tk_handle.specs.declared.dot.Dot.{Dot as the_dot};
 ghost use Rattle.tk_handle.specs.Dot.{dot_cmp};
 ghost use Rattle.tk_handle.specs.Ranges.{greatest_serial};
+ghost use Rattle.tk_handle.specs.declared.dot.Dot.{Dot as the_dot};
+ghost use Rattle.tk_dots.specs.Pages.{cell, page_of, span, FirstIn, FirstOn, FirstOfPages, IsPage};
+ghost use Rattle.tk_dots.specs.Pages.{IsPages};
 
 use crate::place::{dot_at, page_of as page_at, place_of};
 use crate::slots::{first_from, one, put, set, slot, take};

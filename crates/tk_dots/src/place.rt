@@ -1,8 +1,8 @@
 //! The page of a dot, and the place of a dot on its page.
 
 ghost use Rattle.std.specs.Prelude.{◌≡◌, ◌≤◌, ◌<◌, ◌+◌, ◌-◌, ◌*◌, ◌%◌};
-ghost use Rattle.tk_dots.specs.Pages.{dot_in, page_of, span};
 ghost use Rattle.tk_handle.specs.Ranges.{greatest_serial};
+ghost use Rattle.tk_dots.specs.Pages.{dot_in, page_of, span};
 
 use tk_handle::Dot;
 

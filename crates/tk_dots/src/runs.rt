@@ -21,8 +21,8 @@ pub struct DotRuns {
 
 impl Model for DotRuns {
     ghost use Rattle.std.specs.FinSet as set;
-    ghost use Rattle.tk_dots.specs.Runs.{DotSet, IsRuns, run_set};
     ghost use Rattle.tk_handle.specs.Dot.{coded_dot};
+    ghost use Rattle.tk_dots.specs.Runs.{DotSet, IsRuns, run_set};
 
     ghost Value = { DotSet };
 
@@ -34,8 +34,11 @@ impl Model for DotRuns {
 }
 
 ghost use Rattle.std.specs.Prelude.{◌≡◌, ◌≤◌, OnOk, OnErr, true};
-ghost use Rattle.std.specs.FinSet as sets;
 ghost use Rattle.std.specs.BTreeMap.{IsOrdered};
+ghost use Rattle.std.specs.FinSet as sets;
+ghost use Rattle.tk_handle.specs.Dot.{dot_cmp};
+ghost use Rattle.tk_handle.specs.Ranges.{greatest_serial};
+ghost use Rattle.tk_handle.specs.declared.dot.Dot.{Dot as the_dot};
 ghost use Rattle.tk_dots.specs.Runs.{
   IsEndAbove,
   IsFirstAbove,
@@ -45,12 +48,8 @@ ghost use Rattle.tk_dots.specs.Runs.{
   IsRunBelow,
   IsRuns,
   IsStartAt,
-  IsStretch,
   Joined,
 };
-ghost use Rattle.tk_handle.specs.Dot.{dot_cmp};
-ghost use Rattle.tk_handle.specs.declared.dot.Dot.{Dot as the_dot};
-ghost use Rattle.tk_handle.specs.Ranges.{greatest_serial};
 
 use std::alloc::{AllocError, Global};
 use std::ops::Bound;
@@ -213,8 +212,7 @@ impl DotRuns {
         ensures last { IsLastIn self.now region result }
         ensures high { result ≤ greatest_serial }
     {
-        let (Some(first), Some(last)) = (Dot::new(region, 1), Dot::new(region, Serial::GREATEST))
-        else {
+        let (Some(first), Some(last)) = (Dot::new(region, 1), Dot::new(region, Serial::MAX)) else {
             unreachable!("both serials are in range")
         };
         match self
@@ -224,23 +222,6 @@ impl DotRuns {
         {
             Some((_, end)) => *end,
             None => 0,
-        }
-    }
-
-    /// Returns the last serial up to which the dots from this one on follow one another in the set,
-    /// or `None` if this one is not in it. Costs a look-up among the runs.
-    pub fn stretch(&self, dot: Dot) -> Option<u64>
-        ensures { IsStretch self.now dot result }
-    {
-        match run_below(&self.runs, dot) {
-            Some((_, last)) => {
-                if dot.serial() <= last {
-                    Some(last)
-                } else {
-                    None
-                }
-            }
-            None => None,
         }
     }
 

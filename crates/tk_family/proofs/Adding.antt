@@ -1,4 +1,7 @@
--- One more link, and the dots that it brings under a code (`IsPath-adds`).
+-- One more link, and the dots that it brings under a code. Key results:
+--   Within-adds         links are within those with one more link
+--   IsPath-adds         a dot that comes under a code was under that code before, or is brought
+--   alone, below_under  the new link is under itself; what hangs below it is under its code
 use Rattle.std.proofs.Common.{◌≡◌, ◌≢◌, ◌⊎◌, inl, inr, Bool, true, None, Some, List, [], ◌∷◌, ap}
 use Rattle.std.proofs.Common.{sym, ◌∙◌}
 use Rattle.tk_family.proofs.DotLaws.{cases_dots}

@@ -37,10 +37,12 @@ pub row_with : (o : Option Row) (k : Link) → link_in o ≡ Some k → RowAt o
 row_with None k h = absurd (let clash : None ≡ Some k = h in cc)
 row_with (Some r) k h = record { row = r; is = refl }
 
+-- a dot with a path to a code has a row
 row_on : (M : Rows) (q : Dot) (ps : List Dot) (c : Dot) → IsPath (links_of M) q ps c → RowAt (M q)
 row_on M q [] c m = row_with (M q) Code (ap (links_of M) m.0 ∙ m.1)
 row_on M q (p ∷ ps) c m = row_with (M q) m.0.0.link m.0.0.here
 
+-- a dot under a code has a row
 row_under : (M : Rows) (q c : Dot) → IsUnder (links_of M) q c → RowAt (M q)
 row_under M q c u = row_on M q u.path c u.leads
 

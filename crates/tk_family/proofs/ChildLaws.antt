@@ -4,7 +4,7 @@
 --   users-has, has-users                 the span has exactly the children that use the token
 --   users-distinct                       each once
 --   first_listed, none_listed            the first of them
-use Rattle.std.proofs.Common.{◌≡◌, ◌≢◌, ◌⊎◌, inl, inr, Bool, true, false, cond, ◌&&◌, not, List, []}
+use Rattle.std.proofs.Common.{◌≡◌, ◌≢◌, ◌⊎◌, inl, inr, Bool, true, false, cond, not, List, []}
 use Rattle.std.proofs.Common.{◌∷◌, Option, Some, None, length, take, map, filter, refl, sym, ap}
 use Rattle.std.proofs.Common.{subst, ◌∙◌}
 use Rattle.std.proofs.lemmas.Bool.{true≢false, cases_Bool, cond-true, cond-false, or_cases, or_left}
@@ -19,8 +19,7 @@ use Rattle.std.specs.Cmp.{IsTotalOrder, nat_cmp_total}
 use Rattle.std.specs.List.{IsDistinct, AllByRecursion, list_any}
 use Rattle.std.specs.List.Sorted.{IsStrictlySortedBy}
 use Rattle.std.specs.Ordering.{nat_cmp, eq_by_cmp, ordering_then, is_eq, is_lt, is_le}
-use Rattle.std.specs.declared.cmp.Ordering.{Ordering}
-use Rattle.std.specs.declared.cmp.Ordering.TheVariants.{Less, Equal, Greater}
+use Rattle.std.specs.declared.cmp.Ordering.TheVariants.{Less, Equal}
 use Rattle.std.specs.declared.ops.Bound.TheVariants.{Included}
 use Rattle.tk_handle.specs.declared.dot.Dot.{Dot}
 use Rattle.tk_handle.specs.declared.kind.Kind.TheVariants as kind
@@ -35,19 +34,17 @@ use Rattle.tk_family.specs.Children.{first_user, token_at, IsSame, TakesUser, Pr
 use Rattle.tk_family.specs.Dots.{dot_eq, has}
 use Rattle.tk_family.proofs.DotLaws.{dot_eq-true, dot_eq-same, has-cons, has-here, has-there}
 use Rattle.tk_family.proofs.Viewing.{exact_tokens}
+pub use Rattle.tk_family.proofs.Viewing.{both_tied}
 use Rattle.tk_handle.proofs.TestLaws.{equal_of}
 
 -- ---- entries
 
+-- the order of entries is total
 children_total : IsTotalOrder child_cmp
 children_total = then_total (on_total (λ k. k.parent) dot_cmp_total)
     (then_total (on_total (λ k. k.kind) nat_cmp_total) (on_total (λ k. k.child) dot_cmp_total))
 
-both_tied : (r s : Ordering) → is_eq (ordering_then r s) ≡ (is_eq r && is_eq s)
-both_tied Less s = refl
-both_tied Equal s = refl
-both_tied Greater s = refl
-
+-- entries with equal parts are equal
 child_by : (a b : Child) → a.parent ≡ b.parent → a.kind ≡ b.kind → a.child ≡ b.child → a ≡ b
 child_by a b h i j = λ x. record { parent = h x; kind = i x; child = j x }
 
@@ -64,6 +61,7 @@ tied_parts a b h =
     and_parts _ _ (sym (both_tied (nat_cmp a.kind b.kind) (dot_cmp a.child b.child)) ∙ p.1) in
     (p.0, q.0, q.1)
 
+-- entries that tie are equal
 child_same : (a b : Child) → eq_by_cmp child_cmp a b ≡ true → a ≡ b
 child_same a b h =
     let p = tied_parts a b h in
@@ -106,6 +104,7 @@ is_child-other t k c e ne =
 
 -- ---- the span of a token
 
+-- the entries of one token are in the order of their children
 child_order : (k : TokenId) (a b : Dot) → child_cmp (child_key k a) (child_key k b) ≡ dot_cmp a b
 child_order k a b =
     ap (λ o. ordering_then o
@@ -122,6 +121,7 @@ span_is s k a b first last =
     ∙ ap (λ (x : Child). keys_between child_cmp (Included (child_key k least_dot)) (Included x) s)
     last
 
+-- the span of a token has an entry, by the test of its two ends
 abbrev in_range : TokenId → Child → Bool
 in_range k e = range_contains child_cmp (Included (child_key k least_dot))
     (Included (child_key k greatest_dot)) e
@@ -157,6 +157,7 @@ of_token k e h =
 abbrev pub dots_of : List Child → List Dot
 dots_of cs = map (λ c. c.child) cs
 
+-- an entry is among others, by the order of entries
 abbrev among : Child → List Child → Bool
 among k ks = list_any (is_at (child_cmp k)) ks
 
@@ -174,6 +175,7 @@ from_dots (x ∷ xs) e h = elim (has-cons x.child (dots_of xs) e h) [
       (r.0, or_right (is_at (child_cmp r.0) x) (among r.0 xs) r.1, r.2)
 ]
 
+-- an entry that a filter keeps is in the list, and passes
 kept_parts : (c : Child → Bool) (k : Child) (ks : List Child) → among k (filter c ks) ≡ true
     → (among k ks ≡ true) × (c k ≡ true)
 kept_parts c k [] h = absurd (true≢false (sym h))
@@ -191,6 +193,7 @@ kept_parts c k (x ∷ xs) h = elim (cases_Bool (c x)) [
       (or_right (is_at (child_cmp k) x) (among k xs) r.0, r.1)
 ]
 
+-- an entry of the list that passes has its child among those of the entries that are kept
 kept_dot : (c : Child → Bool) (k : Child) (ks : List Child) → among k ks ≡ true → c k ≡ true
     → has (dots_of (filter c ks)) k.child ≡ true
 kept_dot c k [] at kept = absurd (true≢false (sym at))
@@ -229,6 +232,7 @@ has-users s k e h =
     ap (λ (y : Dot). others_in s k y) (sym r.2)
     ∙ (ap (λ (x : Child). among x s.keys) (sym (of_token k r.0 p.1)) ∙ p.0)
 
+-- an entry that is below all of a list is below each entry found there
 above_key : (x : Child) (xs : List Child) → AllByRecursion (λ y. child_cmp x y ≡ Less) xs
     → (k : Child) → among k xs ≡ true → child_cmp x k ≡ Less
 above_key x [] low k at = absurd (true≢false (sym at))
@@ -237,6 +241,7 @@ above_key x (y ∷ ys) low k at = elim (or_cases (is_at (child_cmp k) y) (among 
   | inr more ↦ above_key x ys low.1 k more
 ]
 
+-- a dot that no dot of a list equals differs from each of them, by the test
 fresh_all : (y : Dot) (ys : List Dot) → ((q : Dot) → has ys q ≡ true → y ≢ q)
     → AllByRecursion (λ z. dot_eq y z ≡ false) ys
 fresh_all y [] ne = tt
@@ -246,6 +251,7 @@ fresh_all y (z ∷ zs) ne = (
   fresh_all y zs (λ q h. ne q (has-there z zs q h)),
 )
 
+-- the children in the span of a token are distinct
 distinct_kept : (k : TokenId) (ks : List Child) → IsStrictlySortedBy child_cmp ks
     → IsDistinct dot_eq (dots_of (filter (in_range k) ks))
 unfolding IsStrictlySortedBy IsDistinct
@@ -276,12 +282,14 @@ users-distinct s k ordered = distinct_kept k s.keys ordered
 
 -- ---- the first child that uses a token
 
+-- the first user of some entries is among their children
 first_has : (cs : List Child) (e : Dot) → first_user cs ≡ Some e → has (dots_of cs) e ≡ true
 first_has [] e h = absurd (let clash : None ≡ Some e = h in cc)
 first_has (x ∷ xs) e h =
     let same : x.child ≡ e = cc in
     subst (λ (y : Dot). has (dots_of (x ∷ xs)) y ≡ true) same (has-here x.child (dots_of xs))
 
+-- entries without a first user have no children
 none_has : (cs : List Child) (e : Dot) → first_user cs ≡ None → has (dots_of cs) e ≡ false
 none_has [] e h = refl
 none_has (x ∷ xs) e h = absurd (let clash : Some x.child ≡ None = h in cc)

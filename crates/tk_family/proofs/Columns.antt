@@ -1,4 +1,9 @@
--- The steps of `put`, and what they leave of each column.
+-- The steps of `put`, and what they leave of each column. Key results:
+--   column, Alike-blank, Alike-same   rows are alike if each of their columns is
+--   IsForest-kept                     rows that differ in marks and counts alone stay a forest
+--   chain-some, chain-none            what the chain of a dot tells of its code
+--   NothingSeen-alike                 rows that are alike show the same links, marks and uses
+--   blank_there, present-blank        a blank row is there once it was put
 use Rattle.std.proofs.Common.{◌≡◌, ◌≢◌, ◌⊎◌, inl, inr, ℕ, ◌+◌, ◌<◌, ◌==◌, Bool, true, false, cond}
 use Rattle.std.proofs.Common.{Option, None, Some, List, [], ◌∷◌, ap, sym, ◌∙◌, refl, arith, subst}
 use Rattle.std.proofs.Common.{IsSome}
@@ -48,6 +53,7 @@ pub record Alike (T N : Rows) : Type 0 where
   pub used : (q : Dot) (k : Kind) → used_in (N q) k ≡ used_in (T q) k
   pub again : (q : Dot) (k : Kind) → again_in (N q) k ≡ again_in (T q) k
 
+-- a blank row in place of no row changes no mark and no use
 flag_blank : (k : Kind) (o : Option Row)
     → (marked_in (or_blank o) k ≡ marked_in o k) × (used_in (or_blank o) k ≡ used_in o k)
     × (again_in (or_blank o) k ≡ again_in o k)
@@ -56,6 +62,7 @@ flag_blank kind.Code None = (refl, refl, refl)
 flag_blank kind.Access None = (refl, refl, refl)
 flag_blank kind.Refresh None = (refl, refl, refl)
 
+-- a blank row in place of no row changes no link, code, count or first child
 same_blank : (o : Option Row)
     → (link_in (or_blank o) ≡ link_in o) × (code_in (or_blank o) ≡ code_in o)
     × (count_in (or_blank o) ≡ count_in o) × (first_in (or_blank o) ≡ first_in o)
@@ -123,18 +130,22 @@ Alike-back T N a = record {
 
 -- ---- a blank row is removed
 
+-- an option that is none by the test is None
 none_if : {X : Type 0} (o : Option X) → is_none o ≡ true → o ≡ None
 none_if None h = refl
 none_if (Some x) h = absurd (true≢false (sym h))
 
+-- uses that are never by the test are Never
 never_if : (u : Uses) → is_never u ≡ true → u ≡ Never
 never_if Never h = refl
 never_if Once h = absurd (true≢false (sym h))
 never_if Often h = absurd (true≢false (sym h))
 
+-- a number that is 0 by the test is 0
 zero_if : (n : ℕ) → (n == 0) ≡ true → n ≡ 0
 zero_if n h = grind (arith, nat_tests)
 
+-- a row that is blank by the test is the blank row
 blank_is : (row : Row) → is_blank row ≡ true → row ≡ blank
 blank_is row h =
     let a = and_parts _ _ h in
@@ -180,6 +191,7 @@ Alike-dropped T N at h rows = elim (blank_or (T at) h) [
 
 -- ---- rows that differ in marks and counts alone
 
+-- each row differs from the old one in its marks and counts alone
 pub record AlikeButMarks (T N : Rows) : Type 0 where
   pub link : (q : Dot) → link_in (N q) ≡ link_in (T q)
   pub code : (q : Dot) → code_in (N q) ≡ code_in (T q)
@@ -187,9 +199,11 @@ pub record AlikeButMarks (T N : Rows) : Type 0 where
   pub used : (q : Dot) (j : Kind) → used_in (N q) j ≡ used_in (T q) j
   pub again : (q : Dot) (j : Kind) → again_in (N q) j ≡ again_in (T q) j
 
+-- links are within links that are the same at each dot
 within_same : (f g : Links) → ((q : Dot) → g q ≡ f q) → LinksWithin f g
 within_same f g same d l h = same d ∙ h
 
+-- links that are the same at each dot as others are within these
 within_back : (f g : Links) → ((q : Dot) → g q ≡ f q) → LinksWithin g f
 within_back f g same d l h = sym (same d) ∙ h
 
@@ -241,7 +255,8 @@ IsPath-below f g d l a q (p ∷ ps) c m low =
     let less : rank_of (g p) < rank_of (g d) = omega arith in
     below_under f g d l a q p c ne m.0.0 (IsPath-below f g d l a p ps c (m.0.1, m.1) less)
 
-fits_over-some : (l : Link) (o : Option Link) → fits_over l o ≡ true
+-- a link that fits what is above, by the test, has a link above, and fits that
+pub fits_over-some : (l : Link) (o : Option Link) → fits_over l o ≡ true
     → (k : Link) × (o ≡ Some k) × (fits l k ≡ true)
 fits_over-some l None h = absurd (true≢false (sym h))
 fits_over-some l (Some k) h = (k, refl, h)
@@ -289,6 +304,7 @@ chain-some T g d l (Some p) c t a names h = elim (cases_Bool (fits_over l (link_
   | inr none ↦ absurd (let clash : None ≡ Some c = sym (cond-false _ _ _ none) ∙ h in cc)
 ]
 
+-- a link that fits the link above fits what is above, by the test
 some_over : (l k : Link) (o : Option Link) → o ≡ Some k → fits l k ≡ true → fits_over l o ≡ true
 some_over l k o at fit = ap (fits_over l) at ∙ fit
 
@@ -339,7 +355,8 @@ NothingSeen-alike T N t a = record {
   marks = λ k. a.marked k.dot k.kind;
 }
 
-blank_there : (o : Option Row) → IsSome (or_blank o)
+-- there is a row once a blank one was put in place of none
+pub blank_there : (o : Option Row) → IsSome (or_blank o)
 blank_there None = refl
 blank_there (Some r) = refl
 

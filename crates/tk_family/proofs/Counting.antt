@@ -217,6 +217,7 @@ IsCount-step f g at c false false n others before after x = (
 
 -- ---- bad dots
 
+-- rows with the same marks and the same repeated uses are equally bad under a link
 bad_at-same : (o : Option Link) (x y : Option Row) → ((k : Kind) → marked_in y k ≡ marked_in x k)
     → ((k : Kind) → again_in y k ≡ again_in x k) → bad_at o y ≡ bad_at o x
 bad_at-same None x y marked again = refl
@@ -273,12 +274,14 @@ IsCounted-same T N blamed count x c =
 
 -- ---- what a count says
 
+-- if a list is longer than 0, one of its dots is sent to c
 some_of : (f : Dot → Option Dot) (c : Dot) (n : ℕ) (list : List Dot) → n ≡ length list
     → nat_lt 0 n ≡ true → ((q : Dot) → has list q ≡ true → f q ≡ Some c)
     → (q : Dot) × (f q ≡ Some c)
 some_of f c n [] is h sound = absurd (true≢false (sym h ∙ ap (nat_lt 0) is))
 some_of f c n (x ∷ xs) is h sound = (x, sound x (has-here x xs))
 
+-- a list that has a dot is longer than 0
 long_if : (list : List Dot) (q : Dot) → has list q ≡ true → nat_lt 0 (length list) ≡ true
 long_if [] q h = absurd (true≢false (sym h))
 long_if (x ∷ xs) q h = lt-ltb 0 (length (x ∷ xs)) (omega arith)

@@ -1,7 +1,11 @@
--- Laws of dots and of lists of dots.
+-- Laws of dots and of lists of dots. Key results:
+--   dot_eq-true, dot_eq-same, dot_eq-apart   the test finds equal dots, and no others
+--   has-cons, has-append                     where a dot of a list is
+--   has-here, has-there, has-left, has-right the list that a dot is in
+--   IsDistinct-append                        two distinct lists without a common dot
 use Rattle.std.proofs.Common.{◌≡◌, ◌≢◌, ◌⊎◌, inl, inr, true, false, List, [], ◌∷◌, ◌++◌, ap, sym}
 use Rattle.std.proofs.Common.{◌∙◌, refl, append_assoc, append-nil}
-use Rattle.std.proofs.lemmas.Bool.{true≢false, cases_Bool, false_from_ne_true, or_cases, or_left}
+use Rattle.std.proofs.lemmas.Bool.{true≢false, false_from_ne_true, or_cases, or_left}
 use Rattle.std.proofs.lemmas.Bool.{or_right, or_from}
 use Rattle.std.proofs.lemmas.List.Folds.{list_any-append}
 use Rattle.std.proofs.lemmas.Map.Keys.{IsDistinct-head, IsDistinct-tail, IsDistinct-push}
@@ -10,6 +14,7 @@ use Rattle.std.specs.Cmp.{IsEquivalence, eq_by_cmp_equiv, Equal-is}
 use Rattle.tk_handle.specs.declared.dot.Dot.{Dot}
 use Rattle.tk_handle.specs.Dot.{dot_cmp, dot_cmp_total, dot_cmp-IsAntisymmetric}
 use Rattle.tk_family.specs.Dots.{dot_eq, has}
+pub use Rattle.tk_dots.proofs.PlaceLaws.{cases_dots}
 
 -- equality of dots is an equivalence
 pub dots_equiv : IsEquivalence dot_eq
@@ -24,17 +29,6 @@ dot_eq-true a b h = dot_cmp-IsAntisymmetric a b ((Equal-is (dot_cmp a b)).0 h)
 -- a dot equals itself by the test
 pub dot_eq-same : (a : Dot) → dot_eq a a ≡ true
 dot_eq-same a = dots_equiv.refl a
-
--- dots that the test finds different are different
-pub dot_eq-false : (a b : Dot) → dot_eq a b ≡ false → a ≢ b
-dot_eq-false a b h same = true≢false (sym (dot_eq-same a) ∙ (ap (dot_eq a) same ∙ h))
-
--- two dots are equal or not
-pub cases_dots : (a b : Dot) → (a ≡ b) ⊎ (a ≢ b)
-cases_dots a b = elim (cases_Bool (dot_eq a b)) [
-  | inl same ↦ inl (dot_eq-true a b same)
-  | inr apart ↦ inr (dot_eq-false a b apart)
-]
 
 -- the test finds different dots different
 pub dot_eq-apart : (a b : Dot) → a ≢ b → dot_eq a b ≡ false
@@ -75,6 +69,7 @@ pub list_none : (y : Dot) (ys : List Dot) → AllByRecursion (λ z. dot_eq y z �
 list_none y [] h = refl
 list_none y (z ∷ zs) h = or_from (dot_eq y z) (has zs y) h.0 (list_none y zs h.1)
 
+-- a list has each dot that equals its first
 has-cons-same : (x : Dot) (b : List Dot) (z : Dot) → x ≡ z → has (x ∷ b) z ≡ true
 has-cons-same x b z same = or_left (dot_eq z x) (has b z) (ap (dot_eq z) same ∙ dot_eq-same z)
 

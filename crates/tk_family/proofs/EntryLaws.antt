@@ -8,6 +8,7 @@ use Rattle.tk_family.specs.declared.row.Row.{Row}
 use Rattle.tk_family.specs.Dots.{dot_eq}
 use Rattle.tk_family.specs.Rows.{RowMap, table}
 
+-- looking a dot up in a list of entries finds what a map finds
 lookup_find : (es : List (Dot × Row)) (q : Dot) → lookup (dot_eq q) es ≡ map.find dot_cmp q es
 lookup_find [] q = refl
 lookup_find (e ∷ es) q = ap (cond (dot_eq q e.0) (Some e.1)) (lookup_find es q)

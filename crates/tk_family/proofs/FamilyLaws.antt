@@ -1,4 +1,9 @@
--- The laws of families, over links and marks: proofs of `specs/Laws.antt`.
+-- The laws of families, over links and marks: proofs of `specs/Laws.antt`. Key results:
+--   IsParent-one, IsUnder-one    a dot has one parent at most, and is under one code at most
+--   IsUnder-within               a dot stays under its code if there are more links
+--   IsTwice-within, IsBad-within what was used twice, or is bad, stays so
+--   IsDead-within                a dead family stays dead
+--   IsTrail-no_ring              no walk comes back to where it began
 use Rattle.std.proofs.Common.{◌≡◌, inl, inr, ◌+◌, true, Option, None, Some, List, [], ◌∷◌, length}
 use Rattle.std.proofs.Common.{ap, sym, ◌∙◌, refl, arith}
 use Rattle.tk_handle.specs.declared.dot.Dot.{Dot}

@@ -1,4 +1,7 @@
--- Lists of dots, of which those that pass a test are kept.
+-- Lists of dots, of which those that pass a test are kept. Key results:
+--   has-filter, filter-has       a filter keeps exactly the dots of the list that pass
+--   IsDistinct-filter            what a filter keeps of a distinct list is distinct
+--   filter-push                  what a filter keeps of a list with one more dot
 use Rattle.std.proofs.Common.{◌≡◌, ◌≢◌, inl, inr, ◌<◌, Bool, true, false, cond, List, [], ◌∷◌, ◌++◌}
 use Rattle.std.proofs.Common.{length, filter, ap, sym, ◌∙◌, refl, arith, subst, append_assoc}
 use Rattle.std.proofs.lemmas.Bool.{true≢false, cases_Bool, cond-true, cond-false}
@@ -79,6 +82,7 @@ IsDistinct-filter p (x ∷ xs) d =
           (sym (cond-false (p x) (x ∷ filter p xs) (filter p xs) left)) rest
     ]
 
+-- a dot put before one of two lists is put before each of them
 spread : (b : Bool) (x : Dot) (ys zs : List Dot) → x ∷ cond b ys zs ≡ cond b (x ∷ ys) (x ∷ zs)
 spread true x ys zs = refl
 spread false x ys zs = refl

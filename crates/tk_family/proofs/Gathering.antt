@@ -1,5 +1,9 @@
--- Gathering all that hangs below a dot, in a list that is its own queue (`Gathering`, the loop's
--- invariant).
+-- Gathering all that hangs below a dot, in a list that is its own queue. Key results:
+--   with_link-here, with_link-other   the links with one more
+--   Gathering                         the loop's invariant
+--   Gathering-starts, Gathering-turns the invariant holds at first, and after each turn
+--   Gathering-ends                    a gathering that has seen each of its dots has all
+--   Gathers-permuted                  what was gathered may be in any order
 use Rattle.std.specs.FinMap as map
 use Rattle.std.proofs.Common.{◌≡◌, ◌≢◌, inl, inr, ℕ, ◌+◌, ◌<◌, ◌≤◌, true, Option, None, Some, List}
 use Rattle.std.proofs.Common.{[], ◌∷◌, ◌++◌, length, take, drop, get_or, ap, sym, ◌∙◌, refl, arith}
@@ -39,12 +43,14 @@ pub Adds-with_link : (f : Links) (d : Dot) (l : Link) → f d ≡ None → Adds 
 Adds-with_link f d l free =
     record { free = free; here = with_link-here f d l; others = with_link-other f d l }
 
+-- a dot whose link names x and fits the link there has x as its parent
 parent_from : (g : Links) (e x : Dot) (above : Link) (o : Option Link) → g e ≡ o
     → named_of o ≡ Some x → fits_at o above ≡ true → g x ≡ Some above → IsParent g e x
 parent_from g e x above None at names fitting there = absurd (cc)
 parent_from g e x above (Some k) at names fitting there =
     record { link = k; above = above; here = at; names = names; there = there; fitting = fitting }
 
+-- an option that names a dot has a link
 some_named : (o : Option Link) (x : Dot) → named_of o ≡ Some x → (k : Link) × (o ≡ Some k)
 some_named None x h = absurd (cc)
 some_named (Some k) x h = (k, refl)
@@ -93,10 +99,12 @@ pub record Gathering (m : RowMap) (d : Dot) (l : Link) (ys : List Dot) (i : ℕ)
   pub within : i ≤ length ys
   pub room : length ys ≤ map.len m
 
-row_of : (o : Option Row) (k : Link) → link_in o ≡ Some k → IsSome o
-row_of None k h = absurd (cc)
-row_of (Some r) k h = search rules
+-- a dot with a link has a row
+pub link_row : (o : Option Row) (k : Link) → link_in o ≡ Some k → IsSome o
+link_row None k h = absurd (cc)
+link_row (Some r) k h = search rules
 
+-- a walk has no more dots than there are rows
 Walk-room : (m : RowMap) (d : Dot) (l : Link) (done rest : List Dot) → IsSome (table m d)
     → Walk (with_link (links_of (table m)) d l) d done rest → length (done ++ rest) ≤ map.len m
 Walk-room m d l done rest row w = subst (λ (n : ℕ). length (done ++ rest) ≤ n)
@@ -107,7 +115,7 @@ Walk-room m d l done rest row w = subst (λ (n : ℕ). length (done ++ rest) ≤
       | inl same ↦ subst (λ (y : Dot). IsSome (table m y)) (sym same) row
       | inr ne ↦ elim (w.rooted q h).why [
         | inl same ↦ absurd (ne same)
-        | inr above ↦ row_of (table m q) above.0.link
+        | inr above ↦ link_row (table m q) above.0.link
             (sym (with_link-other (links_of (table m)) d l q ne) ∙ above.0.here)
       ]
     ])))

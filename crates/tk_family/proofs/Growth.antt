@@ -151,6 +151,7 @@ bad-sound T again d (Some (Rotates p n)) at h = record {
   ];
 }
 
+-- a row whose grant is marked or used twice is bad
 bad-flags : (T : Rows) → ((k : TokenId) → IsTwice (links_of T) k → again_in (T k.dot) k.kind ≡ true)
     → (d : Dot) (l : Link)
     → (marks_of T (grant_at d l) ≡ true) ⊎ IsTwice (links_of T) (grant_at d l)
@@ -197,19 +198,23 @@ IsForest-tomb T t c x = some-count (λ q. blamed_in (T q)) c x.member _ (t.bads 
 
 -- ---- a link is put
 
-kind_code : (k : Kind) → is_code k ≡ true → k ≡ kind.Code
+-- a kind that is a code's, by the test, is Code
+pub kind_code : (k : Kind) → is_code k ≡ true → k ≡ kind.Code
 kind_code kind.Code h = refl
 kind_code kind.Access h = absurd (cc)
 kind_code kind.Refresh h = absurd (cc)
 
-kind_refresh : (k : Kind) → is_refresh k ≡ true → k ≡ kind.Refresh
+-- a kind that is a refresh token's, by the test, is Refresh
+pub kind_refresh : (k : Kind) → is_refresh k ≡ true → k ≡ kind.Refresh
 kind_refresh kind.Code h = absurd (cc)
 kind_refresh kind.Access h = absurd (cc)
 kind_refresh kind.Refresh h = refl
 
+-- the token of a kind at a dot, as an option
 abbrev token_at : Dot → Kind → Option TokenId
 token_at d k = Some (record { dot = d; kind = k })
 
+-- tokens of equal dots and equal kinds are equal
 same_token : (a b : Dot) (x y : Kind) → a ≡ b → x ≡ y → token_at a x ≡ token_at b y
 same_token a b x y e h = ap (λ (z : Dot). token_at z x) e ∙ ap (λ (z : Kind). token_at b z) h
 
@@ -225,6 +230,7 @@ uses_it-true (Rotates p g) k h =
     same_token p k.dot kind.Refresh k.kind (dot_eq-true p k.dot parts.0)
     (sym (kind_refresh k.kind parts.1))
 
+-- the token of an option, or another one if there is none
 token_or : TokenId → Option TokenId → TokenId
 token_or d None = d
 token_or d (Some k) = k
@@ -250,6 +256,7 @@ pub record PutRows (T N : Rows) (d : Dot) (l : Link) (c0 : Dot) (ys : List Dot) 
       ≡ (again_in (T k.dot) k.kind || (uses_it l k && used_in (T k.dot) k.kind))
   pub bads : IsCounted N
 
+-- a grant whose row has a repeated use after a put is used twice by the links
 put-again : (T N : Rows) (d : Dot) (l : Link) (c0 : Dot) (ys : List Dot) → IsForest T
     → PutRows T N d l c0 ys → (k : TokenId) → again_in (N k.dot) k.kind ≡ true
     → IsTwice (links_of N) k
@@ -264,6 +271,7 @@ put-again T N d l c0 ys t p k h = elim (or_cases (again_in (T k.dot) k.kind)
           (t.used k parts.1)
     ]
 
+-- a grant that is used twice by the links after a put has a repeated use in its row
 put-twice : (T N : Rows) (d : Dot) (l : Link) (c0 : Dot) (ys : List Dot) → IsForest T
     → PutRows T N d l c0 ys → (k : TokenId) → IsTwice (links_of N) k
     → again_in (N k.dot) k.kind ≡ true

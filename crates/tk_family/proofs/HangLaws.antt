@@ -20,6 +20,7 @@ use Rattle.tk_family.specs.Rows.{Rows, first_in, links_of, firsts_of, named_of}
 use Rattle.tk_family.specs.Takes.{without}
 use Rattle.tk_family.specs.Uses.{uses_by, used_kind}
 use Rattle.tk_family.specs.Writes.{or_dot}
+use Rattle.std.proofs.Math.Bool.{and-false as and_false}
 use Rattle.tk_family.proofs.DotLaws.{dot_eq-same, dot_eq-apart, dot_eq-true, cases_dots}
 use Rattle.tk_family.proofs.Adding.{Adds}
 use Rattle.tk_family.proofs.Gathering.{with_link-here, with_link-other}
@@ -36,11 +37,6 @@ without-here f d = cond-true (dot_eq d d) None (f d) (dot_eq-same d)
 pub without-other : (f : Links) (d q : Dot) → q ≢ d → without f d q ≡ f q
 without-other f d q ne =
     cond-false (dot_eq d q) None (f q) (dot_eq-apart d q (λ same. ne (sym same)))
-
--- nothing holds together with what doesn't
-pub and_false : (b : Bool) → (b && false) ≡ false
-and_false true = refl
-and_false false = refl
 
 -- whether a child is in the set, by its link and the first child
 abbrev pub other : Option Link → Option Dot → TokenId → Dot → Bool
@@ -93,11 +89,13 @@ record Put (f g : Links) (first then : Dot → Option Dot) (E N : Others) (d : D
   pub after : (q : Dot) → then q ≡ cond (dot_eq t.dot q) (or_dot (first q) d) (first q)
   pub ranged : IsDot d
 
+-- a dot whose link named a dot before is not the dot of the new link
 not_put : (f g : Links) (d : Dot) (l : Link) → Adds f g d l → (e p : Dot) → named_of (f e) ≡ Some p
     → e ≢ d
 not_put f g d l a e p names same =
     let clash : None ≡ Some p = sym (ap named_of (ap f same ∙ a.free)) ∙ names in cc
 
+-- the dot of the new link had no entry among the other children
 no_entry : (f g : Links) (d : Dot) (l : Link) → Adds f g d l
     → (first : Dot → Option Dot) (E : Others) → Hangs f first E → (k : TokenId) → E k d ≡ false
 no_entry f g d l a first E h k =
@@ -219,6 +217,7 @@ put_other f g first then E N d l t x y some listed =
       ];
     }
 
+-- for `Hangs-put`: by whether the named dot had a first child
 put_by : (f g : Links) (first then : Dot → Option Dot) (E N : Others) (d : Dot) (l : Link)
     (t : TokenId)
     → Put f g first then E N d l t → (o : Option Dot) → first t.dot ≡ o → ListsAt E N t d o

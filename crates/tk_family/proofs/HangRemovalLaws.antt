@@ -18,10 +18,11 @@ use Rattle.tk_family.specs.Kept.{has_dot, Hangs}
 use Rattle.tk_family.specs.Rows.{named_of}
 use Rattle.tk_family.specs.Takes.{without, with_first}
 use Rattle.tk_family.specs.Uses.{uses_by}
+use Rattle.std.proofs.Math.Bool.{and-false as and_false}
 use Rattle.tk_family.proofs.DotLaws.{dot_eq-same, dot_eq-apart, dot_eq-true, cases_dots}
 use Rattle.tk_family.proofs.UseLaws.{uses_by-true, uses_named}
 use Rattle.tk_family.proofs.ChildLaws.{is_child-same, is_child-apart, is_child-other, cases_tokens}
-use Rattle.tk_family.proofs.HangLaws.{and_false, other, without-here, without-other}
+use Rattle.tk_family.proofs.HangLaws.{other, without-here, without-other}
 
 -- ---- a link is removed
 
@@ -68,10 +69,12 @@ record Left (f : Links) (first : Dot → Option Dot) (E N : Others) (d : Dot) (t
 pub first_here : (first : Dot → Option Dot) (p : Dot) (o : Option Dot) → with_first first p o p ≡ o
 first_here first p o = cond-true _ _ _ (dot_eq-same p)
 
+-- the first children of other dots stay
 first_there : (first : Dot → Option Dot) (p : Dot) (o : Option Dot) (q : Dot) → q ≢ p
     → with_first first p o q ≡ first q
 first_there first p o q ne = cond-false _ _ _ (dot_eq-apart p q (λ same. ne (sym same)))
 
+-- what is left once d is no child hangs in the links without d
 Hangs-left : (f : Links) (first : Dot → Option Dot) (E N : Others) (d : Dot) (t : TokenId)
     (o : Option Dot)
     → Hangs f first E → uses_by (f d) t ≡ true → Left f first E N d t o
@@ -136,14 +139,17 @@ sibling f first E d t h is k one e apart =
     h.rest k e ∙ (ap (λ (q : Option Dot). other (f e) q k e) (ap first one ∙ is)
     ∙ ap (λ (b : Bool). uses_by (f e) k && not b) (dot_eq-apart d e (λ same. apart (sym same))))
 
-less : (b x : Bool) → cond b false x ≡ true → x ≡ true
+-- what is in a set without an entry was in the set
+pub less : (b x : Bool) → cond b false x ≡ true → x ≡ true
 less true x h = absurd (true≢false (sym h))
 less false x h = h
 
+-- what is not in a set is not in the set without an entry
 gone_too : (b x : Bool) → x ≡ false → cond b false x ≡ false
 gone_too true x h = refl
 gone_too false x h = h
 
+-- what is left once another child is first in place of d
 Left-promoted : (f : Links) (first : Dot → Option Dot) (E N : Others) (d : Dot) (t : TokenId)
     (c : Dot) (j : TokenId)
     → Hangs f first E → uses_by (f d) t ≡ true → first t.dot ≡ Some d → j.dot ≡ t.dot → E j c ≡ true
@@ -214,6 +220,7 @@ named_use (Some (Redeems c)) p names = let both : Some c ≡ Some p = names in
 named_use (Some (Rotates c n)) p names = let both : Some c ≡ Some p = names in
     let one : c ≡ p = cc in inr (and_from _ _ (ap (dot_eq c) (sym one) ∙ dot_eq-same c) refl)
 
+-- what is left once d is gone and was the only child
 Left-emptied : (f : Links) (first : Dot → Option Dot) (E N : Others) (d : Dot) (t : TokenId)
     → Hangs f first E → uses_by (f d) t ≡ true → first t.dot ≡ Some d
     → ((e : Dot) → E (token_at t.dot kind.Code) e ≡ false)
@@ -244,6 +251,7 @@ Left-emptied f first E N d t h uses is no_code no_refresh same =
       within = λ k e also. sym (same k e) ∙ also;
     }
 
+-- an option that has a dot, by the test, is that dot
 has_some : (o : Option Dot) (d : Dot) → has_dot o d ≡ true → o ≡ Some d
 has_some None d h = absurd (true≢false (sym h))
 has_some (Some e) d h = ap (λ (y : Dot). Some y) (dot_eq-true e d h)

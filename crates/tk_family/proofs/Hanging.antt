@@ -1,4 +1,8 @@
--- Going through the children of a dot (`Pushing`, the loop's invariant).
+-- Going through the children of a dot. Key results:
+--   Pushing        the loop's invariant
+--   Pushing-from   the first child and the entries of the span are the candidates
+--   Pushing-turns  a candidate is pushed if it fits
+--   Pushing-ends   behind the last candidate all that fit are pushed
 use Rattle.std.proofs.Common.{◌≡◌, inl, inr, ℕ, ◌+◌, ◌<◌, ◌≤◌, Bool, true, false, not, cond, Option}
 use Rattle.std.proofs.Common.{None, Some, List, [], ◌∷◌, ◌++◌, length, filter, ap, sym, ◌∙◌, refl}
 use Rattle.std.proofs.Common.{arith, subst, append_assoc, append-nil, length-append}
@@ -128,6 +132,7 @@ Pushing-turns f x above e rest old now then p h =
           ∙ ap (λ (l : List Dot). old ++ l) (sym (filter-push q p.seen e))));
     }
 
+-- the candidates that fit are all the children that fit
 FitsAll-candidates : (f : Links) (x : Dot) (above : Link) (list : List Dot)
     → Candidates f x above list → FitsAll f x above (filter (λ z. fits_at (f z) above) list)
 FitsAll-candidates f x above list n =

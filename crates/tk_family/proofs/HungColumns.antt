@@ -59,18 +59,21 @@ put_flags (Some r) l kind.Code = (refl, refl, refl)
 put_flags (Some r) l kind.Access = (refl, refl, refl)
 put_flags (Some r) l kind.Refresh = (refl, refl, refl)
 
+-- a row with one more redeemer keeps code, count and link
 redeemer_cols : (o : Option Row) (d : Dot)
     → (code_in (with_redeemer o d) ≡ code_in o) × (count_in (with_redeemer o d) ≡ count_in o)
     × (link_in (with_redeemer o d) ≡ link_in o)
 redeemer_cols None d = (refl, refl, refl)
 redeemer_cols (Some r) d = (refl, refl, refl)
 
+-- a row with one more rotator keeps code, count and link
 rotator_cols : (o : Option Row) (d : Dot)
     → (code_in (with_rotator o d) ≡ code_in o) × (count_in (with_rotator o d) ≡ count_in o)
     × (link_in (with_rotator o d) ≡ link_in o)
 rotator_cols None d = (refl, refl, refl)
 rotator_cols (Some r) d = (refl, refl, refl)
 
+-- a row with one more redeemer keeps its marks
 redeemer_marked : (o : Option Row) (d : Dot) (k : Kind)
     → marked_in (with_redeemer o d) k ≡ marked_in o k
 redeemer_marked None d k = refl
@@ -78,6 +81,7 @@ redeemer_marked (Some r) d kind.Code = refl
 redeemer_marked (Some r) d kind.Access = refl
 redeemer_marked (Some r) d kind.Refresh = refl
 
+-- a row with one more rotator keeps its marks
 rotator_marked : (o : Option Row) (d : Dot) (k : Kind)
     → marked_in (with_rotator o d) k ≡ marked_in o k
 rotator_marked None d k = refl
@@ -85,28 +89,33 @@ rotator_marked (Some r) d kind.Code = refl
 rotator_marked (Some r) d kind.Access = refl
 rotator_marked (Some r) d kind.Refresh = refl
 
+-- one use more makes a use
 more_used : (u : Uses) → is_some_use (once_more u) ≡ (is_some_use u || true)
 more_used Never = refl
 more_used Once = refl
 more_used Often = refl
 
+-- one use more is a repeated use exactly if there was a use, or a repeated one
 more_again : (u : Uses) → is_often (once_more u) ≡ (is_often u || is_some_use u)
 more_again Never = refl
 more_again Once = refl
 more_again Often = refl
 
+-- a redeemer makes a use of the code, and of no other kind
 redeemer_used : (r : Row) (d : Dot) (k : Kind)
     → used_in (with_redeemer (Some r) d) k ≡ (used_in (Some r) k || is_code k)
 redeemer_used r d kind.Code = more_used r.redeemed
 redeemer_used r d kind.Access = refl
 redeemer_used r d kind.Refresh = or_false (is_some_use r.rotated)
 
+-- a rotator makes a use of the refresh token, and of no other kind
 rotator_used : (r : Row) (d : Dot) (k : Kind)
     → used_in (with_rotator (Some r) d) k ≡ (used_in (Some r) k || is_refresh k)
 rotator_used r d kind.Code = or_false (is_some_use r.redeemed)
 rotator_used r d kind.Access = refl
 rotator_used r d kind.Refresh = more_used r.rotated
 
+-- a redeemer makes a repeated use of a code that was used, and of no other kind
 redeemer_again : (r : Row) (d : Dot) (k : Kind)
     → again_in (with_redeemer (Some r) d) k
     ≡ (again_in (Some r) k || (is_code k && used_in (Some r) k))
@@ -114,6 +123,7 @@ redeemer_again r d kind.Code = more_again r.redeemed
 redeemer_again r d kind.Access = refl
 redeemer_again r d kind.Refresh = or_false (is_often r.rotated)
 
+-- a rotator makes a repeated use of a refresh token that was used, and of no other kind
 rotator_again : (r : Row) (d : Dot) (k : Kind)
     → again_in (with_rotator (Some r) d) k
     ≡ (again_in (Some r) k || (is_refresh k && used_in (Some r) k))
@@ -133,6 +143,7 @@ record UseStep (F : Option Row → Dot → Option Row) (of : Kind → Bool) : Ty
       → again_in (F (Some r) d) k ≡ (again_in (Some r) k || (of k && used_in (Some r) k))
   pub first : (r : Row) (d : Dot) → first_in (F (Some r) d) ≡ or_dot (first_in (Some r)) d
 
+-- one more redeemer adds one use of the code
 redeems_step : UseStep with_redeemer is_code
 redeems_step = record {
   cols = redeemer_cols;
@@ -142,6 +153,7 @@ redeems_step = record {
   first = λ r d. refl;
 }
 
+-- one more rotator adds one use of the refresh token
 rotates_step : UseStep with_rotator is_refresh
 rotates_step = record {
   cols = rotator_cols;
@@ -151,6 +163,7 @@ rotates_step = record {
   first = λ r d. refl;
 }
 
+-- a row is a row still if it gets its link
 put_present : (o : Option Row) (b : Bool) (l : Link) → RowAt o → RowAt (cond b (with_put o l) o)
 put_present o true l r =
     record { row = record r.row { link = Some l }; is = ap (λ (x : Option Row). with_put x l) r.is }
@@ -169,6 +182,7 @@ pub record HungCols (T N : Rows) (d p : Dot) (l : Link) : Type 0 where
       ≡ (again_in (T k.dot) k.kind || (uses_it l k && used_in (T k.dot) k.kind))
   pub first : (q : Dot) → first_in (N q) ≡ first_after T d l q
 
+-- the columns after a link was put and a step added its use at the named dot
 hung-cols : (T N : Rows) (d p : Dot) (l : Link) (F : Option Row → Dot → Option Row)
     (of : Kind → Bool) → UseStep F of → named_by l ≡ Some p
     → ((k : TokenId) → uses_it l k ≡ (dot_eq p k.dot && of k.kind)) → RowAt (T d) → RowAt (T p)

@@ -1,4 +1,8 @@
--- Marking a token keeps what the rows keep.
+-- Marking a token keeps what the rows keep. Key results:
+--   token_is      tokens of one dot and one kind are equal
+--   code_row      the code that a dot is under has a row
+--   MarksOne-from rows with one more mark, counted anew, have that one more mark
+--   MarksOne-seen rows that look alike get the same mark
 use Rattle.std.proofs.Common.{◌≡◌, ◌≢◌, ◌⊎◌, inl, inr, true, cond, Option, None, Some, ap, sym, ◌∙◌}
 use Rattle.std.proofs.Common.{refl, subst, IsSome}
 use Rattle.std.proofs.lemmas.Bool.{cases_Bool, cond-true, cond-false}
@@ -26,6 +30,7 @@ use Rattle.tk_family.proofs.Recounting.{IsCountedAs-from}
 use Rattle.tk_family.proofs.HungColumns.{RowAt, row_at}
 use Rattle.tk_family.proofs.Assembly.{IsPath-code, row_with}
 
+-- a row with one more mark keeps link, code, count and first child
 marked_cols : (o : Option Row) (k : Kind)
     → (link_in (with_marked o k) ≡ link_in o) × (code_in (with_marked o k) ≡ code_in o)
     × (count_in (with_marked o k) ≡ count_in o) × (first_in (with_marked o k) ≡ first_in o)
@@ -34,6 +39,7 @@ marked_cols (Some r) kind.Code = (refl, refl, refl, refl)
 marked_cols (Some r) kind.Access = (refl, refl, refl, refl)
 marked_cols (Some r) kind.Refresh = (refl, refl, refl, refl)
 
+-- a row with one more mark keeps its uses
 marked_flags : (o : Option Row) (k j : Kind)
     → (used_in (with_marked o k) j ≡ used_in o j) × (again_in (with_marked o k) j ≡ again_in o j)
 marked_flags None k j = (refl, refl)
@@ -47,6 +53,7 @@ marked_flags (Some r) kind.Refresh kind.Code = (refl, refl)
 marked_flags (Some r) kind.Refresh kind.Access = (refl, refl)
 marked_flags (Some r) kind.Refresh kind.Refresh = (refl, refl)
 
+-- a row that gets a mark has the mark
 marked_here : (o : Option Row) (k : Kind) → RowAt o → marked_in (with_marked o k) k ≡ true
 marked_here o kind.Code r =
     ap (λ (x : Option Row). marked_in (with_marked x kind.Code) kind.Code) r.is
@@ -55,6 +62,7 @@ marked_here o kind.Access r =
 marked_here o kind.Refresh r =
     ap (λ (x : Option Row). marked_in (with_marked x kind.Refresh) kind.Refresh) r.is
 
+-- a mark of a row that got one is the new one, or was there before
 marked_new : (o : Option Row) (k j : Kind) → marked_in (with_marked o k) j ≡ true
     → (j ≡ k) ⊎ (marked_in o j ≡ true)
 marked_new None k j h = inr h
@@ -68,6 +76,7 @@ marked_new (Some r) kind.Refresh kind.Code h = inr h
 marked_new (Some r) kind.Refresh kind.Access h = inr h
 marked_new (Some r) kind.Refresh kind.Refresh h = inl refl
 
+-- a row that gets a mark keeps those it had
 marked_old : (o : Option Row) (k j : Kind) → marked_in o j ≡ true
     → marked_in (with_marked o k) j ≡ true
 marked_old None k j h = h

@@ -1,7 +1,11 @@
--- From the rows of a forest to the finite map and set that contracts see.
+-- From the rows of a forest to the finite map and set that contracts see. Key results:
+--   top_seen, used_seen, user_seen  look-ups in the table are look-ups in what is seen
+--   raised_all                      each dot that the new link raises is in the list
+--   IsForest-empty, Hangs-empty     no rows are a forest in which all hang
+--   marks_one, mark_gone            one mark more, and one less, are seen
 use Rattle.std.proofs.Common.{◌≡◌, ◌≢◌, ◌&&◌, not, inl, inr, Bool, true, false, Option, None, Some}
-use Rattle.std.proofs.Common.{List, [], ap, sym, ◌∙◌, refl, subst, Result, Ok, Err, IfOk, OnOk}
-use Rattle.std.proofs.Common.{OnErr, IfSome, IfNone, ◌||◌, Vec, Global}
+use Rattle.std.proofs.Common.{List, [], ap, sym, ◌∙◌, refl, subst, Result, Ok, Err, IfOk}
+use Rattle.std.proofs.Common.{IfSome, IfNone, ◌||◌, Vec, Global}
 use Rattle.std.specs.Cmp.{IsEquivalence, eq_by_cmp_equiv, Equal-is, both_ways}
 use Rattle.std.specs.Ordering.{eq_by_cmp}
 use Rattle.std.proofs.lemmas.Bool.{true≢false, cases_Bool, or_left, or_right, or_cases}
@@ -37,9 +41,11 @@ use Rattle.tk_handle.specs.TokenId.{token_cmp}
 use Rattle.tk_family.proofs.Adding.{IsPath-here}
 use Rattle.tk_family.proofs.Viewing.{get-links, contains-marks, tokens_total, exact_tokens}
 
+-- links that are the same at each dot are equal
 links_ext : (f g : Links) → ((q : Dot) → f q ≡ g q) → f ≡ g
 links_ext f g h = λ i q. h q i
 
+-- marks that are the same for each token are equal
 marks_ext : (f g : TokenId → Bool) → ((k : TokenId) → f k ≡ g k) → f ≡ g
 marks_ext f g h = λ i k. h k i
 
@@ -95,6 +101,7 @@ if_ok (Err e) P Q h f = tt
 
 -- ---- the empty forest
 
+-- a table without rows has no flag
 no_flag : (F : Option Row → Kind → Bool) → ((k : Kind) → F None k ≡ false) → (T : Rows)
     → ((q : Dot) → T q ≡ None) → (q : Dot) (k : Kind) → F (T q) k ≡ true → ⊥
 no_flag F none T h q k yes' =
@@ -157,9 +164,11 @@ user_seen m v is k o h = subst (λ (f : Links). IsUser f k o) (links_seen m v is
 
 -- ---- marking a token
 
+-- comparing tokens as equal is an equivalence
 tokens_equiv : IsEquivalence (eq_by_cmp token_cmp)
 tokens_equiv = eq_by_cmp_equiv tokens_total
 
+-- a token is marked with one more mark exactly if that is its own, or it was seen marked before
 one_mark : (m n : RowMap) (k : TokenId) → MarksOne (table m) (table n) k → (j : TokenId)
     → marks_of (table n) j
     ≡ (eq_by_cmp token_cmp j k || set.contains (seen_marks (map.entries m)) j)
@@ -192,24 +201,9 @@ pub links_kept : (m n : RowMap) → ((q : Dot) → links_of (table n) q ≡ link
 links_kept m n h = map.same_map dot_cmp_total dot_cmp-IsAntisymmetric _ _
     (λ q. get-links n q ∙ (h q ∙ sym (get-links m q)))
 
--- what holds after success holds in other words
-pub unit_ok : (r : Result (Unit {0}) AllocError) (P Q : Type 0) → OnOk r P → (P → Q) → OnOk r Q
-unit_ok (Ok v) P Q h f = f h
-unit_ok (Err e) P Q h f = tt
-
--- what holds after an error holds in other words
-pub unit_err : (r : Result (Unit {0}) AllocError) (P Q : Type 0) → OnErr r P → (P → Q) → OnErr r Q
-unit_err (Ok v) P Q h f = tt
-unit_err (Err e) P Q h f = f h
-
--- what follows from success and from an error holds
-pub unit_both : (r : Result (Unit {0}) AllocError) (P Q R : Type 0) → OnOk r P → OnErr r Q → (P → R)
-    → (Q → R) → R
-unit_both (Ok v) P Q R h k f g = f h
-unit_both (Err e) P Q R h k f g = g k
-
 -- ---- a mark less
 
+-- a token is marked without a mark exactly if that isn't its own, and it was seen marked before
 mark_less : (m n : RowMap) (k : TokenId) → Unmarks (table m) (table n) k → (j : TokenId)
     → marks_of (table n) j
     ≡ (not (eq_by_cmp token_cmp j k) && set.contains (seen_marks (map.entries m)) j)

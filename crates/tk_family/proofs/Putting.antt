@@ -35,12 +35,14 @@ use Rattle.tk_family.proofs.HungColumns.{put_flags, row_at}
 
 -- ---- a count is written
 
+-- a row with another count keeps link, code and first child
 count_cols : (o : Option Row) (n : ℕ)
     → (link_in (with_count o n) ≡ link_in o) × (code_in (with_count o n) ≡ code_in o)
     × (first_in (with_count o n) ≡ first_in o)
 count_cols None n = (refl, refl, refl)
 count_cols (Some r) n = (refl, refl, refl)
 
+-- a row with another count keeps marks and uses
 count_flags : (o : Option Row) (n : ℕ) (k : Kind)
     → (marked_in (with_count o n) k ≡ marked_in o k) × (used_in (with_count o n) k ≡ used_in o k)
     × (again_in (with_count o n) k ≡ again_in o k)
@@ -70,6 +72,7 @@ AlikeButCount-count A B c n h = record {
       (count_flags (A q) n k).2;
 }
 
+-- a row that gets a count has the count
 count_there : (o : Option Row) (n : ℕ) → RowAt o → count_in (with_count o n) ≡ n
 count_there o n r = ap (λ (x : Option Row). count_in (with_count x n)) r.is
 
@@ -169,6 +172,7 @@ again_apart T N l p q k names ne h = h
     (uses_it-apart l p (token_at q k) names ne)
     ∙ sym (or_false (again_in (T q) k)))
 
+-- a link that names p, put at a dot under no code, leaves what dots other than p blame
 hung_blamed : (T N : Rows) (d p : Dot) (l : Link) → named_by l ≡ Some p → code_in (T d) ≡ None
     → HungCols T N d p l → (q : Dot) → q ≢ p → blamed_in (N q) ≡ blamed_in (T q)
 hung_blamed T N d p l names none h q ne = elim (cases_dots q d) [
@@ -189,6 +193,7 @@ IsCountedAs-hung T M d p l x none names at_d at_p h =
     hung-cols-all T M d p l names (row_at (T d) at_d) (row_at (T p) at_p) h in
     IsCountedAs-from T M p x cols.code cols.count (hung_blamed T M d p l names none cols)
 
+-- a code put at a dot under no code leaves what each dot blames, and the counts
 hung_code_flags : (T N : Rows) (d : Dot) → code_in (T d) ≡ None
     → ((q : Dot) → N q ≡ put_at T d Code q) → (q : Dot)
     → (blamed_in (N q) ≡ blamed_in (T q)) × (count_in (N q) ≡ count_in (T q))
@@ -266,12 +271,14 @@ Mid-none M A c0 h = record {
   code = λ q. ap code_in (h q);
 }
 
+-- a row with another code keeps link, first child and count
 code_cols : (o : Option Row) (c : Dot)
     → (link_in (with_code o c) ≡ link_in o) × (first_in (with_code o c) ≡ first_in o)
     × (count_in (with_code o c) ≡ count_in o)
 code_cols None c = (refl, refl, refl)
 code_cols (Some r) c = (refl, refl, refl)
 
+-- a row with another code keeps marks and uses
 code_flags : (o : Option Row) (c : Dot) (k : Kind)
     → (marked_in (with_code o c) k ≡ marked_in o k) × (used_in (with_code o c) k ≡ used_in o k)
     × (again_in (with_code o c) k ≡ again_in o k)
@@ -280,9 +287,11 @@ code_flags (Some r) c kind.Code = (refl, refl, refl)
 code_flags (Some r) c kind.Access = (refl, refl, refl)
 code_flags (Some r) c kind.Refresh = (refl, refl, refl)
 
+-- a row that gets a code has the code
 code_there : (o : Option Row) (c : Dot) → RowAt o → code_in (with_code o c) ≡ Some c
 code_there o c r = ap (λ (x : Option Row). code_in (with_code x c)) r.is
 
+-- a row is a row still if it gets a code
 with_code_row : (o : Option Row) (b : Bool) (c : Dot) → RowAt o → RowAt (cond b (with_code o c) o)
 with_code_row o true c r = record {
   row = record r.row { code = Some c };

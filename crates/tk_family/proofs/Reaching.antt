@@ -32,6 +32,7 @@ pub record AreChildren (g : Links) (d x : Dot) (cs : List Dot) : Type 0 where
   pub all : (e : Dot) → e ≢ d → IsParent g e x → has cs e ≡ true
   pub distinct : IsDistinct dot_eq cs
 
+-- a dot that goes from those that wait to those that are done stays at its place
 regroup : (done rest cs : List Dot) (x : Dot)
     → (done ++ x ∷ []) ++ (rest ++ cs) ≡ (done ++ x ∷ rest) ++ cs
 regroup done rest cs x =

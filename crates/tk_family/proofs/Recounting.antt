@@ -38,10 +38,12 @@ IsCountedAs-from T M at x code count blamed c =
     (IsCount-alike (λ q. blamed_in (T q)) f c (count_in (T c)) (λ q h. same q ∙ h)
     (λ q h. sym (same q) ∙ h) (x c))
 
+-- the dot itself blames its code if it was bad
 as_here : (M : Rows) (at : Dot) (was : Bool)
     → blamed_as M at was at ≡ cond was (code_in (M at)) None
 as_here M at was = cond-true _ _ _ (dot_eq-same at)
 
+-- other dots blame what they blame in the rows
 as_other : (M : Rows) (at : Dot) (was : Bool) (q : Dot) → q ≢ at
     → blamed_in (M q) ≡ blamed_as M at was q
 as_other M at was q ne = sym (cond-false _ _ _ (dot_eq-apart at q (λ same. ne (sym same))))
@@ -65,6 +67,7 @@ recount-fits m at code was x said = IsCount-room m (λ q. blamed_in (table m q))
     (λ q h. bad-row (table m q) (blamed-parts (table m q) code h).0)
     (recount-step (table m) at code was x said).1
 
+-- a choice of a dot or none is no other dot
 some_or_none : (b : Bool) (o : Option Dot) (x c : Dot) → o ≡ Some x → x ≢ c → cond b o None ≢ Some c
 some_or_none true o x c said ne h = let both : Some x ≡ Some c = sym said ∙ h in
     let same : x ≡ c = cc in ne same
@@ -79,6 +82,7 @@ recount-others M at code was c x said ne =
     (λ h. some_or_none was (code_in (M at)) code c said ne (sym (as_here M at was) ∙ h))
     (some_or_none (bad_in (M at)) (code_in (M at)) code c said ne) (x c)
 
+-- a choice of none or none is no dot
 none_either : (b : Bool) (o : Option Dot) (c : Dot) → o ≡ None → cond b o None ≢ Some c
 none_either true o c none h = not_some o c none h
 none_either false o c none h = let clash : None ≡ Some c = h in cc
@@ -91,6 +95,7 @@ recount-none M at was x none c = IsCount-apart (blamed_as M at was) (λ q. blame
     (λ h. none_either was (code_in (M at)) c none (sym (as_here M at was) ∙ h))
     (none_either (bad_in (M at)) (code_in (M at)) c none) (x c)
 
+-- truth values that are equal by the test are equal
 same_bools : (a b : Bool) → beq a b ≡ true → a ≡ b
 same_bools true true h = refl
 same_bools true false h = absurd (true≢false (sym h))
@@ -121,10 +126,12 @@ with_list M ys c q = cond (has ys q) (cond (bad_in (M q)) (Some c) None) (blamed
 abbrev without_list : Rows → List Dot → Dot → Option Dot
 without_list T ys q = cond (has ys q) None (blamed_in (T q))
 
+-- a choice of a dot or none is the dot only if the test holds
 if_some : (b : Bool) (c : Dot) → cond b (Some c) None ≡ Some c → b ≡ true
 if_some true c h = refl
 if_some false c h = absurd (let clash : None ≡ Some c = h in cc)
 
+-- the count of a code that a list of dots came under is more by the bad ones of the list
 raise-count : (M : Rows) (c : Dot) (ys : List Dot) → IsCounted M → IsDistinct dot_eq ys
     → ((q : Dot) → has ys q ≡ true → code_in (M q) ≡ None)
     → IsCount (with_list M ys c) c (count_in (M c) + bads M ys)
@@ -189,6 +196,7 @@ IsCounted-raised M A c0 ys x d fresh bad code here others c =
           ]) (x c))
     ]
 
+-- the count of a code is that without a list of its dots, and the bad ones of the list
 clear-count : (T : Rows) (c : Dot) (ys : List Dot) → IsCounted T → IsDistinct dot_eq ys
     → ((q : Dot) → has ys q ≡ true → code_in (T q) ≡ Some c)
     → (m : ℕ) × IsCount (without_list T ys) c m × (count_in (T c) ≡ m + bads T ys)

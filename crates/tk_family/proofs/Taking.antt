@@ -103,12 +103,14 @@ pub record Cleared (T A : Rows) (ys : List Dot) : Type 0 where
   pub used : (q : Dot) (k : Kind) → used_in (A q) k ≡ used_in (T q) k
   pub again : (q : Dot) (k : Kind) → again_in (A q) k ≡ again_in (T q) k
 
+-- a row that loses its code has none, and keeps link, count and first child
 uncoded_cols : (o : Option Row)
     → (link_in (without_code o) ≡ link_in o) × (code_in (without_code o) ≡ None)
     × (count_in (without_code o) ≡ count_in o) × (first_in (without_code o) ≡ first_in o)
 uncoded_cols None = (refl, refl, refl, refl)
 uncoded_cols (Some r) = (refl, refl, refl, refl)
 
+-- a row that loses its code keeps marks and uses
 uncoded_flags : (o : Option Row) (k : Kind)
     → (marked_in (without_code o) k ≡ marked_in o k) × (used_in (without_code o) k ≡ used_in o k)
     × (again_in (without_code o) k ≡ again_in o k)
@@ -117,6 +119,7 @@ uncoded_flags (Some r) kind.Code = (refl, refl, refl)
 uncoded_flags (Some r) kind.Access = (refl, refl, refl)
 uncoded_flags (Some r) kind.Refresh = (refl, refl, refl)
 
+-- rows that lose their code at each dot of a list are cleared there
 Cleared-unsettled : (T : Rows) (ys : List Dot) → Cleared T (unsettled T ys) ys
 Cleared-unsettled T ys = record {
   link = λ q. column link_in (has ys q) (without_code (T q)) (T q) (uncoded_cols (T q)).0;
@@ -135,6 +138,7 @@ Cleared-unsettled T ys = record {
       (uncoded_flags (T q) k).2;
 }
 
+-- cleared rows are cleared still if counts change
 Cleared-alike : (T S A : Rows) (ys : List Dot) → Cleared T S ys → AlikeButCount S A → Cleared T A ys
 Cleared-alike T S A ys x a = record {
   link = λ q. a.link q ∙ x.link q;
@@ -162,6 +166,7 @@ Cleared-none T = record {
   again = λ q k. refl;
 }
 
+-- a row is a row still if it loses its code
 uncoded_row : (o : Option Row) (b : Bool) → RowAt o → RowAt (cond b (without_code o) o)
 uncoded_row o true r = record { row = record r.row { code = None }; is = ap without_code r.is }
 uncoded_row o false r = r
@@ -189,6 +194,7 @@ pub HasUses-cleared : (T A : Rows) (ys : List Dot) → IsForest T → Cleared T 
 HasUses-cleared T A ys t x = HasUses-kept (links_of T) (links_of A) T A (HasUses-forest T t)
     (λ q. sym (x.link q)) (λ k. x.used k.dot k.kind) (λ k. x.again k.dot k.kind)
 
+-- a choice of none or an option is a dot only if the test fails and the option is the dot
 none_passes : (b : Bool) (o : Option Dot) (c : Dot) → cond b None o ≡ Some c
     → (b ≡ false) × (o ≡ Some c)
 none_passes true o c h = absurd (let clash : None ≡ Some c = h in cc)

@@ -89,21 +89,25 @@ HasUses-code f T d here h =
 
 -- ---- counts up to two
 
+-- the uses that are left: one if asked for, and those of up to two children
 abbrev total : Bool → List Child → ℕ
 total b cs = cond b 1 0 + length (take 2 cs)
 
+-- a count that makes a use counts the first child, or another
 count_some : (b : Bool) (cs : List Child) → is_some_use (as_uses (total b cs)) ≡ true
     → (b ≡ true) ⊎ ((e : Dot) × (has (dots_of cs) e ≡ true))
 count_some true cs h = inl refl
 count_some false [] h = absurd (true≢false (sym h))
 count_some false (x ∷ xs) h = inr (x.child, has-here x.child (dots_of xs))
 
+-- a first child that is counted makes a use
 some_first : (b : Bool) (cs : List Child) → b ≡ true → is_some_use (as_uses (total b cs)) ≡ true
 some_first true [] h = refl
 some_first true (x ∷ []) h = refl
 some_first true (x ∷ (y ∷ ys)) h = refl
 some_first false cs h = absurd (true≢false (sym h))
 
+-- another child that is counted makes a use
 some_more : (b : Bool) (cs : List Child) (e : Dot) → has (dots_of cs) e ≡ true
     → is_some_use (as_uses (total b cs)) ≡ true
 some_more b [] e h = absurd (true≢false (sym h))
@@ -120,6 +124,7 @@ record TwoOf (list : List Dot) : Type 0 where
   pub one_in : has list one ≡ true
   pub two_in : has list two ≡ true
 
+-- a count that makes a repeated use counts the first child and another, or two others
 count_two : (b : Bool) (cs : List Child) → IsDistinct dot_eq (dots_of cs)
     → is_often (as_uses (total b cs)) ≡ true
     → ((b ≡ true) × (e : Dot) × (has (dots_of cs) e ≡ true)) ⊎ TwoOf (dots_of cs)
@@ -144,6 +149,7 @@ count_two false (x ∷ (y ∷ ys)) distinct h =
     or_later true b h = refl
     or_later false b h = h
 
+-- the first child and another make a repeated use
 two_first : (b : Bool) (cs : List Child) (e : Dot) → b ≡ true → has (dots_of cs) e ≡ true
     → is_often (as_uses (total b cs)) ≡ true
 two_first true [] e first h = absurd (true≢false (sym h))
@@ -151,10 +157,12 @@ two_first true (x ∷ []) e first h = refl
 two_first true (x ∷ (y ∷ ys)) e first h = refl
 two_first false cs e first h = absurd (true≢false (sym first))
 
+-- a dot of a list of one dot is that one
 only : (x a : Dot) → has (x ∷ []) a ≡ true → a ≡ x
 only x a h =
     elim (has-cons x [] a h) [ inl same ↦ same | inr none ↦ absurd (true≢false (sym none)) ]
 
+-- two different other children make a repeated use
 two_more : (b : Bool) (cs : List Child) (x y : Dot) → x ≢ y → has (dots_of cs) x ≡ true
     → has (dots_of cs) y ≡ true → is_often (as_uses (total b cs)) ≡ true
 two_more b [] x y ne at_x at_y = absurd (true≢false (sym at_x))
@@ -171,6 +179,7 @@ pub record Recounts (f : Links) (first : Dot → Option Dot) (s : BTreeSet Child
   pub hangs : Hangs (without f d) (with_first first t.dot o) (others_in s)
   pub ordered : IsOrdered child_cmp s
 
+-- a dot whose link uses a token without d's link has the link that it had
 kept_link : (f : Links) (d e : Dot) (k : TokenId) → uses_by (without f d e) k ≡ true
     → without f d e ≡ f e
 kept_link f d e k by = elim (cases_dots e d) [
@@ -191,6 +200,7 @@ in_set f first s d t o x e by apart =
     ∙ ap not apart) in
     users-has s t e at (x.hangs.ranged t e at)
 
+-- a child in the set uses the token without d's link, and is not the first child
 of_set : (f : Links) (first : Dot → Option Dot) (s : BTreeSet Child) (d : Dot) (t : TokenId)
     (o : Option Dot)
     → Recounts f first s d t o → (e : Dot) → has (dots_of (users_in s t)) e ≡ true
@@ -206,6 +216,7 @@ of_set f first s d t o x e e_in =
     not_true true h = absurd (true≢false (sym h))
     not_true false h = refl
 
+-- if the first child uses the token, the first child uses it without d's link
 of_first : (f : Links) (first : Dot → Option Dot) (s : BTreeSet Child) (d : Dot) (t : TokenId)
     (o : Option Dot)
     → Recounts f first s d t o → first_uses f o t ≡ true
@@ -218,6 +229,7 @@ of_first f first s d t (Some e) x h =
     sym (ap named_of (ap (without f d) same ∙ without-here f d)) ∙ names in cc) in
     (e, ap (λ (l : Option Link). uses_by l t) (without-other f d e ne) ∙ h, dot_eq-same e)
 
+-- if the first child uses the token without d's link, the first child uses the token
 by_first : (f : Links) (d : Dot) (t : TokenId) (o : Option Dot) (e : Dot)
     → uses_by (without f d e) t ≡ true → has_dot o e ≡ true → first_uses f o t ≡ true
 by_first f d t None e by at = absurd (true≢false (sym at))
@@ -225,6 +237,7 @@ by_first f d t (Some x) e by at = subst (λ (y : Dot). uses_by (f y) t ≡ true)
     (sym (dot_eq-true x e at))
     (ap (λ (l : Option Link). uses_by l t) (sym (kept_link f d e t by)) ∙ by)
 
+-- an option has at most one dot
 one_dot : (o : Option Dot) (x y : Dot) → has_dot o x ≡ true → has_dot o y ≡ true → x ≡ y
 one_dot None x y h i = absurd (true≢false (sym h))
 one_dot (Some e) x y h i = sym (dot_eq-true e x h) ∙ dot_eq-true e y i

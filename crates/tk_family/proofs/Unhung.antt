@@ -43,6 +43,7 @@ used_row : (x : Option Row) (k : Kind) → used_in x k ≡ true → RowAt x
 used_row None k h = absurd (true≢false (sym h))
 used_row (Some r) k h = record { row = r; is = refl }
 
+-- a token that a link uses is a code or a refresh token
 used_kind : (o : Option Link) (t : TokenId) → uses_by o t ≡ true
     → (is_code t.kind || is_refresh t.kind) ≡ true
 used_kind None t h = absurd (true≢false (sym h))
@@ -97,6 +98,7 @@ token_row : (T : Rows) (d : Dot) (t : TokenId) → HasUses (links_of T) T
 token_row T d t known uses = used_row (T t.dot) t.kind
     (known.uses t (record { user = d; by = uses_by-true (links_of T d) t uses }))
 
+-- the row of a token whose users were rewritten has the new ones
 row_here : (T M : Rows) (t : TokenId) (o : Option Dot) (u : Uses) (r : RowAt (T t.dot))
     → IsRewritten T M t o u → M t.dot ≡ with_users (Some r.row) o t.kind u
 row_here T M t o u r h = h t.dot

@@ -1,12 +1,14 @@
--- The link at a dot is gone: the uses and counts without the link.
+-- The link at a dot is gone: the uses and counts without the link. Key results:
+--   Loose, Loose-from, Loose-code  the columns once a dot is no child any more
+--   Unlinks-from                   a loose link that is taken out of its row is unlinked
+--   Hangs-unlinked                 the children are those without the dot
 use Rattle.std.proofs.Common.{◌≡◌, ◌≢◌, inl, inr, false, cond, Option, None, Some, ap, sym, ◌∙◌}
-use Rattle.std.proofs.Common.{refl, subst, IsSome}
+use Rattle.std.proofs.Common.{refl}
 use Rattle.std.proofs.lemmas.Bool.{cond-true, cond-false}
 use Rattle.tk_handle.specs.declared.dot.Dot.{Dot}
 use Rattle.tk_handle.specs.declared.kind.Kind.{Kind}
 use Rattle.tk_handle.specs.declared.kind.Kind.TheVariants as kind
 use Rattle.tk_handle.specs.declared.token_id.TokenId.{TokenId}
-use Rattle.tk_family.specs.declared.link.Link.{Link}
 use Rattle.tk_family.specs.declared.link.Link.TheVariants.{Code}
 use Rattle.tk_family.specs.declared.row.Row.{Row}
 use Rattle.tk_family.specs.Children.{Others, token_at}
@@ -22,15 +24,8 @@ use Rattle.tk_family.proofs.DotLaws.{dot_eq-same, dot_eq-apart, cases_dots}
 use Rattle.tk_family.proofs.Columns.{column}
 use Rattle.tk_family.proofs.Counting.{IsCount-is, IsCount-alike, bad-same, blamed-same, blamed-none}
 use Rattle.tk_family.proofs.Recounting.{IsCountedAs-from}
-use Rattle.tk_family.proofs.HungColumns.{RowAt}
-use Rattle.tk_family.proofs.Assembly.{row_with}
 use Rattle.tk_family.proofs.HangLaws.{without-here, without-other, Hangs-same}
 use Rattle.tk_family.proofs.Unhanging.{HasUses-kept, HasUses-code}
-
--- a dot with a link has a row
-pub link_row : (o : Option Row) (l : Link) → link_in o ≡ Some l → IsSome o
-link_row o l h = let r : RowAt o = row_with o l h in
-    subst (λ (x : Option Row). IsSome x) (sym r.is) refl
 
 -- ---- the link is gone
 
@@ -64,12 +59,14 @@ Loose-from T M N d t kept known a = record {
 
 -- ---- the row has no link
 
+-- a row that loses its link loses code and count too, and keeps its first child
 bare_cols : (o : Option Row)
     → (link_in (without_link o) ≡ None) × (code_in (without_link o) ≡ None)
     × (count_in (without_link o) ≡ 0) × (first_in (without_link o) ≡ first_in o)
 bare_cols None = (refl, refl, refl, refl)
 bare_cols (Some r) = (refl, refl, refl, refl)
 
+-- a row that loses its link loses its marks too, and keeps its uses
 bare_flags : (o : Option Row) (k : Kind)
     → (marked_in (without_link o) k ≡ false) × (used_in (without_link o) k ≡ used_in o k)
     × (again_in (without_link o) k ≡ again_in o k)
@@ -86,6 +83,7 @@ IsCountedAs-unhangs T M t x k = IsCountedAs-from T M t.dot x k.code k.count
     (bad-same (T q) (M q) (k.link q) (k.marked q)
     (λ j. k.again (token_at q j) (λ same. ne (ap (λ (i : TokenId). i.dot) same)))) (k.code q))
 
+-- a row that loses its link blames no code
 bare_blamed : (o : Option Row) → blamed_in (without_link o) ≡ None
 bare_blamed o = blamed-none (without_link o) (bare_cols o).1
 

@@ -21,6 +21,7 @@ use Rattle.tk_family.proofs.Marking.{token_is, AlikeButMarks-then, IsCountedAs-a
 
 -- ---- a mark is removed
 
+-- a row that loses a mark keeps link, code, count and first child
 unmarked_cols : (o : Option Row) (k : Kind)
     → (link_in (without_mark o k) ≡ link_in o) × (code_in (without_mark o k) ≡ code_in o)
     × (count_in (without_mark o k) ≡ count_in o) × (first_in (without_mark o k) ≡ first_in o)
@@ -29,6 +30,7 @@ unmarked_cols (Some r) kind.Code = (refl, refl, refl, refl)
 unmarked_cols (Some r) kind.Access = (refl, refl, refl, refl)
 unmarked_cols (Some r) kind.Refresh = (refl, refl, refl, refl)
 
+-- a row that loses a mark keeps its uses
 unmarked_flags : (o : Option Row) (k j : Kind)
     → (used_in (without_mark o k) j ≡ used_in o j) × (again_in (without_mark o k) j ≡ again_in o j)
 unmarked_flags None k j = (refl, refl)
@@ -42,12 +44,14 @@ unmarked_flags (Some r) kind.Refresh kind.Code = (refl, refl)
 unmarked_flags (Some r) kind.Refresh kind.Access = (refl, refl)
 unmarked_flags (Some r) kind.Refresh kind.Refresh = (refl, refl)
 
+-- a row that loses a mark doesn't have the mark
 unmarked_gone : (o : Option Row) (k : Kind) → marked_in (without_mark o k) k ≡ false
 unmarked_gone None k = refl
 unmarked_gone (Some r) kind.Code = refl
 unmarked_gone (Some r) kind.Access = refl
 unmarked_gone (Some r) kind.Refresh = refl
 
+-- a row that loses a mark keeps the others
 unmarked_kept : (o : Option Row) (k j : Kind) → j ≢ k
     → marked_in (without_mark o k) j ≡ marked_in o j
 unmarked_kept None k j ne = refl

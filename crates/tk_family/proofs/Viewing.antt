@@ -1,4 +1,9 @@
--- Rows and what contracts see of them have the same look-ups.
+-- Rows and what contracts see of them have the same look-ups. Key results:
+--   get-links, contains-marks   a link or a mark is seen exactly if the table has it
+--   seen_same                   rows with the same look-ups are seen as the same forest
+--   links_put, links_taken      one link more, and one less, are seen
+--   tokens_total, exact_tokens  tokens are in a total order, and are equal if they tie
+--   both_tied                   one order and then another are equal exactly if both are
 use Rattle.std.proofs.Common.{◌≡◌, ◌||◌, ◌&&◌, not, Bool, true, false, cond, Option, None, Some}
 use Rattle.std.proofs.Common.{List, [], ◌∷◌, ap, sym, ◌∙◌, refl}
 use Rattle.std.proofs.lemmas.Bool.{true≢false, and_parts}
@@ -28,16 +33,19 @@ use Rattle.tk_family.proofs.DotLaws.{dots_equiv, dot_eq-true}
 use Rattle.tk_family.proofs.EntryLaws.{entries_table}
 use Rattle.tk_family.proofs.Marking.{token_is}
 
+-- once a dot's link is shown, or that it has none, that is seen there, and the rest stays
 get-seen_link : (m : map.FinMap dot_cmp Link) (d : Dot) (o : Option Link) (q : Dot)
     → map.get (seen_link m d o) q ≡ cond (dot_eq q d) o (map.get m q)
 get-seen_link m d None q = map.get-remove dot_cmp_total m d q
 get-seen_link m d (Some l) q = map.get-insert dot_cmp_total m d l q
 
+-- the link of one of two rows is one of their links
 link_cond : (b : Bool) (r : Row) (o : Option Row)
     → cond b r.link (link_in o) ≡ link_in (cond b (Some r) o)
 link_cond true r o = refl
 link_cond false r o = refl
 
+-- the links that are seen of a list of rows are those of the rows
 get-seen_links : (es : List (Dot × Row)) (q : Dot)
     → map.get (seen_links es) q ≡ link_in (lookup (dot_eq q) es)
 get-seen_links [] q = map.get-empty dot_cmp q
@@ -57,19 +65,23 @@ pub tokens_total : IsTotalOrder token_cmp
 tokens_total = then_total (on_total (λ k. k.dot) dot_cmp_total)
     (on_total (λ k. kind_number k.kind) nat_cmp_total)
 
-then_eq : (o p : Ordering) → is_eq (ordering_then o p) ≡ (is_eq o && is_eq p)
-then_eq Less p = refl
-then_eq Equal p = refl
-then_eq Greater p = refl
+-- one order and then another are equal exactly if both are
+pub both_tied : (o p : Ordering) → is_eq (ordering_then o p) ≡ (is_eq o && is_eq p)
+both_tied Less p = refl
+both_tied Equal p = refl
+both_tied Greater p = refl
 
-insert_cond : (b c : Bool) → (b || c) ≡ cond b true c
+-- b or c is true if b holds, and otherwise c
+pub insert_cond : (b c : Bool) → (b || c) ≡ cond b true c
 insert_cond true c = refl
 insert_cond false c = refl
 
-remove_cond : (b c : Bool) → (not b && c) ≡ cond b false c
+-- c without b is false if b holds, and otherwise c
+pub remove_cond : (b c : Bool) → (not b && c) ≡ cond b false c
 remove_cond true c = refl
 remove_cond false c = refl
 
+-- once it is shown whether a token is marked, that is seen of the token, and the rest stays
 contains-seen_mark : (s : set.FinSet token_cmp) (k : TokenId) (b : Bool) (j : TokenId)
     → set.contains (seen_mark s k b) j ≡ cond (eq_by_cmp token_cmp j k) b (set.contains s j)
 contains-seen_mark s k true j = set.contains-insert tokens_total s k j
@@ -88,9 +100,11 @@ three true r kind.Code old o h = refl
 three true r kind.Access old o h = refl
 three true r kind.Refresh old o h = refl
 
+-- where no row is, no token is marked
 none_marked : (k : Kind) → false ≡ marked_in None k
 none_marked k = refl
 
+-- the marks that are seen of a list of rows are those of the rows
 contains-seen_marks : (es : List (Dot × Row)) (j : TokenId)
     → set.contains (seen_marks es) j ≡ marked_in (lookup (dot_eq j.dot) es) j.kind
 contains-seen_marks [] j = set.contains-empty token_cmp j ∙ none_marked j.kind
@@ -110,16 +124,16 @@ contains-seen_marks (e ∷ es) j =
     cond b e.1.marked_refresh
     (cond (eq_by_cmp token_cmp j a) e.1.marked_access
     (cond (eq_by_cmp token_cmp j c) e.1.marked_code (set.contains s0 j))))
-    (then_eq (dot_cmp j.dot e.0) (nat_cmp (kind_number j.kind) 3))
+    (both_tied (dot_cmp j.dot e.0) (nat_cmp (kind_number j.kind) 3))
     ∙ (ap (λ (b : Bool).
     cond (dot_eq j.dot e.0 && is_eq (nat_cmp (kind_number j.kind) 3)) e.1.marked_refresh
     (cond b e.1.marked_access (cond (eq_by_cmp token_cmp j c) e.1.marked_code (set.contains s0 j))))
-    (then_eq (dot_cmp j.dot e.0) (nat_cmp (kind_number j.kind) 2))
+    (both_tied (dot_cmp j.dot e.0) (nat_cmp (kind_number j.kind) 2))
     ∙ (ap (λ (b : Bool).
     cond (dot_eq j.dot e.0 && is_eq (nat_cmp (kind_number j.kind) 3)) e.1.marked_refresh
     (cond (dot_eq j.dot e.0 && is_eq (nat_cmp (kind_number j.kind) 2)) e.1.marked_access
     (cond b e.1.marked_code (set.contains s0 j))))
-    (then_eq (dot_cmp j.dot e.0) (nat_cmp (kind_number j.kind) 1))
+    (both_tied (dot_cmp j.dot e.0) (nat_cmp (kind_number j.kind) 1))
     ∙ three (dot_eq j.dot e.0) e.1 j.kind (set.contains s0 j) (lookup (dot_eq j.dot) es)
     (contains-seen_marks es j)))))
 
@@ -129,6 +143,7 @@ pub contains-marks : (m : RowMap) (j : TokenId)
 contains-marks m j = contains-seen_marks (map.entries m) j
     ∙ ap (λ (o : Option Row). marked_in o j.kind) (entries_table m j.dot)
 
+-- kinds with equal numbers are equal
 same_kind : (a b : Kind) → is_eq (nat_cmp (kind_number a) (kind_number b)) ≡ true → a ≡ b
 same_kind kind.Code kind.Code h = refl
 same_kind kind.Access kind.Access h = refl
@@ -146,7 +161,7 @@ exact_tokens a b h =
     let parts : (is_eq (dot_cmp a.dot b.dot) ≡ true)
     × (is_eq (nat_cmp (kind_number a.kind) (kind_number b.kind)) ≡ true) =
     and_parts _ _
-    (sym (then_eq (dot_cmp a.dot b.dot) (nat_cmp (kind_number a.kind) (kind_number b.kind)))
+    (sym (both_tied (dot_cmp a.dot b.dot) (nat_cmp (kind_number a.kind) (kind_number b.kind)))
     ∙ ap is_eq h) in
     token_is a b (dot_eq-true a.dot b.dot parts.0) (same_kind a.kind b.kind parts.1)
 

@@ -1,4 +1,6 @@
--- The walk finds the code that a dot is under: proof of `walk_finds`.
+-- The walk finds the code that a dot is under: proof of `walk_finds`. Key results:
+--   code_of-sound      the code that is found is the one that the dot is under
+--   code_of-complete   the code that a dot is under is found
 use Rattle.std.proofs.Common.{◌≡◌, inl, inr, ◌+◌, ◌≤◌, ℕ, zero, suc, true, false, Option, None}
 use Rattle.std.proofs.Common.{Some, List, [], ◌∷◌, ap, sym, ◌∙◌, refl, arith, option_and_then}
 use Rattle.std.proofs.lemmas.Bool.{true≢false, cases_Bool, cond-true, cond-false}
@@ -10,12 +12,9 @@ use Rattle.tk_family.specs.Families.{Links, named_by, fits, rank_of, IsParent, I
 use Rattle.tk_family.specs.Walks.{fits_over, is_code_link, parent_named, parent_by, parent_of}
 use Rattle.tk_family.specs.Walks.{code_by, code_of}
 use Rattle.tk_family.proofs.FamilyLaws.{IsParent-rank, IsParent-code}
+use Rattle.tk_family.proofs.Columns.{fits_over-some as over_some}
 
-over_some : (l : Link) (o : Option Link) → fits_over l o ≡ true
-    → (k : Link) × (o ≡ Some k) × (fits l k ≡ true)
-over_some l None h = absurd (true≢false (sym h))
-over_some l (Some k) h = (k, refl, h)
-
+-- for `parent_of-sound`: by the dot that the link names
 named-sound : (f : Links) (d : Dot) (l : Link) (o : Option Dot) (p : Dot) → f d ≡ Some l
     → named_by l ≡ o → parent_named f l o ≡ Some p → IsParent f d p
 named-sound f d l None p at names h = absurd (cc)
@@ -35,6 +34,7 @@ named-sound f d l (Some r) p at names h = elim (cases_Bool (fits_over l (f r))) 
   | inr none ↦ absurd (let clash : None ≡ Some p = sym (cond-false _ _ _ none) ∙ h in cc)
 ]
 
+-- for `parent_of-sound`: by the link at the dot
 by-sound : (f : Links) (d : Dot) (o : Option Link) (p : Dot) → f d ≡ o → parent_by f o ≡ Some p
     → IsParent f d p
 by-sound f d None p at h = absurd (cc)
@@ -50,16 +50,19 @@ parent_of-complete f d p a = ap (parent_by f) a.here
     ∙ (ap (parent_named f a.link) a.names
     ∙ cond-true _ _ _ (ap (fits_over a.link) a.there ∙ a.fitting))
 
+-- a link that is a code's, by the test, is Code
 is_code-sound : (o : Option Link) → is_code_link o ≡ true → o ≡ Some Code
 is_code-sound None h = absurd (true≢false (sym h))
 is_code-sound (Some Code) h = refl
 is_code-sound (Some (Redeems d)) h = absurd (true≢false (sym h))
 is_code-sound (Some (Rotates d g)) h = absurd (true≢false (sym h))
 
+-- a code is under itself
 here-sound : (f : Links) (d c : Dot) → is_code_link (f d) ≡ true → Some d ≡ Some c → IsUnder f d c
 here-sound f d c is h = let same : d ≡ c = cc in
     record { path = []; leads = (same, ap f (sym same) ∙ is_code-sound (f d) is) }
 
+-- a dot is under the code that is found from its parent
 step-sound : (f : Links) (n : ℕ) (d c : Dot) (o : Option Dot)
     → ((q : Dot) → code_by f n q ≡ Some c → IsUnder f q c) → parent_of f d ≡ o
     → option_and_then (code_by f n) o ≡ Some c → IsUnder f d c
@@ -84,9 +87,11 @@ pub code_here : (f : Links) (n : ℕ) (d : Dot) → is_code_link (f d) ≡ true 
 code_here f zero d is = cond-true _ _ _ is
 code_here f (suc n) d is = cond-true _ _ _ is
 
+-- a dot with a parent is no code
 not_code : (f : Links) (d p : Dot) → IsParent f d p → is_code_link (f d) ≡ true → ⊥
 not_code f d p a is = IsParent-code f d p (is_code-sound (f d) is) a
 
+-- a code that is found from the parent is found from the dot in one step more
 code_more : (f : Links) (n : ℕ) (d p c : Dot) → IsParent f d p → 1 ≤ n
     → ((m : ℕ) → m + 1 ≡ n → code_by f m p ≡ Some c) → code_by f n d ≡ Some c
 code_more f zero d p c a low rest = absurd (omega arith)

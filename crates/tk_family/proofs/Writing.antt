@@ -1,4 +1,8 @@
--- What the steps of a forest write into the rows.
+-- What the steps of a forest write into the rows. Key results:
+--   changed                        a row that was changed in its place, and the others as they were
+--   added, dropped                 a blank row is put at a dot that has none, and taken out again
+--   longer, fewer                  how many rows there are after a step
+--   settled-more, unsettled-more   one more dot of a list has got its code, or has lost it
 use Rattle.std.specs.FinMap as map
 use Rattle.std.proofs.Common.{◌≡◌, ◌≤◌, ◌-◌, ◌+◌, inl, inr, Bool, ℕ, arith, true, false, cond}
 use Rattle.std.proofs.Common.{Option, None, Some, List, [], ◌∷◌, ◌++◌, option_map, is_some, ap, sym}
@@ -32,10 +36,12 @@ changed T N at r row F here written new q = elim (cases_Bool (dot_eq at q)) [
 
 -- ---- a row is written at each dot of a list
 
+-- to write a code twice is to write it once
 twice_coded : (o : Option Row) (c : Dot) → with_code (with_code o c) c ≡ with_code o c
 twice_coded None c = refl
 twice_coded (Some r) c = refl
 
+-- to clear a code twice is to clear it once
 twice_cleared : (o : Option Row) → without_code (without_code o) ≡ without_code o
 twice_cleared None = refl
 twice_cleared (Some r) = refl
@@ -105,14 +111,17 @@ added m n at r is none empty q =
 
 -- ---- how many rows there are
 
+-- a row that is put in place of a row is there
 some_mapped : (o : Option Row) (row : Row) → is_some o ≡ true → option_map (λ _. row) o ≡ Some row
 some_mapped None row h = absurd (cc)
 some_mapped (Some r) row h = refl
 
+-- nothing is put in place of no row
 none_mapped : (o : Option Row) (row : Row) → is_some o ≡ false → option_map (λ _. row) o ≡ o
 none_mapped None row h = refl
 none_mapped (Some r) row h = absurd (cc)
 
+-- tables with the same row at each dot are equal
 same_maps : (m n : RowMap) → ((q : Dot) → map.get n q ≡ map.get m q) → n ≡ m
 same_maps m n h = map.same_map dot_cmp_total dot_cmp-IsAntisymmetric n m h
 
@@ -141,6 +150,7 @@ same_len m n at row h = elim (cases_Bool (map.contains_key m at)) [
   ])))
 ]
 
+-- a number that is another, or one more, is at most one more
 one_more : (b : Bool) (x y : ℕ) → x ≡ cond b y (y + 1) → x ≤ y + 1
 one_more true x y h = omega arith
 one_more false x y h = omega arith
@@ -158,6 +168,7 @@ dropped m n at is q = ap (λ (x : RowMap). map.get x q) is
     ∙ (map.get-remove dot_cmp_total m at q
     ∙ ap (λ (b : Bool). cond b None (map.get m q)) (dots_equiv.symm q at))
 
+-- a number that is another, or one less, is at most the other
 less_one : (b : Bool) (x y : ℕ) → x ≡ cond b (y - 1) y → x ≤ y
 less_one true x y h = omega arith
 less_one false x y h = omega arith

@@ -14,13 +14,13 @@ pub(crate) struct Child {
 
 ghost use Rattle.std.specs.Prelude.{◌≡◌, OnOk, OnErr, true, false, if◌then◌else◌, take, length};
 ghost use Rattle.std.specs.BTreeSet.{IsOrdered};
+ghost use Rattle.tk_handle.specs.Dot.{IsDot, least_dot, greatest_dot};
+ghost use Rattle.tk_handle.specs.declared.dot.Dot.{Dot as the_dot};
+ghost use Rattle.tk_handle.specs.declared.token_id.TokenId.{TokenId as the_token};
 ghost use Rattle.tk_family.specs.Children.{child_cmp, child_key, is_child};
 ghost use Rattle.tk_family.specs.Children.{others_in, users_in, first_user, TakesUser, Promotes};
 ghost use Rattle.tk_family.specs.Families.{used_by};
 ghost use Rattle.tk_family.specs.Uses.{used_kind};
-ghost use Rattle.tk_handle.specs.declared.dot.Dot.{Dot as the_dot};
-ghost use Rattle.tk_handle.specs.declared.token_id.TokenId.{TokenId as the_token};
-ghost use Rattle.tk_handle.specs.Dot.{IsDot, least_dot, greatest_dot};
 
 use crate::link::Link;
 use std::alloc::AllocError;

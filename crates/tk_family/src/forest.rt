@@ -69,11 +69,11 @@ impl Model for Forest {
 
     ghost coded = { coded_forest };
 
-    ghost use Rattle.tk_family.specs.View.{seen};
+    ghost use Rattle.std.specs.Prelude.{◌≤◌, vec_capacity};
+    ghost use Rattle.std.specs.FinMap as map;
     ghost use Rattle.tk_family.specs.Kept.{IsForest, IsHung};
     ghost use Rattle.tk_family.specs.Rows.{table};
-    ghost use Rattle.std.specs.FinMap as map;
-    ghost use Rattle.std.specs.Prelude.{◌≤◌, vec_capacity};
+    ghost use Rattle.tk_family.specs.View.{seen};
 
     ghost view = { λ a. seen a.rows };
 
@@ -82,17 +82,17 @@ impl Model for Forest {
 }
 
 impl Forest {
-    ghost use Rattle.std.specs.FinMap as map;
-    ghost use Rattle.std.specs.FinSet as set;
-    ghost use Rattle.std.specs.List.{IsDistinct};
     ghost use Rattle.std.specs.Prelude.{◌≡◌, ◌+◌, ◌^◌, ◌<◌, ◌≤◌, ◌↔◌, None, true, OnOk, OnErr};
     ghost use Rattle.std.specs.Prelude.{IfOk, IsOk, IsSome, IsTrue, IsSorted, if◌then◌else◌, false};
     ghost use Rattle.std.specs.Prelude.{Some, IfNone, IfSome};
+    ghost use Rattle.std.specs.FinMap as map;
+    ghost use Rattle.std.specs.FinSet as set;
+    ghost use Rattle.std.specs.List.{IsDistinct};
+    ghost use Rattle.tk_handle.specs.Dot.{dot_cmp};
     ghost use Rattle.tk_family.specs.Dots.{dot_eq, has};
     ghost use Rattle.tk_family.specs.Families.{IsUsed, use_of};
     ghost use Rattle.tk_family.specs.ForestFacts.{links_at, marks_at};
     ghost use Rattle.tk_family.specs.Tops.{IsTop, IsRaised};
-    ghost use Rattle.tk_handle.specs.Dot.{dot_cmp};
 
     /// Returns a forest without links and marks.
     pub fn new(alloc: Global) -> Forest
@@ -107,8 +107,8 @@ impl Forest {
         }
     }
 
-    /// Puts a link at a dot that has none. Returns the dots that the link brings under a code, in
-    /// order.
+    /// Puts a link at a dot that has none: the caller's store, which has a fact at each dot of a
+    /// link, tells. Returns the dots that the link brings under a code, in order.
     ///
     /// Fails if memory runs out; the forest is unchanged then.
     pub fn put(&mut self, dot: Dot, link: Link) -> Result<Vec<Dot>, AllocError>
@@ -142,7 +142,8 @@ impl Forest {
         mark_within(&mut self.rows, &mut self.room, token)
     }
 
-    /// Removes the link at a dot, the marks of the dot's tokens, and what followed from them.
+    /// Removes the link at a dot, the marks of the dot's tokens, and what followed from them. The
+    /// dot has a link: the caller's store tells.
     ///
     /// What hung below the dot is under no code any more. A family that was dead only because of
     /// the link or the marks is alive again. Takes no memory.

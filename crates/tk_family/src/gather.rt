@@ -1,13 +1,13 @@
 //! Gathering all that hangs below a dot, in a list that is its own queue.
 
-ghost use Rattle.std.specs.FinMap as map;
 ghost use Rattle.std.specs.Prelude.{◌≡◌, ◌<◌, ◌≤◌, ◌++◌, ◌∷◌, [], None, OnOk, OnErr, IfOk};
 ghost use Rattle.std.specs.Prelude.{IsSome, if◌then◌else◌, vec_capacity};
-ghost use Rattle.tk_family.specs.declared.link.Link.{Link as the_link};
+ghost use Rattle.std.specs.FinMap as map;
 ghost use Rattle.tk_family.specs.Kept.{IsHung};
 ghost use Rattle.tk_family.specs.Puts.{fits_at, with_link, IsFull, Pushes, Gathers};
 ghost use Rattle.tk_family.specs.Rows.{table, links_of, grant_kind};
 ghost use Rattle.tk_family.specs.Takes.{IsShort};
+ghost use Rattle.tk_family.specs.declared.link.Link.{Link as the_link};
 
 use crate::children::{Child, span};
 use crate::link::Link;

@@ -1,9 +1,9 @@
 //! Look-ups of one row each.
 
 ghost use Rattle.std.specs.Prelude.{◌≡◌};
+ghost use Rattle.tk_family.specs.Puts.{fits_at};
 ghost use Rattle.tk_family.specs.Rows.{table, link_in, code_in, count_in, dead_in, first_in};
 ghost use Rattle.tk_family.specs.Rows.{marked_in, used_in, bad_in};
-ghost use Rattle.tk_family.specs.Puts.{fits_at};
 ghost use Rattle.tk_family.specs.Walks.{fits_over};
 ghost use Rattle.tk_family.specs.Writes.{is_blank_row, bads};
 

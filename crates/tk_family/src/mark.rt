@@ -1,7 +1,7 @@
 //! Marking a token.
 
-ghost use Rattle.std.specs.FinMap as map;
 ghost use Rattle.std.specs.Prelude.{◌≡◌, ◌≤◌, ◌+◌, vec_capacity, OnOk, OnErr, IsSome, IsOk};
+ghost use Rattle.std.specs.FinMap as map;
 ghost use Rattle.tk_family.specs.Kept.{IsForest};
 ghost use Rattle.tk_family.specs.Puts.{MarksOne, NothingSeen};
 ghost use Rattle.tk_family.specs.Rows.{table, links_of};

@@ -33,8 +33,8 @@ pub(crate) struct PackedRow {
 }
 
 impl Model for PackedRow {
-    ghost use Rattle.tk_family.specs.declared.row.Row.{Row};
     ghost use Rattle.tk_family.specs.Packed.{dot_from, link_from, IsDotFrom};
+    ghost use Rattle.tk_family.specs.declared.row.Row.{Row};
 
     ghost Value = { Row };
 

@@ -1,17 +1,17 @@
 //! Putting a link.
 
-ghost use Rattle.std.specs.FinMap as map;
 ghost use Rattle.std.specs.Prelude.{◌≡◌, ◌≤◌, ◌+◌, vec_capacity, true, false, None, OnOk, OnErr};
 ghost use Rattle.std.specs.Prelude.{IfOk, IsSome, [], IsSorted};
+ghost use Rattle.std.specs.FinMap as map;
+ghost use Rattle.tk_handle.specs.Dot.{IsDot, dot_cmp};
+ghost use Rattle.tk_handle.specs.declared.dot.Dot.{Dot as the_dot};
+ghost use Rattle.tk_family.specs.Children.{others_in, IsSame};
 ghost use Rattle.tk_family.specs.Counts.{IsCounted};
 ghost use Rattle.tk_family.specs.Families.{named_by};
-ghost use Rattle.tk_family.specs.Children.{others_in, IsSame};
 ghost use Rattle.tk_family.specs.Kept.{IsForest, IsHung};
 ghost use Rattle.tk_family.specs.Puts.{Gathers, Hung, Lists, Puts, NothingSeen, first_after};
 ghost use Rattle.tk_family.specs.Rows.{table, first_in, links_of};
 ghost use Rattle.tk_family.specs.Writes.{chain_code};
-ghost use Rattle.tk_handle.specs.Dot.{IsDot, dot_cmp};
-ghost use Rattle.tk_handle.specs.declared.dot.Dot.{Dot as the_dot};
 
 use crate::children::{Child, list_child, used};
 use crate::gather::gather;

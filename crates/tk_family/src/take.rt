@@ -2,9 +2,10 @@
 //!
 //! Nothing here takes memory: the caller passes a list that has room for the dots of all rows.
 
-ghost use Rattle.std.specs.FinMap as map;
 ghost use Rattle.std.specs.Prelude.{◌≡◌, ◌≢◌, ◌≤◌, true, Some, None, IsSome, vec_capacity};
 ghost use Rattle.std.specs.BTreeSet.{IsOrdered};
+ghost use Rattle.std.specs.FinMap as map;
+ghost use Rattle.tk_handle.specs.declared.dot.Dot.{Dot as the_dot};
 ghost use Rattle.tk_family.specs.Children.{child_cmp, others_in, token_at};
 ghost use Rattle.tk_family.specs.Counts.{IsCount, IsCounted};
 ghost use Rattle.tk_family.specs.Kept.{has_dot, Hangs, IsHung, IsForest};
@@ -15,7 +16,6 @@ ghost use Rattle.tk_family.specs.Takes.{without, with_first, HasUses, KeptBut, U
 ghost use Rattle.tk_family.specs.Takes.{first_uses, counted};
 ghost use Rattle.tk_family.specs.Takes.{Clears, Takes, Unmarks};
 ghost use Rattle.tk_family.specs.Uses.{uses_it, uses_by};
-ghost use Rattle.tk_handle.specs.declared.dot.Dot.{Dot as the_dot};
 
 use crate::children::{Child, drop_child, promote, used_kind, users_up_to_two};
 use crate::gather::gather_into;

@@ -1,8 +1,9 @@
 //! Writes of rows. Only `add_row` takes memory.
 
-ghost use Rattle.std.specs.FinMap as map;
 ghost use Rattle.std.specs.Prelude.{◌≡◌, ◌<◌, ◌≤◌, ◌+◌, ◌^◌, Some, None, OnOk, OnErr, IsOk, IsSome};
 ghost use Rattle.std.specs.Prelude.{if◌then◌else◌, option_map};
+ghost use Rattle.std.specs.FinMap as map;
+ghost use Rattle.tk_handle.specs.declared.dot.Dot.{Dot as the_dot};
 ghost use Rattle.tk_family.specs.Counts.{IsCounted, IsCountedAs, AlikeButCount};
 ghost use Rattle.tk_family.specs.Dots.{dot_eq};
 ghost use Rattle.tk_family.specs.Rows.{table, code_in, count_in};
@@ -10,7 +11,6 @@ ghost use Rattle.tk_family.specs.Writes.{or_blank, with_code, with_count, with_p
 ghost use Rattle.tk_family.specs.Writes.{with_rotator, with_users, with_marked, without_code};
 ghost use Rattle.tk_family.specs.Writes.{without_link, without_mark, hung, bads, settled, raised};
 ghost use Rattle.tk_family.specs.Writes.{unsettled, cleared};
-ghost use Rattle.tk_handle.specs.declared.dot.Dot.{Dot as the_dot};
 
 use crate::link::Link;
 use crate::look::{bad_among, code_at, count_at, is_bad};

@@ -1,6 +1,6 @@
 use Rattle.std.specs.Option.{option_map}
 use Rattle.std.specs.declared.ops.Bound.TheVariants.{Excluded, Unbounded}
-use Rattle.tk_dots.proofs.OrderLaws.{range_excluded, range_all, range_has}
+use Rattle.tk_dots.proofs.NextLaws.{range_excluded, range_all, range_has}
 use Rattle.tk_dots.proofs.pages.first_of_pages.Goals as goal
 
 pub first_on-requires : goal.first_on-requires

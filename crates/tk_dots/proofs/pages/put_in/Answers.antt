@@ -3,8 +3,10 @@ use Rattle.std.proofs.Common.{get_or, is_some, Option, Some, None}
 use Rattle.std.specs.BTreeMap.{get}
 use Rattle.tk_handle.specs.Dot.{dot_cmp}
 use Rattle.tk_dots.specs.Pages.{Slots, slot_in, IsPage}
-use Rattle.tk_dots.proofs.PageLaws.{cells_updated, cells_kept, pages_updated, same_lookups, on_ok}
-use Rattle.tk_dots.proofs.PageLaws.{on_err, on_both, page_one, page_put}
+use Rattle.tk_dots.proofs.PageLaws.{cells_updated, cells_kept, pages_updated, same_lookups}
+use Rattle.tk_handle.proofs.TestLaws.{ok_then as on_ok}
+use Rattle.tk_dots.proofs.PageLaws.{on_both, page_one, page_put}
+use Rattle.tk_handle.proofs.TestLaws.{err_then as on_err}
 use Rattle.tk_dots.proofs.pages.put_in.Goals as goal
 use Rattle.std.proofs.lemmas.Option.{same_Some as some_same}
 use Rattle.tk_handle.proofs.TestLaws.{none_of}

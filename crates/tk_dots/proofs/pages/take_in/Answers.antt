@@ -1,5 +1,5 @@
 use Rattle.std.proofs.Common.{◌≡◌, ◌∙◌, ap, sym, subst, arith, ℕ, ◌==◌, ◌<◌, cond}
-use Rattle.std.proofs.Common.{length, is_some, Option, Some, None, Bool, true}
+use Rattle.std.proofs.Common.{length, is_some, Option, Some, None, Bool}
 use Rattle.std.proofs.Common.{false, eqb-true as nat_same}
 use Rattle.std.specs.BTreeMap.{get}
 use Rattle.tk_handle.specs.Dot.{dot_cmp}
@@ -10,6 +10,7 @@ use Rattle.tk_dots.proofs.PageLaws.{cells_updated, pages_updated, taken_out, pag
 use Rattle.tk_dots.proofs.pages.take_in.Goals as goal
 use Rattle.std.proofs.lemmas.Option.{none-some as none_is, same_Some as some_same}
 
+-- a number that isn't 0 is above 0
 some_left : (n : ℕ) (b : Bool) → b ≡ (n == 0) → b ≡ false → 0 < n
 some_left n b e h = grind (arith, nat_tests)
 

@@ -5,6 +5,7 @@ use Rattle.tk_dots.proofs.PlaceLaws.{dot_is}
 use Rattle.tk_dots.proofs.RunLaws.{end_some, end_none}
 use Rattle.tk_dots.proofs.runs.end_above.Goals as goal
 
+-- the dot with the next serial is the one right above
 next_is : (next d : Dot) (region serial : ℕ)
     → next ≡ record { region = region; serial = serial + 1 } → region ≡ d.region → serial ≡ d.serial
     → next ≡ dot_of d.region (d.serial + 1)

@@ -1,4 +1,4 @@
-use Rattle.std.proofs.Common.{◌≡◌, ◌<◌, ◌≤◌, ◌-◌, ℕ, None}
+use Rattle.std.proofs.Common.{◌≡◌, ◌<◌, ◌≤◌, ℕ, None}
 use Rattle.std.proofs.Common.{slice_index_or}
 use Rattle.tk_dots.proofs.slots.first_from.Given as goal
 

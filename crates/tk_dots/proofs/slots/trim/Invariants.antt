@@ -1,4 +1,4 @@
-use Rattle.std.proofs.Common.{◌≡◌, ◌≤◌, ◌-◌, ℕ, None}
+use Rattle.std.proofs.Common.{◌≡◌, ◌≤◌, ℕ, None}
 use Rattle.std.proofs.Common.{slice_index_or, vec_len}
 use Rattle.tk_dots.proofs.slots.trim.Given as goal
 

@@ -1,4 +1,4 @@
-use Rattle.std.proofs.Common.{◌≡◌, Bool, true, false, cond, Option, None, Some, IsSome, refl, sym}
+use Rattle.std.proofs.Common.{◌≡◌, Bool, true, false, cond, Option, Some, IsSome, sym}
 use Rattle.std.proofs.Common.{subst, arith}
 use Rattle.std.proofs.lemmas.Grind.{common_steps}
 use Rattle.tk_handle.specs.declared.dot.Dot.{Dot}
@@ -6,26 +6,16 @@ use Rattle.tk_family.specs.declared.row.Row.{Row}
 use Rattle.tk_family.specs.Dots.{dot_eq}
 use Rattle.tk_family.specs.Rows.{Rows, table}
 use Rattle.tk_family.specs.Writes.{or_blank}
-use Rattle.tk_family.proofs.DotLaws.{dot_eq-same}
 use Rattle.tk_family.proofs.Columns.{Alike-blank, Alike-same, Alike-then, NothingSeen-alike}
+use Rattle.tk_family.proofs.Columns.{blank_there, present-blank}
 use Rattle.tk_family.proofs.put.make_room.Goals as goal
-
--- a row that is made is there
-some_blank : (row : Option Row) → IsSome (or_blank row)
-some_blank None = refl
-some_blank (Some row) = refl
-
-made_there : (T N : Rows) (at : Dot) → ((q : Dot) → N q ≡ cond (dot_eq at q) (or_blank (T q)) (T q))
-    → IsSome (N at)
-made_there T N at h = subst (λ (row : Option Row). IsSome row) (sym (h at))
-    (subst (λ (b : Bool). IsSome (cond b (or_blank (T at)) (T at))) (sym (dot_eq-same at))
-    (some_blank (T at)))
 
 -- a row that was there before is still there
 some_either : (b : Bool) (row : Option Row) → IsSome row → IsSome (cond b (or_blank row) row)
-some_either true row is = some_blank row
+some_either true row is = blank_there row
 some_either false row is = is
 
+-- a row that was there is there once the rows have a blank one at a dot
 stays_there : (T N : Rows) (at p : Dot)
     → ((q : Dot) → N q ≡ cond (dot_eq at q) (or_blank (T q)) (T q)) → IsSome (T p) → IsSome (N p)
 stays_there T N at p h is =
@@ -68,17 +58,17 @@ returns-in_default-clause-same c = NothingSeen-alike _ _ c.requires
 pub returns-in_ok-add_row-2-clause-own : goal.returns-in_ok-add_row-2-clause-own
 returns-in_ok-add_row-2-clause-own c = stays_there (table c.add_row.new.rows)
     (table c.add_row-in-Some.new.rows) c.in-Some.above c.args.dot c.in_ok-add_row-2.ensures.ok
-    (made_there (table c.args.rows.now) (table c.add_row.new.rows) c.args.dot
+    (present-blank (table c.args.rows.now) (table c.add_row.new.rows) c.args.dot
     c.in_ok-add_row.ensures.ok)
 
 pub returns-in_ok-add_row-2-clause-named : goal.returns-in_ok-add_row-2-clause-named
 returns-in_ok-add_row-2-clause-named c =
     named_there (table c.add_row-in-Some.new.rows) c.in-Some.above _ _ c.named.ensures c.in-Some.is
-    (made_there (table c.add_row.new.rows) (table c.add_row-in-Some.new.rows) c.in-Some.above
+    (present-blank (table c.add_row.new.rows) (table c.add_row-in-Some.new.rows) c.in-Some.above
     c.in_ok-add_row-2.ensures.ok)
 
 pub returns-in_default-clause-own : goal.returns-in_default-clause-own
-returns-in_default-clause-own c = made_there (table c.args.rows.now) (table c.add_row.new.rows)
+returns-in_default-clause-own c = present-blank (table c.args.rows.now) (table c.add_row.new.rows)
     c.args.dot c.in_ok-add_row.ensures.ok
 
 pub returns-in_default-clause-named : goal.returns-in_default-clause-named

@@ -11,10 +11,11 @@ use Rattle.tk_family.specs.Rows.{RowMap, Rows, table, links_of, firsts_of}
 use Rattle.tk_family.specs.Uses.{uses_by}
 use Rattle.tk_family.specs.Writes.{without_link}
 use Rattle.tk_family.proofs.Columns.{no_name}
+use Rattle.tk_family.proofs.Gathering.{link_row}
 use Rattle.tk_family.proofs.HangLaws.{named_token}
 use Rattle.tk_family.proofs.HangRemovalLaws.{Hangs-code}
 use Rattle.tk_family.proofs.Unlinking.{Loose-code, Loose-from, Unlinks-from, Hangs-unlinked}
-use Rattle.tk_family.proofs.Unlinking.{link_row, IsCountedAs-unhangs, IsCount-bare}
+use Rattle.tk_family.proofs.Unlinking.{IsCountedAs-unhangs, IsCount-bare}
 use Rattle.tk_family.proofs.take.unlink.Goals as goal
 use Rattle.tk_family.proofs.take.unlink.Goals.{in-Some, in_default}
 

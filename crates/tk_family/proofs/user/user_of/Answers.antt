@@ -7,10 +7,12 @@ use Rattle.tk_family.proofs.ChildLaws.{first_listed, none_listed}
 use Rattle.tk_family.proofs.UserLaws.{unnamed_unused, listed_uses, unlisted_unused}
 use Rattle.tk_family.proofs.user.user_of.Goals as goal
 
+-- what holds of each value that an option has holds if the option is Some
 on_some : {X : Type 0} (o : Option X) (P : X → Type 0) → ((x : X) → o ≡ Some x → P x) → IfSome o P
 on_some None P h = tt
 on_some (Some x) P h = h x refl
 
+-- what follows from an option that is None holds if the option is None
 on_none : {X : Type 0} (o : Option X) (P : Type 0) → (o ≡ None → P) → IfNone o P
 on_none None P h = h refl
 on_none (Some x) P h = tt

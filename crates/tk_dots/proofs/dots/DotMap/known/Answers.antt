@@ -1,4 +1,4 @@
-use Rattle.tk_dots.proofs.OrderLaws.{dots_high}
+use Rattle.tk_dots.proofs.NextLaws.{dots_high}
 use Rattle.tk_dots.proofs.dots.DotMap.known.Goals as goal
 
 pub returns : goal.returns

@@ -1,6 +1,6 @@
 use Rattle.std.proofs.Common.{◌≡◌, subst, arith, ◌+◌, ◌*◌, ◌-◌, length}
 use Rattle.tk_dots.specs.Pages.{IsLast, span}
-use Rattle.tk_dots.proofs.OrderLaws.{last_is, last_none}
+use Rattle.tk_dots.proofs.NextLaws.{last_is, last_none}
 use Rattle.tk_dots.proofs.dots.DotMap.last_serial.Goals as goal
 
 pub overflow_sub-result-in-Some : goal.overflow_sub-result-in-Some

@@ -2,7 +2,7 @@ use Rattle.std.proofs.Common.{sym, subst, Option, Some}
 use Rattle.std.specs.Option.{option_map}
 use Rattle.tk_handle.specs.declared.dot.Dot.{Dot}
 use Rattle.tk_dots.specs.Pages.{IsNext, FirstOfPages}
-use Rattle.tk_dots.proofs.OrderLaws.{next_here, next_or_none, first_or_none}
+use Rattle.tk_dots.proofs.NextLaws.{next_here, next_or_none, first_or_none}
 use Rattle.tk_dots.proofs.dots.DotMap.next_after.Goals as goal
 
 pub returns-in-Some-rest_of_page : goal.returns-in-Some-rest_of_page

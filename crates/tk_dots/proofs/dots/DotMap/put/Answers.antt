@@ -1,8 +1,9 @@
-use Rattle.std.proofs.Common.{◌∙◌, sym, true, false, Result, Ok, Err}
+use Rattle.std.proofs.Common.{◌∙◌, sym, Result, Ok, Err}
 use Rattle.std.proofs.Common.{OnErr}
 use Rattle.tk_dots.proofs.CellLaws.{seen_put, seen_same, paged_new, paged_over, paged_same}
 use Rattle.tk_dots.proofs.dots.DotMap.put.Goals as goal
 
+-- what holds in any case holds if the result is an error
 err_of : {A E : Type 0} {P : Type 0} (r : Result A E) → P → OnErr r P
 err_of (Ok a) p = tt
 err_of (Err e) p = p

@@ -1,4 +1,4 @@
-use Rattle.std.proofs.Common.{◌∙◌, sym, ap, is_some, true, false}
+use Rattle.std.proofs.Common.{◌∙◌, sym, ap, is_some}
 use Rattle.tk_dots.proofs.CellLaws.{get_here, seen_taken, some_counted, paged_less, paged_none}
 use Rattle.tk_dots.proofs.dots.DotMap.take.Goals as goal
 

@@ -6,6 +6,7 @@ use Rattle.tk_dots.proofs.RunAddLaws.{added_runs, added}
 use Rattle.tk_dots.proofs.runs.DotRuns.add.Goals as goal
 use Rattle.tk_handle.proofs.TestLaws.{on_ok}
 
+-- a result has what holds of a success, or what holds of an error
 either : {A E P Q : Type 0} (r : Result A E) → OnOk r P → OnErr r Q → P ⊎ Q
 either (Ok a) p q = inl p
 either (Err e) p q = inr q

@@ -1,5 +1,4 @@
-use Rattle.std.proofs.Common.{◌≡◌, ap, sym, ◌∙◌, OnErr, Result, Ok, Err, Vec, Global, true}
-use Rattle.std.specs.declared.alloc.AllocError.{AllocError}
+use Rattle.std.proofs.Common.{◌≡◌, ap, sym, ◌∙◌, true}
 use Rattle.std.specs.FinMap as map
 use Rattle.tk_handle.specs.declared.dot.Dot.{Dot}
 use Rattle.tk_family.specs.Dots.{dot_eq, has}
@@ -11,6 +10,7 @@ use Rattle.tk_family.specs.ForestFacts.{ForestFacts, links_at}
 use Rattle.tk_family.specs.View.{seen, seen_links, seen_marks}
 use Rattle.tk_family.proofs.Viewing.{get-links, seen_same, links_put, marks_same}
 use Rattle.tk_family.proofs.Modelling.{raised_seen, raised_back, raised_all, if_ok}
+use Rattle.tk_handle.proofs.TestLaws.{err_then}
 use Rattle.tk_family.proofs.forest.Forest.put.Goals as goal
 
 pub put_within-requires-clause-free : goal.put_within-requires-clause-free
@@ -54,15 +54,11 @@ returns-clause-all_raised c =
     (λ v p q r. raised_all (table m) (table n) c.args.dot c.args.link v.items p q
     (raised_back m n c.args.self.now c.self.view_is q r))
 
-on_err : (r : Result (Vec Dot Global) AllocError) (P Q : Type 0) → OnErr r P → (P → Q) → OnErr r Q
-on_err (Ok v) P Q h f = tt
-on_err (Err e) P Q h f = f h
-
 pub returns-clause-err : goal.returns-clause-err
 returns-clause-err c =
     let m = c.self.inside.rows in
     let n = c.put_within.new.rows in
-    on_err c.put_within.result (NothingSeen (table m) (table n)) (seen n ≡ c.args.self.now)
+    err_then c.put_within.result (NothingSeen (table m) (table n)) (seen n ≡ c.args.self.now)
     c.put_within.ensures.err (λ s. seen_same m n s.links s.marks ∙ c.self.view_is)
 
 pub returns-clause-distinct : goal.returns-clause-distinct
