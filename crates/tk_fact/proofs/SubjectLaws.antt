@@ -7,9 +7,11 @@ use Rattle.std.proofs.lemmas.Bool.Decides.{nat_tests}
 use Rattle.tk_fact.specs.FieldLaws.{both_true}
 use Rattle.tk_fact.specs.Subject.{is_subject, is_visible}
 
+-- a visible character is ASCII
 visible_ascii : (b : ℕ) → is_visible b ≡ true → b < 128
 visible_ascii b h = grind (arith, nat_tests)
 
+-- a text of visible characters is ASCII
 all_ascii : (text : List ℕ) → list_all is_visible text ≡ true → IsAscii text
 all_ascii [] h i = omega arith
 all_ascii (b ∷ text) h zero = let s = visible_ascii b (both_true _ _ h).0 in omega arith

@@ -8,12 +8,18 @@ use Rattle.tk_match.specs.Challenge.{ChallengeFields, is_verifier}
 use Rattle.tk_match.specs.Redirects.{is_uri}
 use Rattle.tk_fact.specs.declared.body.Body.{Body}
 use Rattle.tk_fact.specs.declared.body.Body.TheVariants as bodies
+use Rattle.tk_fact.specs.declared.by.By.{By}
 use Rattle.tk_fact.specs.declared.client_lives.ClientLives.{ClientLives}
 use Rattle.tk_fact.specs.declared.check.FactError.{FactError}
 use Rattle.tk_fact.specs.declared.minted_token.MintedToken.{MintedToken}
 use Rattle.tk_fact.specs.Subject.{is_subject}
 
 -- ---- the limits
+
+-- no operator, or an operator whose name is that of a subject
+abbrev pub is_by : Option By → Bool
+is_by None = true
+is_by (Some by) = is_subject by.operator
 
 -- no challenge, or a challenge whose text has the grammar (RFC 7636, 4.2)
 abbrev pub is_challenge : Option ChallengeFields → Bool
@@ -85,15 +91,17 @@ first_broken limits ranges =
     if limits then (if ranges then None else Some FactError.Range)
     else Some FactError.Limit
 
--- the first rule that a body breaks, if any. The limits: each subject, redirection URI and
--- challenge is within its length and its alphabet. The ranges: no expiry, nor the end of a family,
+-- the first rule that a body breaks, if any. The limits: each subject, operator, redirection URI
+-- and challenge is within its length and its alphabet. The ranges: no expiry, nor the end of a
+-- family,
 -- is before its start, and each life, generation, turn and kind of token is within its range
 abbrev pub refusal_of : Body → Option FactError
 refusal_of (bodies.ClientAdded fact) =
-    first_broken (list_all is_uri fact.redirects) (are_lives fact.lives)
-refusal_of (bodies.ClientRetired fact) = None
-refusal_of (bodies.ConsentGiven fact) = first_broken (is_subject fact.subject) true
-refusal_of (bodies.ConsentWithdrawn fact) = None
+    first_broken (is_by fact.by && list_all is_uri fact.redirects) (are_lives fact.lives)
+refusal_of (bodies.ClientRetired fact) = first_broken (is_by fact.by) true
+refusal_of (bodies.ConsentGiven fact) =
+    first_broken (is_by fact.by && is_subject fact.subject) true
+refusal_of (bodies.ConsentWithdrawn fact) = first_broken (is_by fact.by) true
 refusal_of (bodies.CodeIssued fact) =
     first_broken (is_subject fact.subject && is_uri fact.uri && is_challenge fact.challenge)
     (nat_le fact.start fact.expiry && nat_le fact.start fact.family_end)
@@ -102,9 +110,10 @@ refusal_of (bodies.CodeRedeemed fact) =
 refusal_of (bodies.RefreshRotated fact) =
     first_broken true (is_generation fact.generation
     && ends_after fact.start fact.access fact.refresh)
-refusal_of (bodies.TokenRevoked fact) = first_broken true (is_revocable fact.token.kind)
+refusal_of (bodies.TokenRevoked fact) =
+    first_broken (is_by fact.by) (is_revocable fact.token.kind)
 refusal_of (bodies.ReuseSeen fact) = first_broken true (is_used_once fact.token.kind)
-refusal_of (bodies.SubjectOut fact) = first_broken (is_subject fact.subject) true
+refusal_of (bodies.SubjectOut fact) = first_broken (is_by fact.by && is_subject fact.subject) true
 refusal_of (bodies.AccessRefreshed fact) =
     first_broken true (nat_le fact.start fact.access.expiry)
-refusal_of (bodies.SecretSet fact) = first_broken true (is_turn fact.turn)
+refusal_of (bodies.SecretSet fact) = first_broken (is_by fact.by) (is_turn fact.turn)

@@ -39,10 +39,10 @@ use Rattle.tk_fact.specs.Fields.{
   printed_scope_of,
   scope_field,
 }
-use Rattle.tk_fact.specs.Fields.{subject_field, uri_field, redirects_field, flag_code, flag_of}
-use Rattle.tk_fact.specs.Fields.{flag_field, challenge_tag, challenge_bytes, challenge_rest}
-use Rattle.tk_fact.specs.Fields.{ChallengeFits, challenge_with, challenge_cases, challenge_field}
-use Rattle.tk_fact.specs.Fields.{minted_field}
+use Rattle.tk_fact.specs.Fields.{by_field, subject_field, uri_field, redirects_field, flag_code}
+use Rattle.tk_fact.specs.Fields.{flag_of, flag_field, challenge_tag, challenge_bytes}
+use Rattle.tk_fact.specs.Fields.{challenge_rest, ChallengeFits, challenge_with, challenge_cases}
+use Rattle.tk_fact.specs.Fields.{challenge_field, minted_field}
 
 -- both of two tests that hold together hold
 pub both_true : (a b : Bool) → (a && b) ≡ true → (a ≡ true) × (b ≡ true)
@@ -141,6 +141,10 @@ subject_short t h =
 -- a subject has a spelling
 pub subject_fits : (t : List ℕ) → is_subject t ≡ true → subject_field.Fits t
 subject_fits t h = (omega (arith, subject_short t h), h)
+
+-- the law of the field of who and when
+pub by_exact : IsExact by_field
+by_exact = shaped_exact _ _ _ (both_exact _ _ subject_exact moment_exact) (λ _. refl) (λ _. refl)
 
 -- ---- redirection URIs
 

@@ -4,6 +4,7 @@
 --   lives_field       the lives that a client was registered with
 --   scope_field       a scope, by its printed form
 --   subject_field     a subject, by its name
+--   by_field          by whom and when a fact was administered
 --   uri_field         a redirection URI
 --   redirects_field   a list of redirection URIs
 --   flag_field        a yes or no
@@ -20,6 +21,7 @@ use Rattle.tk_scope.specs.Scope.{scope_of}
 use Rattle.tk_match.specs.Redirects.{is_uri, redirects_of}
 use Rattle.tk_match.specs.Challenge.{ChallengeFields, is_verifier}
 use Rattle.tk_handle.specs.Moment.{moment}
+use Rattle.tk_fact.specs.declared.by.By.{By}
 use Rattle.tk_fact.specs.declared.client_kind.ClientKind.{ClientKind}
 use Rattle.tk_fact.specs.declared.client_kind.ClientKind.TheVariants.{
   Public,
@@ -74,6 +76,11 @@ scope_field = partly printed_scope_of (λ s. s) text
 -- a subject: its name, as a text
 abbrev pub subject_field : Format (List ℕ)
 subject_field = only is_subject text
+
+-- by whom and when a fact was administered: the operator, the moment
+abbrev pub by_field : Format By
+by_field = shaped (λ (operator, at). record { operator = operator; moment = at })
+    (λ b. (b.operator, b.moment)) (subject_field ⊗ moment)
 
 -- a redirection URI, as a text
 abbrev pub uri_field : Format (List ℕ)

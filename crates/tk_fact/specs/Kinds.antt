@@ -1,5 +1,7 @@
 -- The fields of each kind of fact, in the order in which they are spelled (own). Facts that were
--- written keep this order, so it never changes.
+-- written keep this order, so it never changes. Behind the fields of a fact that was administered
+-- by
+-- an operator who was named, stands by whom and when.
 use Rattle.std.specs.Prelude.{ℕ, Bool, List, ◌++◌, Option, Some, None}
 use Rattle.std.specs.Int.{w16, w64}
 use Rattle.tk_format.specs.Format.{Format, ◌⊗◌, number, shaped}
@@ -7,8 +9,10 @@ use Rattle.tk_handle.specs.declared.dot.Dot.{Dot}
 use Rattle.tk_handle.specs.Moment.{moment}
 use Rattle.tk_handle.specs.DotBytes.{dot_field}
 use Rattle.tk_handle.specs.TokenId.{token}
+use Rattle.tk_handle.specs.declared.token_id.TokenId.{TokenId}
 use Rattle.tk_match.specs.Challenge.{ChallengeFields}
 use Rattle.tk_fact.specs.Fields.{
+  by_field,
   digest_field,
   client_kind_field,
   lives_field,
@@ -17,6 +21,8 @@ use Rattle.tk_fact.specs.Fields.{
   uri_field,
 }
 use Rattle.tk_fact.specs.Fields.{redirects_field, flag_field, challenge_field, minted_field}
+use Rattle.tk_fact.specs.Followed.{IfFits, bytes_behind, if_bare, if_followed}
+use Rattle.tk_fact.specs.declared.by.By.{By}
 use Rattle.tk_fact.specs.declared.client_kind.ClientKind.{ClientKind}
 use Rattle.tk_fact.specs.declared.client_lives.ClientLives.{ClientLives}
 use Rattle.tk_fact.specs.declared.client_added.ClientAdded.{ClientAdded}
@@ -40,13 +46,14 @@ Terms = ClientKind × (List ℕ × List (List ℕ))
 abbrev pub terms_of : ClientAdded → Terms
 terms_of f = (f.client_kind, (f.scope, f.redirects))
 
--- a client on these terms, without lives or with them
-abbrev pub client_on : Terms → Option ClientLives → ClientAdded
-client_on (client_kind, (scope, redirects)) lives = record {
+-- a client on these terms, without lives or with them, and by whom and when if that was named
+abbrev pub client_on : Terms → Option ClientLives → Option By → ClientAdded
+client_on (client_kind, (scope, redirects)) lives by = record {
   client_kind = client_kind;
   scope = scope;
   redirects = redirects;
   lives = lives;
+  by = by;
 }
 
 -- ClientAdded without lives: the terms
@@ -58,55 +65,51 @@ abbrev pub limited_terms : Format (Terms × ClientLives)
 limited_terms = client_terms ⊗ lives_field
 
 -- a client without lives, on the terms
-abbrev pub unlimited : Terms → ClientAdded
-unlimited terms = client_on terms None
+abbrev pub unlimited : Terms → Option By → ClientAdded
+unlimited terms by = client_on terms None by
 
--- a client with lives
-abbrev pub limited : Terms × ClientLives → ClientAdded
-limited (terms, lives) = client_on terms (Some lives)
+-- a client with lives, on the terms
+abbrev pub limited : Terms × ClientLives → Option By → ClientAdded
+limited (terms, lives) by = client_on terms (Some lives) by
 
 -- the terms of a client, if it has no lives
-abbrev pub if_unlimited : Terms → Option ClientLives → Option Terms
-if_unlimited terms None = Some terms
-if_unlimited terms (Some lives) = None
+abbrev pub if_unlimited : ClientAdded → Option Terms
+if_unlimited f = if_bare (Some (terms_of f)) f.lives
 
 -- the terms and the lives of a client, if it has lives
-abbrev pub if_limited : Terms → Option ClientLives → Option (Terms × ClientLives)
-if_limited terms None = None
-if_limited terms (Some lives) = Some (terms, lives)
+abbrev pub if_limited : ClientAdded → Option (Terms × ClientLives)
+if_limited f = if_followed (Some (terms_of f)) f.lives
 
--- the bytes of a client's fields: the terms, and the lives if it has any
-abbrev pub bytes_with : List ℕ → Option ClientLives → List ℕ
-bytes_with terms None = terms
-bytes_with terms (Some lives) = terms ++ lives_field.spell lives
-
--- the fields of a client in bytes
+-- the fields of a client in bytes: the terms, the lives, by whom and when
 abbrev pub client_bytes : ClientAdded → List ℕ
-client_bytes f = bytes_with (client_terms.spell (terms_of f)) f.lives
-
--- the lives of a client, if it has any, have a spelling
-abbrev pub LivesFit : Option ClientLives → Type 0
-LivesFit None = Unit {0}
-LivesFit (Some lives) = lives_field.Fits lives
+client_bytes f = client_terms.spell (terms_of f)
+    ++ (bytes_behind lives_field f.lives ++ bytes_behind by_field f.by)
 
 -- the fields of a client have a spelling
 abbrev pub ClientFits : ClientAdded → Type 0
-ClientFits f = client_terms.Fits (terms_of f) × LivesFit f.lives
+ClientFits f =
+    client_terms.Fits (terms_of f) × (IfFits lives_field f.lives × IfFits by_field f.by)
 
 -- ClientRetired: the dot of the client
-abbrev pub client_retired : Format ClientRetired
-client_retired = shaped (λ d. record { client = d }) (λ f. f.client) dot_field
+abbrev pub retirement_on : Dot → Option By → ClientRetired
+retirement_on client by = record { client = client; by = by }
 
 -- ConsentGiven: the dot of the client, the subject, the scope
-abbrev pub consent_given : Format ConsentGiven
-consent_given = shaped
-    (λ (client, (subject, scope)). record { client = client; subject = subject; scope = scope })
-    (λ f. (f.client, (f.subject, f.scope)))
-    (dot_field ⊗ (subject_field ⊗ scope_field))
+abbrev pub consent_terms : Format (Dot × (List ℕ × List ℕ))
+consent_terms = dot_field ⊗ (subject_field ⊗ scope_field)
+
+-- a consent with these fields
+abbrev pub consent_on : Dot × (List ℕ × List ℕ) → Option By → ConsentGiven
+consent_on (client, (subject, scope)) by =
+    record { client = client; subject = subject; scope = scope; by = by }
+
+-- the fields of a consent
+abbrev pub consent_fields : ConsentGiven → Dot × (List ℕ × List ℕ)
+consent_fields f = (f.client, (f.subject, f.scope))
 
 -- ConsentWithdrawn: the dot of the consent
-abbrev pub consent_withdrawn : Format ConsentWithdrawn
-consent_withdrawn = shaped (λ d. record { consent = d }) (λ f. f.consent) dot_field
+abbrev pub withdrawal_on : Dot → Option By → ConsentWithdrawn
+withdrawal_on consent by = record { consent = consent; by = by }
 
 -- the dots of an issued code: its client, and the consent on which it rests
 abbrev pub code_parties : Format (Dot × Dot)
@@ -179,20 +182,33 @@ refresh_rotated = shaped
     (dot_field ⊗ (number w16 ⊗ (moment ⊗ (minted_field ⊗ minted_field))))
 
 -- TokenRevoked: the name of the token, its digest, the dot of the client
-abbrev pub token_revoked : Format TokenRevoked
-token_revoked = shaped
-    (λ (token, (digest, client)). record { token = token; digest = digest; client = client })
-    (λ f. (f.token, (f.digest, f.client)))
-    (token ⊗ (digest_field ⊗ dot_field))
+abbrev pub revocation_terms : Format (TokenId × (List ℕ × Dot))
+revocation_terms = token ⊗ (digest_field ⊗ dot_field)
+
+-- a revocation with these fields
+abbrev pub revocation_on : TokenId × (List ℕ × Dot) → Option By → TokenRevoked
+revocation_on (token, (digest, client)) by =
+    record { token = token; digest = digest; client = client; by = by }
+
+-- the fields of a revocation
+abbrev pub revocation_fields : TokenRevoked → TokenId × (List ℕ × Dot)
+revocation_fields f = (f.token, (f.digest, f.client))
 
 -- ReuseSeen: the name of the token that was used again
 abbrev pub reuse_seen : Format ReuseSeen
 reuse_seen = shaped (λ t. record { token = t }) (λ f. f.token) token
 
 -- SubjectOut: the subject, and the moment of the sign-out
-abbrev pub subject_out : Format SubjectOut
-subject_out = shaped (λ (subject, at). record { subject = subject; moment = at })
-    (λ f. (f.subject, f.moment)) (subject_field ⊗ moment)
+abbrev pub sign_out_terms : Format (List ℕ × ℕ)
+sign_out_terms = subject_field ⊗ moment
+
+-- a sign-out with these fields
+abbrev pub sign_out_on : List ℕ × ℕ → Option By → SubjectOut
+sign_out_on (subject, at) by = record { subject = subject; moment = at; by = by }
+
+-- the fields of a sign-out
+abbrev pub sign_out_fields : SubjectOut → List ℕ × ℕ
+sign_out_fields f = (f.subject, f.moment)
 
 -- AccessRefreshed: the dot of the parent, the start, the access token
 abbrev pub access_refreshed : Format AccessRefreshed
@@ -202,9 +218,14 @@ access_refreshed = shaped
     (dot_field ⊗ (moment ⊗ minted_field))
 
 -- SecretSet: the dot of the client, the turn, the digest, the moment
-abbrev pub secret_set : Format SecretSet
-secret_set = shaped
-    (λ (client, (turn, (digest, at))).
-    record { client = client; turn = turn; digest = digest; moment = at })
-    (λ f. (f.client, (f.turn, (f.digest, f.moment))))
-    (dot_field ⊗ (number w64 ⊗ (digest_field ⊗ moment)))
+abbrev pub secret_terms : Format (Dot × (ℕ × (List ℕ × ℕ)))
+secret_terms = dot_field ⊗ (number w64 ⊗ (digest_field ⊗ moment))
+
+-- a secret that was set, with these fields
+abbrev pub secret_on : Dot × (ℕ × (List ℕ × ℕ)) → Option By → SecretSet
+secret_on (client, (turn, (digest, at))) by =
+    record { client = client; turn = turn; digest = digest; moment = at; by = by }
+
+-- the fields of a secret that was set
+abbrev pub secret_fields : SecretSet → Dot × (ℕ × (List ℕ × ℕ))
+secret_fields f = (f.client, (f.turn, (f.digest, f.moment)))

@@ -21,6 +21,8 @@ use Rattle.tk_match.specs.Challenge.{ChallengeFields, max_verifier_bytes}
 use Rattle.tk_handle.specs.declared.dot.Dot.{Dot}
 use Rattle.tk_handle.specs.DotBytes.{dot_field}
 use Rattle.tk_handle.specs.Moment.{moment}
+use Rattle.tk_handle.specs.declared.token_id.TokenId.{TokenId}
+use Rattle.tk_fact.specs.declared.by.By.{By}
 use Rattle.tk_fact.specs.declared.client_kind.ClientKind.{ClientKind}
 use Rattle.tk_fact.specs.declared.client_kind.ClientKind.TheVariants.{
   Public,
@@ -34,6 +36,7 @@ use Rattle.tk_fact.specs.declared.body.Body.{Body}
 use Rattle.tk_fact.specs.declared.body.Body.TheVariants as bodies
 use Rattle.tk_fact.specs.Subject.{max_subject_bytes}
 use Rattle.tk_fact.specs.Fields.{
+  by_field,
   client_kinds,
   client_kind_field,
   lives_field,
@@ -133,6 +136,13 @@ lives_short l =
     (both_short (number_spelling w64 l.refresh) (number_spelling w64 l.family) 8 8
     (omega (arith, number_length w64 l.refresh)) (omega (arith, number_length w64 l.family)))
 
+-- who and when have at most 138 bytes
+by_short : (by : By) → by_field.Fits by → length (by_field.spell by) ≤ 138
+by_short by fits =
+    both_short (text.spell by.operator) (number_spelling w64 by.moment) 130 8
+    (text_short by.operator max_subject_bytes (subject_short by.operator fits.0.1))
+    (moment_short by.moment)
+
 -- the terms of a client have at most 5,172 bytes
 terms_short : (t : fields.Terms) → fields.client_terms.Fits t
     → length (fields.client_terms.spell t) ≤ 5172
@@ -144,36 +154,173 @@ terms_short t fits =
       simp length-append at (redirects_short t.1.1 fits.1.1),
     ))
 
+-- the terms and the lives of a client have at most 5,196 bytes
+limited_short : (t : fields.Terms × ClientLives) → fields.limited_terms.Fits t
+    → length (fields.limited_terms.spell t) ≤ 5196
+limited_short t fits =
+    both_short (fields.client_terms.spell t.0) (lives_field.spell t.1) 5172 24
+    (terms_short t.0 fits.0) (lives_short t.1)
+
+-- the fields of a consent have at most 1,166 bytes
+consent_short : (t : Dot × (List ℕ × List ℕ)) → fields.consent_terms.Fits t
+    → length (fields.consent_terms.spell t) ≤ 1166
+consent_short t fits =
+    both_short (dot_field.spell t.0) (text.spell t.1.0 ++ text.spell t.1.1) 10 1156
+    (dot_short t.0)
+    (both_short (text.spell t.1.0) (text.spell t.1.1) 130 1026
+    (text_short t.1.0 max_subject_bytes (subject_short t.1.0 fits.1.0.1))
+    (scope_short t.1.1 fits.1.1))
+
+-- the fields of a revocation have at most 53 bytes
+revocation_short : (t : TokenId × (List ℕ × Dot)) → fields.revocation_terms.Fits t
+    → length (fields.revocation_terms.spell t) ≤ 53
+revocation_short t fits =
+    simp length-append (omega (
+      arith,
+      simp length-append at (dot_short t.0.dot),
+      fits.1.0,
+      simp length-append at (dot_short t.1.1),
+    ))
+
+-- the fields of a sign-out have at most 138 bytes
+sign_out_short : (t : List ℕ × ℕ) → fields.sign_out_terms.Fits t
+    → length (fields.sign_out_terms.spell t) ≤ 138
+sign_out_short t fits =
+    both_short (text.spell t.0) (number_spelling w64 t.1) 130 8
+    (text_short t.0 max_subject_bytes (subject_short t.0 fits.0.1)) (moment_short t.1)
+
+-- the fields of a secret that was set have at most 58 bytes
+secret_short : (t : Dot × (ℕ × (List ℕ × ℕ))) → fields.secret_terms.Fits t
+    → length (fields.secret_terms.spell t) ≤ 58
+secret_short t fits =
+    simp length-append (omega (
+      arith,
+      simp length-append at (dot_short t.0),
+      number_length w64 t.1.0,
+      fits.1.1.0,
+      moment_short t.1.1.1,
+    ))
+
 -- ---- lengths of bodies and facts
 
--- the body of a client has at most 8,000 bytes
-client_short : (t : fields.Terms) (o : Option ClientLives)
-    → body.Fits (bodies.ClientAdded (fields.client_on t o))
-    → length (body.spell (bodies.ClientAdded (fields.client_on t o))) ≤ 8000
+-- the body of a client without lives has at most 8,000 bytes
+unlimited_body_short : (t : fields.Terms) (o : Option By)
+    → body.Fits (bodies.ClientAdded (fields.unlimited t o))
+    → length (body.spell (bodies.ClientAdded (fields.unlimited t o))) ≤ 8000
 unfolding kinds
-client_short t None fits = omega (arith, terms_short t fits)
-client_short t (Some l) fits = omega (
+unlimited_body_short t None fits = omega (arith, terms_short t fits)
+unlimited_body_short t (Some by) fits = omega (
   arith,
-  length-append (fields.client_terms.spell t) (lives_field.spell l),
+  length-append (fields.client_terms.spell t) (by_field.spell by),
   terms_short t fits.0,
-  lives_short l,
+  by_short by fits.1,
+)
+
+-- the body of a client with lives has at most 8,000 bytes
+limited_body_short : (t : fields.Terms × ClientLives) (o : Option By)
+    → body.Fits (bodies.ClientAdded (fields.limited t o))
+    → length (body.spell (bodies.ClientAdded (fields.limited t o))) ≤ 8000
+unfolding kinds
+limited_body_short t None fits = omega (arith, limited_short t fits)
+limited_body_short t (Some by) fits = omega (
+  arith,
+  length-append (fields.limited_terms.spell t) (by_field.spell by),
+  limited_short t fits.0,
+  by_short by fits.1,
+)
+
+-- the body of a client has at most 8,000 bytes
+client_short : (t : fields.Terms) (lives : Option ClientLives) (o : Option By)
+    → body.Fits (bodies.ClientAdded (fields.client_on t lives o))
+    → length (body.spell (bodies.ClientAdded (fields.client_on t lives o))) ≤ 8000
+client_short t None o fits = unlimited_body_short t o fits
+client_short t (Some lives) o fits = limited_body_short (t, lives) o fits
+
+-- the body of a client's retirement has at most 8,000 bytes
+retirement_body_short : (t : Dot) (o : Option By)
+    → body.Fits (bodies.ClientRetired (fields.retirement_on t o))
+    → length (body.spell (bodies.ClientRetired (fields.retirement_on t o))) ≤ 8000
+unfolding kinds
+retirement_body_short t None fits = omega (arith, dot_short t)
+retirement_body_short t (Some by) fits = omega (
+  arith,
+  length-append (dot_field.spell t) (by_field.spell by),
+  dot_short t,
+  by_short by fits.1,
+)
+
+-- the body of a consent has at most 8,000 bytes
+consent_body_short : (t : Dot × (List ℕ × List ℕ)) (o : Option By)
+    → body.Fits (bodies.ConsentGiven (fields.consent_on t o))
+    → length (body.spell (bodies.ConsentGiven (fields.consent_on t o))) ≤ 8000
+unfolding kinds
+consent_body_short t None fits = omega (arith, consent_short t fits)
+consent_body_short t (Some by) fits = omega (
+  arith,
+  length-append (fields.consent_terms.spell t) (by_field.spell by),
+  consent_short t fits.0,
+  by_short by fits.1,
+)
+
+-- the body of a withdrawal has at most 8,000 bytes
+withdrawal_body_short : (t : Dot) (o : Option By)
+    → body.Fits (bodies.ConsentWithdrawn (fields.withdrawal_on t o))
+    → length (body.spell (bodies.ConsentWithdrawn (fields.withdrawal_on t o))) ≤ 8000
+unfolding kinds
+withdrawal_body_short t None fits = omega (arith, dot_short t)
+withdrawal_body_short t (Some by) fits = omega (
+  arith,
+  length-append (dot_field.spell t) (by_field.spell by),
+  dot_short t,
+  by_short by fits.1,
+)
+
+-- the body of a revocation has at most 8,000 bytes
+revocation_body_short : (t : TokenId × (List ℕ × Dot)) (o : Option By)
+    → body.Fits (bodies.TokenRevoked (fields.revocation_on t o))
+    → length (body.spell (bodies.TokenRevoked (fields.revocation_on t o))) ≤ 8000
+unfolding kinds
+revocation_body_short t None fits = omega (arith, revocation_short t fits)
+revocation_body_short t (Some by) fits = omega (
+  arith,
+  length-append (fields.revocation_terms.spell t) (by_field.spell by),
+  revocation_short t fits.0,
+  by_short by fits.1,
+)
+
+-- the body of a sign-out has at most 8,000 bytes
+sign_out_body_short : (t : List ℕ × ℕ) (o : Option By)
+    → body.Fits (bodies.SubjectOut (fields.sign_out_on t o))
+    → length (body.spell (bodies.SubjectOut (fields.sign_out_on t o))) ≤ 8000
+unfolding kinds
+sign_out_body_short t None fits = omega (arith, sign_out_short t fits)
+sign_out_body_short t (Some by) fits = omega (
+  arith,
+  length-append (fields.sign_out_terms.spell t) (by_field.spell by),
+  sign_out_short t fits.0,
+  by_short by fits.1,
+)
+
+-- the body of a secret that was set has at most 8,000 bytes
+secret_body_short : (t : Dot × (ℕ × (List ℕ × ℕ))) (o : Option By)
+    → body.Fits (bodies.SecretSet (fields.secret_on t o))
+    → length (body.spell (bodies.SecretSet (fields.secret_on t o))) ≤ 8000
+unfolding kinds
+secret_body_short t None fits = omega (arith, secret_short t fits)
+secret_body_short t (Some by) fits = omega (
+  arith,
+  length-append (fields.secret_terms.spell t) (by_field.spell by),
+  secret_short t fits.0,
+  by_short by fits.1,
 )
 
 -- a body has at most 8,000 bytes
 body_short : (b : Body) → body.Fits b → length (body.spell b) ≤ 8000
 unfolding kinds
-body_short (bodies.ClientAdded f) fits = client_short (fields.terms_of f) f.lives fits
-body_short (bodies.ClientRetired f) fits =
-    simp length-append (omega (arith, simp length-append at (dot_short f.client)))
-body_short (bodies.ConsentGiven f) fits =
-    simp length-append (omega (
-      arith,
-      simp length-append at (dot_short f.client),
-      text_short f.subject max_subject_bytes (subject_short f.subject fits.1.0.1),
-      scope_short f.scope fits.1.1,
-    ))
-body_short (bodies.ConsentWithdrawn f) fits =
-    simp length-append (omega (arith, simp length-append at (dot_short f.consent)))
+body_short (bodies.ClientAdded f) fits = client_short (fields.terms_of f) f.lives f.by fits
+body_short (bodies.ClientRetired f) fits = retirement_body_short f.client f.by fits
+body_short (bodies.ConsentGiven f) fits = consent_body_short (fields.consent_fields f) f.by fits
+body_short (bodies.ConsentWithdrawn f) fits = withdrawal_body_short f.consent f.by fits
 body_short (bodies.CodeIssued f) fits =
     simp length-append (omega (
       arith,
@@ -206,20 +353,10 @@ body_short (bodies.RefreshRotated f) fits =
       simp length-append at (minted_short f.refresh fits.1.1.1.1),
     ))
 body_short (bodies.TokenRevoked f) fits =
-    simp length-append (omega (
-      arith,
-      simp length-append at (dot_short f.token.dot),
-      fits.1.0,
-      simp length-append at (dot_short f.client),
-    ))
+    revocation_body_short (fields.revocation_fields f) f.by fits
 body_short (bodies.ReuseSeen f) fits =
     simp length-append (omega (arith, simp length-append at (dot_short f.token.dot)))
-body_short (bodies.SubjectOut f) fits =
-    simp length-append (omega (
-      arith,
-      text_short f.subject max_subject_bytes (subject_short f.subject fits.0.1),
-      moment_short f.moment,
-    ))
+body_short (bodies.SubjectOut f) fits = sign_out_body_short (fields.sign_out_fields f) f.by fits
 body_short (bodies.AccessRefreshed f) fits =
     simp length-append (omega (
       arith,
@@ -227,14 +364,7 @@ body_short (bodies.AccessRefreshed f) fits =
       moment_short f.start,
       simp length-append at (minted_short f.access fits.1.1),
     ))
-body_short (bodies.SecretSet f) fits =
-    simp length-append (omega (
-      arith,
-      simp length-append at (dot_short f.client),
-      number_length w64 f.turn,
-      fits.1.1.0,
-      moment_short f.moment,
-    ))
+body_short (bodies.SecretSet f) fits = secret_body_short (fields.secret_fields f) f.by fits
 
 -- a fact has at most `max_bytes`
 pub fact_short : (f : Dot × Body) → fact.Fits f → length (fact.spell f) ≤ max_bytes

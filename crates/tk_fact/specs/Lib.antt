@@ -2,19 +2,23 @@
 --   Subject     is_subject, the name of a resource owner
 --   ClientKinds keeps_refresh, whether a client keeps its refresh token
 --   Check       refusal_of, the rule that a fact breaks
+--   Administered   with_by, a fact with by whom and when it was administered
 --   Fields      the formats of the fields of facts
+--   Followed    bare, followed: a value of which a field may stand behind the others
 --   Kinds       the format of the fields of each kind together
 --   FactBytes   fact_bytes, the spelling of a fact; framed, a fact behind its length
 --   Tokens      minted_of, the tokens that a fact mints; uses_of, the token that it uses
 --   Keeping     kept_for, the token for which a fact is kept; is_passing; names_of
 --   FieldLaws, FactLaws   reading and spelling undo each other
 --   LengthLaws  a fact that has a spelling has at most 8,192 bytes
+pub mod Administered
 pub mod Check
 pub mod ClientKinds
 pub mod FactBytes
 pub mod FactLaws
 pub mod FieldLaws
 pub mod Fields
+pub mod Followed
 pub mod Keeping
 pub mod Kinds
 pub mod LengthLaws

@@ -1,8 +1,8 @@
 //! The fact that an access token was refreshed: minted for a refresh token that stays as it is.
 
 ghost use Rattle.std.specs.Prelude.{◌≡◌, ◌++◌, ◌↔◌, IfOk, IsTrue, OnOk};
-ghost use Rattle.tk_fact.specs.Kinds.{access_refreshed};
 ghost use Rattle.tk_format.specs.Reading.{Gets};
+ghost use Rattle.tk_fact.specs.Kinds.{access_refreshed};
 
 use crate::minted_token::MintedToken;
 use std::alloc::{AllocError, Global};

@@ -1,9 +1,9 @@
 //! The field of an optional challenge: a byte for its method, and its text if there is a challenge.
 
 ghost use Rattle.std.specs.Prelude.{◌≡◌, ◌++◌, ◌↔◌, IfOk, IsTrue, OnOk};
-ghost use Rattle.tk_fact.specs.Fields.{challenge_field, challenge_with, challenge_bytes};
 ghost use Rattle.tk_format.specs.Format.{via};
 ghost use Rattle.tk_format.specs.Reading.{Gets, GetsBy};
+ghost use Rattle.tk_fact.specs.Fields.{challenge_field, challenge_with, challenge_bytes};
 
 use std::alloc::{AllocError, Global};
 use tk_format::{ReadError, Reader, Writer};

@@ -2,12 +2,13 @@
 
 ghost use Rattle.std.specs.Prelude.{◌≡◌, ◌&&◌, OnOk, IfErr, IsTrue, None, Some, true};
 ghost use Rattle.std.specs.List.{list_all};
+ghost use Rattle.tk_match.specs.Redirects.{is_uri};
 ghost use Rattle.tk_fact.specs.Check.{first_broken, refusal_of, ends_after, is_challenge};
 ghost use Rattle.tk_fact.specs.Check.{are_lives, is_revocable, is_turn, is_used_once};
 ghost use Rattle.tk_fact.specs.Subject.{is_subject};
-ghost use Rattle.tk_match.specs.Redirects.{is_uri};
 
 use crate::body::Body;
+use crate::by::known_by;
 use crate::client_lives::ClientLives;
 use crate::code_issued::CodeIssued;
 use crate::minted_token::MintedToken;
@@ -17,7 +18,8 @@ use tk_match::{Challenge, Redirects};
 /// The first rule that a fact breaks, in the order of the variants.
 #[derive(Clone, Copy)]
 pub enum FactError {
-    /// A subject, a redirection URI or a challenge is outside its length or its alphabet.
+    /// A subject, an operator, a redirection URI or a challenge is outside its length or its
+    /// alphabet.
     ///
     /// Never returned for a fact built in memory: `Subject`, `Uri`, `Redirects` and `Challenge`
     /// enforce these limits.
@@ -45,10 +47,12 @@ pub(crate) fn check_body(body: &Body) -> Result<(), FactError>
 {
     match body {
         Body::ClientAdded(fact) => {
+            known_by(&fact.by);
             known_uris(&fact.redirects);
             in_range(are_lives(&fact.lives))
         }
         Body::ConsentGiven(fact) => {
+            known_by(&fact.by);
             let _name = fact.subject.as_str();
             Ok(())
         }
@@ -65,14 +69,28 @@ pub(crate) fn check_body(body: &Body) -> Result<(), FactError>
         Body::AccessRefreshed(fact) => {
             in_range(fact.start.seconds() <= fact.access.expiry.seconds())
         }
-        Body::TokenRevoked(fact) => in_range(is_revocable(fact.token.kind)),
+        Body::TokenRevoked(fact) => {
+            known_by(&fact.by);
+            in_range(is_revocable(fact.token.kind))
+        }
         Body::ReuseSeen(fact) => in_range(is_used_once(fact.token.kind)),
         Body::SubjectOut(fact) => {
+            known_by(&fact.by);
             let _name = fact.subject.as_str();
             Ok(())
         }
-        Body::SecretSet(fact) => in_range(is_turn(fact.turn)),
-        Body::ClientRetired(_) | Body::ConsentWithdrawn(_) => Ok(()),
+        Body::SecretSet(fact) => {
+            known_by(&fact.by);
+            in_range(is_turn(fact.turn))
+        }
+        Body::ClientRetired(fact) => {
+            known_by(&fact.by);
+            Ok(())
+        }
+        Body::ConsentWithdrawn(fact) => {
+            known_by(&fact.by);
+            Ok(())
+        }
     }
 }
 

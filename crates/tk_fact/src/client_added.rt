@@ -1,11 +1,14 @@
 //! The fact that a client was registered.
 
 ghost use Rattle.std.specs.Prelude.{◌≡◌, ◌++◌, ◌↔◌, IfOk, IsTrue, OnOk};
-ghost use Rattle.tk_fact.specs.Kinds.{ClientFits, LivesFit, bytes_with, client_bytes};
-ghost use Rattle.tk_fact.specs.Kinds.{client_terms, limited, limited_terms, unlimited};
-ghost use Rattle.tk_format.specs.Format.{via};
+ghost use Rattle.tk_format.specs.Format.{◌⊗◌, via};
 ghost use Rattle.tk_format.specs.Reading.{GetsBy};
+ghost use Rattle.tk_fact.specs.Fields.{by_field, lives_field};
+ghost use Rattle.tk_fact.specs.Followed.{IfFits, bare, bytes_behind, followed};
+ghost use Rattle.tk_fact.specs.Kinds.{ClientFits, client_bytes, client_terms, limited};
+ghost use Rattle.tk_fact.specs.Kinds.{limited_terms, unlimited};
 
+use crate::by::{By, copy_by, known_by, same_by, write_by};
 use crate::client_kind::ClientKind;
 use crate::client_lives::ClientLives;
 use crate::redirects_field::{known_redirects, read_redirects, write_redirects};
@@ -27,6 +30,8 @@ pub struct ClientAdded {
     /// How long what the client gets lives at most, or `None` if the server's lives alone bound it
     /// (own).
     pub lives: Option<ClientLives>,
+    /// By whom and when, if the request named an operator (own).
+    pub by: Option<By>,
 }
 
 impl ClientAdded {
@@ -39,11 +44,15 @@ impl ClientAdded {
         let Ok(redirects) = self.redirects.copy(alloc) else {
             return Err(AllocError);
         };
+        let Ok(by) = copy_by(alloc, &self.by) else {
+            return Err(AllocError);
+        };
         Ok(ClientAdded {
             client_kind: self.client_kind,
             scope,
             redirects,
             lives: self.lives,
+            by,
         })
     }
 
@@ -54,6 +63,7 @@ impl ClientAdded {
             && self.scope.same(&other.scope)
             && self.redirects.same(&other.redirects)
             && self.lives == other.lives
+            && same_by(&self.by, &other.by)
     }
 
     pub(crate) fn known(&self)
@@ -63,11 +73,12 @@ impl ClientAdded {
         known_scope(&self.scope);
         known_redirects(&self.redirects);
         known_lives(&self.lives);
+        known_by(&self.by);
     }
 
     // Reads the fields of a client without lives.
     pub(crate) fn read(alloc: Global, reader: &mut Reader<'_>) -> Result<ClientAdded, ReadError>
-        ensures { GetsBy (via unlimited client_terms) result reader.old reader.new }
+        ensures { GetsBy (via (bare unlimited) client_terms) result reader.old reader.new }
     {
         let Some(client_kind) = ClientKind::read(reader) else {
             return Err(ReadError::Malformed);
@@ -79,6 +90,7 @@ impl ClientAdded {
                 scope,
                 redirects,
                 lives: None,
+                by: None,
             }),
             Err(error) => Err(error),
         }
@@ -89,7 +101,7 @@ impl ClientAdded {
         alloc: Global,
         reader: &mut Reader<'_>,
     ) -> Result<ClientAdded, ReadError>
-        ensures { GetsBy (via limited limited_terms) result reader.old reader.new }
+        ensures { GetsBy (via (bare limited) limited_terms) result reader.old reader.new }
     {
         let client = ClientAdded::read(alloc, reader)?;
         match ClientLives::read(reader) {
@@ -98,8 +110,48 @@ impl ClientAdded {
                 scope: client.scope,
                 redirects: client.redirects,
                 lives: Some(lives),
+                by: None,
             }),
             None => Err(ReadError::Malformed),
+        }
+    }
+
+    // Reads the fields of a client without lives, and by whom and when.
+    pub(crate) fn read_by(alloc: Global, reader: &mut Reader<'_>) -> Result<ClientAdded, ReadError>
+        ensures { GetsBy (via (followed unlimited) (client_terms ⊗ by_field)) result reader.old
+            reader.new }
+    {
+        let client = ClientAdded::read(alloc, reader)?;
+        match By::read(alloc, reader) {
+            Ok(by) => Ok(ClientAdded {
+                client_kind: client.client_kind,
+                scope: client.scope,
+                redirects: client.redirects,
+                lives: None,
+                by: Some(by),
+            }),
+            Err(error) => Err(error),
+        }
+    }
+
+    // Reads the fields of a client with lives, and by whom and when.
+    pub(crate) fn read_limited_by(
+        alloc: Global,
+        reader: &mut Reader<'_>,
+    ) -> Result<ClientAdded, ReadError>
+        ensures { GetsBy (via (followed limited) (limited_terms ⊗ by_field)) result reader.old
+            reader.new }
+    {
+        let client = ClientAdded::read_limited(alloc, reader)?;
+        match By::read(alloc, reader) {
+            Ok(by) => Ok(ClientAdded {
+                client_kind: client.client_kind,
+                scope: client.scope,
+                redirects: client.redirects,
+                lives: client.lives,
+                by: Some(by),
+            }),
+            Err(error) => Err(error),
         }
     }
 
@@ -110,19 +162,27 @@ impl ClientAdded {
         self.client_kind.write(writer)?;
         write_scope(&self.scope, writer)?;
         write_redirects(&self.redirects, writer)?;
-        match &self.lives {
-            None => Ok(()),
-            Some(lives) => lives.write(writer),
-        }
+        write_lives(&self.lives, writer)?;
+        write_by(&self.by, writer)
     }
 }
 
 // Gives a proof the fact that the lives of a client, if it has any, have a spelling.
 fn known_lives(lives: &Option<ClientLives>)
-    ensures { LivesFit lives.now }
+    ensures { IfFits lives_field lives.now }
 {
     match lives {
         None => {}
         Some(lives) => lives.known(),
+    }
+}
+
+// Writes the lives of a client, if it has any.
+fn write_lives(lives: &Option<ClientLives>, writer: &mut Writer) -> Result<(), AllocError>
+    ensures { OnOk result (writer.new ≡ writer.old ++ bytes_behind lives_field lives.now) }
+{
+    match lives {
+        None => Ok(()),
+        Some(lives) => lives.write(writer),
     }
 }

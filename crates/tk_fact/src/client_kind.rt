@@ -1,9 +1,9 @@
 //! The kind of a client, and its field.
 
 ghost use Rattle.std.specs.Prelude.{◌≡◌, ◌++◌, OnOk};
+ghost use Rattle.tk_format.specs.Reading.{Reads};
 ghost use Rattle.tk_fact.specs.ClientKinds.{keeps_refresh};
 ghost use Rattle.tk_fact.specs.Fields.{client_kind_field};
-ghost use Rattle.tk_format.specs.Reading.{Reads};
 
 use crate::digest::{known_digest, read_digest};
 use std::alloc::AllocError;

@@ -1,8 +1,8 @@
 //! The lives that a client was registered with, and their field.
 
 ghost use Rattle.std.specs.Prelude.{◌≡◌, ◌++◌, OnOk};
-ghost use Rattle.tk_fact.specs.Fields.{lives_field};
 ghost use Rattle.tk_format.specs.Reading.{Reads};
+ghost use Rattle.tk_fact.specs.Fields.{lives_field};
 
 use std::alloc::AllocError;
 use tk_format::{Reader, Writer};

@@ -1,37 +1,88 @@
 //! The fact that a client was retired.
 
-ghost use Rattle.std.specs.Prelude.{◌≡◌, ◌++◌, OnOk};
-ghost use Rattle.tk_fact.specs.Kinds.{client_retired};
-ghost use Rattle.tk_format.specs.Reading.{Reads};
+ghost use Rattle.std.specs.Prelude.{◌≡◌, ◌++◌, ◌↔◌, IfOk, IsTrue, OnOk};
+ghost use Rattle.tk_format.specs.Format.{◌⊗◌, via};
+ghost use Rattle.tk_format.specs.Reading.{GetsBy};
+ghost use Rattle.tk_handle.specs.DotBytes.{dot_field};
+ghost use Rattle.tk_fact.specs.Fields.{by_field};
+ghost use Rattle.tk_fact.specs.Followed.{IfFits, bare, bytes_behind, followed};
+ghost use Rattle.tk_fact.specs.Kinds.{retirement_on};
 
-use std::alloc::AllocError;
-use tk_format::{Reader, Writer};
+use crate::by::{By, copy_by, known_by, same_by, write_by};
+use std::alloc::{AllocError, Global};
+use tk_format::{ReadError, Reader, Writer};
 use tk_handle::Dot;
 
 /// A client was retired.
-#[derive(Clone, Copy, PartialEq, Eq)]
+#[derive(Drop)]
 pub struct ClientRetired {
     /// The dot at which the client was added.
     pub client: Dot,
+    /// By whom and when, if the request named an operator (own).
+    pub by: Option<By>,
 }
 
 impl ClientRetired {
-    pub(crate) fn known(&self)
-        ensures { client_retired.Fits self.now }
+    pub(crate) fn copy(&self, alloc: Global) -> Result<ClientRetired, AllocError>
+        ensures { IfOk result (λ copy. copy ≡ self.now) }
     {
-        self.client.known();
+        let by = copy_by(alloc, &self.by)?;
+        Ok(ClientRetired {
+            client: self.client,
+            by,
+        })
     }
 
-    pub(crate) fn read(reader: &mut Reader<'_>) -> Option<ClientRetired>
-        ensures { Reads (λ f. f) client_retired result reader.old reader.new }
+    pub(crate) fn same(&self, other: &ClientRetired) -> bool
+        ensures { IsTrue result ↔ (self.now ≡ other.now) }
     {
-        let client = Dot::read(reader)?;
-        Some(ClientRetired { client })
+        self.client == other.client && same_by(&self.by, &other.by)
+    }
+
+    pub(crate) fn known(&self)
+        ensures fields { dot_field.Fits self.now.client }
+        ensures by { IfFits by_field self.now.by }
+    {
+        self.client.known();
+        known_by(&self.by);
+    }
+
+    // Reads the fields of a fact in which no operator is named.
+    pub(crate) fn read(reader: &mut Reader<'_>) -> Result<ClientRetired, ReadError>
+        ensures { GetsBy (via (bare retirement_on) dot_field) result reader.old reader.new }
+    {
+        let Some(client) = Dot::read(reader) else {
+            return Err(ReadError::Malformed);
+        };
+        Ok(ClientRetired { client, by: None })
+    }
+
+    // Reads the fields of a fact, and by whom and when.
+    pub(crate) fn read_by(
+        alloc: Global,
+        reader: &mut Reader<'_>,
+    ) -> Result<ClientRetired, ReadError>
+        ensures { GetsBy (via (followed retirement_on) (dot_field ⊗ by_field)) result reader.old
+            reader.new }
+    {
+        let fact = ClientRetired::read(reader)?;
+        match By::read(alloc, reader) {
+            Ok(by) => Ok(ClientRetired {
+                client: fact.client,
+                by: Some(by),
+            }),
+            Err(error) => Err(error),
+        }
     }
 
     pub(crate) fn write(&self, writer: &mut Writer) -> Result<(), AllocError>
-        ensures { OnOk result (writer.new ≡ writer.old ++ client_retired.spell self.now) }
+        requires fields { dot_field.Fits self.now.client }
+        requires by { IfFits by_field self.now.by }
+        ensures { OnOk result
+            (writer.new ≡ writer.old ++ (dot_field.spell self.now.client
+            ++ bytes_behind by_field self.now.by)) }
     {
-        self.client.write(writer)
+        self.client.write(writer)?;
+        write_by(&self.by, writer)
     }
 }

@@ -1,8 +1,8 @@
 //! The fact that an authorization code was issued.
 
 ghost use Rattle.std.specs.Prelude.{◌≡◌, ◌++◌, ◌↔◌, IfOk, IsTrue, OnOk};
-ghost use Rattle.tk_fact.specs.Kinds.{code_issued, code_times, code_bindings};
 ghost use Rattle.tk_format.specs.Reading.{Gets};
+ghost use Rattle.tk_fact.specs.Kinds.{code_issued, code_times, code_bindings};
 
 use crate::challenge_field::{
     copy_challenge, known_challenge, read_challenge, same_challenge, write_challenge,

@@ -1,8 +1,8 @@
 //! The fact that a code was redeemed for tokens.
 
 ghost use Rattle.std.specs.Prelude.{◌≡◌, ◌++◌, ◌↔◌, IfOk, IsTrue, OnOk};
-ghost use Rattle.tk_fact.specs.Kinds.{code_redeemed};
 ghost use Rattle.tk_format.specs.Reading.{Gets};
+ghost use Rattle.tk_fact.specs.Kinds.{code_redeemed};
 
 use crate::minted_token::MintedToken;
 use std::alloc::{AllocError, Global};

@@ -1,9 +1,13 @@
 //! The fact that a subject let a client have a scope.
 
 ghost use Rattle.std.specs.Prelude.{◌≡◌, ◌++◌, ◌↔◌, IfOk, IsTrue, OnOk};
-ghost use Rattle.tk_fact.specs.Kinds.{consent_given};
-ghost use Rattle.tk_format.specs.Reading.{Gets};
+ghost use Rattle.tk_format.specs.Format.{◌⊗◌, via};
+ghost use Rattle.tk_format.specs.Reading.{GetsBy};
+ghost use Rattle.tk_fact.specs.Fields.{by_field};
+ghost use Rattle.tk_fact.specs.Followed.{IfFits, bare, bytes_behind, followed};
+ghost use Rattle.tk_fact.specs.Kinds.{consent_fields, consent_on, consent_terms};
 
+use crate::by::{By, copy_by, known_by, same_by, write_by};
 use crate::scope_field::{known_scope, read_scope, write_scope};
 use crate::subject::Subject;
 use std::alloc::{AllocError, Global};
@@ -20,6 +24,8 @@ pub struct ConsentGiven {
     pub subject: Subject,
     /// The scope that the client may have, 1 to 32 scope-tokens (RFC 6749, 3.3).
     pub scope: Scope,
+    /// By whom and when, if the request named an operator (own).
+    pub by: Option<By>,
 }
 
 impl ConsentGiven {
@@ -32,10 +38,14 @@ impl ConsentGiven {
         let Ok(scope) = self.scope.copy(alloc) else {
             return Err(AllocError);
         };
+        let Ok(by) = copy_by(alloc, &self.by) else {
+            return Err(AllocError);
+        };
         Ok(ConsentGiven {
             client: self.client,
             subject,
             scope,
+            by,
         })
     }
 
@@ -45,18 +55,22 @@ impl ConsentGiven {
         self.client == other.client
             && self.subject.same(&other.subject)
             && self.scope.same(&other.scope)
+            && same_by(&self.by, &other.by)
     }
 
     pub(crate) fn known(&self)
-        ensures { consent_given.Fits self.now }
+        ensures fields { consent_terms.Fits (consent_fields self.now) }
+        ensures by { IfFits by_field self.now.by }
     {
         self.client.known();
         self.subject.known();
         known_scope(&self.scope);
+        known_by(&self.by);
     }
 
+    // Reads the fields of a fact in which no operator is named.
     pub(crate) fn read(alloc: Global, reader: &mut Reader<'_>) -> Result<ConsentGiven, ReadError>
-        ensures { Gets (λ f. f) consent_given result reader.old reader.new }
+        ensures { GetsBy (via (bare consent_on) consent_terms) result reader.old reader.new }
     {
         let Some(client) = Dot::read(reader) else {
             return Err(ReadError::Malformed);
@@ -67,17 +81,39 @@ impl ConsentGiven {
                 client,
                 subject,
                 scope,
+                by: None,
+            }),
+            Err(error) => Err(error),
+        }
+    }
+
+    // Reads the fields of a fact, and by whom and when.
+    pub(crate) fn read_by(alloc: Global, reader: &mut Reader<'_>) -> Result<ConsentGiven, ReadError>
+        ensures { GetsBy (via (followed consent_on) (consent_terms ⊗ by_field)) result reader.old
+            reader.new }
+    {
+        let fact = ConsentGiven::read(alloc, reader)?;
+        match By::read(alloc, reader) {
+            Ok(by) => Ok(ConsentGiven {
+                client: fact.client,
+                subject: fact.subject,
+                scope: fact.scope,
+                by: Some(by),
             }),
             Err(error) => Err(error),
         }
     }
 
     pub(crate) fn write(&self, writer: &mut Writer) -> Result<(), AllocError>
-        requires { consent_given.Fits self.now }
-        ensures { OnOk result (writer.new ≡ writer.old ++ consent_given.spell self.now) }
+        requires fields { consent_terms.Fits (consent_fields self.now) }
+        requires by { IfFits by_field self.now.by }
+        ensures { OnOk result
+            (writer.new ≡ writer.old ++ (consent_terms.spell (consent_fields self.now)
+            ++ bytes_behind by_field self.now.by)) }
     {
         self.client.write(writer)?;
         self.subject.write(writer)?;
-        write_scope(&self.scope, writer)
+        write_scope(&self.scope, writer)?;
+        write_by(&self.by, writer)
     }
 }

@@ -1,7 +1,7 @@
 //! The field of a SHA-256 digest.
 
-ghost use Rattle.tk_fact.specs.Fields.{digest_field};
 ghost use Rattle.tk_format.specs.Reading.{Reads};
+ghost use Rattle.tk_fact.specs.Fields.{digest_field};
 
 use tk_format::Reader;
 

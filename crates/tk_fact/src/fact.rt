@@ -26,17 +26,17 @@ impl Model for Fact {
 
 ghost use Rattle.std.specs.Prelude.{◌≡◌, ◌≢◌, ◌≤◌, ◌++◌, ◌↔◌, length, false, None, Some, IfOk};
 ghost use Rattle.std.specs.Prelude.{IfErr, IsErrOf, IsTrue, OnErr, OnOk};
-ghost use Rattle.tk_fact.specs.FactBytes.{passes};
 ghost use Rattle.tk_format.specs.Reading.{GetsAll};
+ghost use Rattle.tk_fact.specs.FactBytes.{passes};
 
 use crate::check::{FactError, check_body};
 use std::alloc::{AllocError, Global};
 use tk_format::{FromBytes, ReadError, Reader, Spelled, Writer, read_all};
 
 impl Fact {
+    ghost use Rattle.tk_handle.specs.declared.dot.Dot.{Dot as AnyDot};
     ghost use Rattle.tk_fact.specs.Check.{refusal_of};
     ghost use Rattle.tk_fact.specs.FactBytes.{fact, fact_bytes, framed, max_bytes};
-    ghost use Rattle.tk_handle.specs.declared.dot.Dot.{Dot as AnyDot};
     ghost use Rattle.tk_fact.specs.declared.body.Body.{Body as AnyBody};
 
     /// The greatest length of a fact in bytes. This limit is our own.
@@ -68,8 +68,8 @@ impl Fact {
         self.dot == other.dot && self.body.same(&other.body)
     }
 
-    /// Gives a caller's proof the fact that a fact that passes its check has a spelling, also
-    /// behind its length. Does nothing at run time.
+    /// Gives a caller's proof the fact that a fact that passes its check ([`Fact::check`]) has a
+    /// spelling, also behind its length. Does nothing at run time.
     #[tactic(auto, using(crate::specs::LengthLaws::framed_fits))]
     pub fn known(&self)
         requires { refusal_of self.now.1 ≡ None }
@@ -100,7 +100,8 @@ impl Fact {
         read_all(alloc, bytes)
     }
 
-    /// Returns the only spelling of the fact, at most 8,192 bytes. Fails if memory runs out.
+    /// Returns the only spelling of the fact, which passes its check ([`Fact::check`]): at most
+    /// 8,192 bytes. Fails if memory runs out.
     pub fn write(&self, alloc: Global) -> Result<Vec<u8>, AllocError>
         requires { refusal_of self.now.1 ≡ None }
         ensures spelled { IfOk result (λ bytes. bytes.items ≡ fact_bytes self.now) }
@@ -114,7 +115,8 @@ impl Fact {
     }
 
     /// Writes the length of the fact's spelling in two bytes, high byte first, and then the
-    /// spelling. Fails if memory runs out, and writes nothing then.
+    /// spelling. The fact passes its check ([`Fact::check`]). Fails if memory runs out, and writes
+    /// nothing then.
     pub fn write_framed(&self, alloc: Global, writer: &mut Writer) -> Result<(), AllocError>
         requires { refusal_of self.now.1 ≡ None }
         ensures ok { OnOk result (writer.new ≡ writer.old ++ framed.spell self.now) }

@@ -1,8 +1,8 @@
 //! The field of a flag: 0 for no, 1 for yes.
 
 ghost use Rattle.std.specs.Prelude.{◌≡◌, ◌++◌, OnOk};
-ghost use Rattle.tk_fact.specs.Fields.{flag_field};
 ghost use Rattle.tk_format.specs.Reading.{Reads};
+ghost use Rattle.tk_fact.specs.Fields.{flag_field};
 
 use std::alloc::AllocError;
 use tk_format::{Reader, Writer};

@@ -15,13 +15,14 @@
 //! The methods `known` do nothing at run time: they give a proof the fact that a value has a
 //! spelling.
 //!
-//! In reading order: `Subject`, `ClientKind`, `ClientLives`, `MintedToken`, the twelve kinds from
-//! `ClientAdded` to `SecretSet`, `Body`, `Fact`, `Minted`. `specs/Lib.antt` lists the
+//! In reading order: `Subject`, `By`, `ClientKind`, `ClientLives`, `MintedToken`, the twelve kinds
+//! from `ClientAdded` to `SecretSet`, `Body`, `Fact`, `Minted`. `specs/Lib.antt` lists the
 //! definitions.
 #![tactic(auto)]
 
 mod access_refreshed;
 mod body;
+mod by;
 mod challenge_field;
 mod check;
 mod client_added;
@@ -50,6 +51,7 @@ mod uri_field;
 
 pub use access_refreshed::AccessRefreshed;
 pub use body::Body;
+pub use by::By;
 pub use check::{
     FactError, MAX_ACCESS_LIFE, MAX_FAMILY_LIFE, MAX_GENERATIONS, MAX_REFRESH_LIFE, MAX_TURNS,
 };

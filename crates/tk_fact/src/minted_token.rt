@@ -1,8 +1,8 @@
 //! An access or refresh token that a fact mints, and its field.
 
 ghost use Rattle.std.specs.Prelude.{◌≡◌, ◌++◌, ◌↔◌, IfOk, IsTrue, OnOk};
-ghost use Rattle.tk_fact.specs.Fields.{minted_field};
 ghost use Rattle.tk_format.specs.Reading.{Gets};
+ghost use Rattle.tk_fact.specs.Fields.{minted_field};
 
 use crate::digest::read_digest;
 use crate::scope_field::{known_scope, read_scope, write_scope};

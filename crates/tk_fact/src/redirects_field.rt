@@ -2,9 +2,9 @@
 
 ghost use Rattle.std.specs.Prelude.{◌≡◌, ◌++◌, OnOk, map};
 ghost use Rattle.std.specs.List.{AllByRecursion, flat_map};
-ghost use Rattle.tk_fact.specs.Fields.{redirects_field};
 ghost use Rattle.tk_format.specs.Format.{repeated, text};
 ghost use Rattle.tk_format.specs.Reading.{Gets};
+ghost use Rattle.tk_fact.specs.Fields.{redirects_field};
 
 use std::alloc::{AllocError, Global};
 use tk_format::{ReadError, Reader, Writer};

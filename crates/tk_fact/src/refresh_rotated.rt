@@ -1,8 +1,8 @@
 //! The fact that a refresh token was rotated: used for new tokens.
 
 ghost use Rattle.std.specs.Prelude.{◌≡◌, ◌++◌, ◌↔◌, IfOk, IsTrue, OnOk};
-ghost use Rattle.tk_fact.specs.Kinds.{refresh_rotated};
 ghost use Rattle.tk_format.specs.Reading.{Gets};
+ghost use Rattle.tk_fact.specs.Kinds.{refresh_rotated};
 
 use crate::minted_token::MintedToken;
 use std::alloc::{AllocError, Global};

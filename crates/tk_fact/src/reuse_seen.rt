@@ -1,8 +1,8 @@
 //! The fact that a code or a refresh token was used again.
 
 ghost use Rattle.std.specs.Prelude.{◌≡◌, ◌++◌, OnOk};
-ghost use Rattle.tk_fact.specs.Kinds.{reuse_seen};
 ghost use Rattle.tk_format.specs.Reading.{Reads};
+ghost use Rattle.tk_fact.specs.Kinds.{reuse_seen};
 
 use std::alloc::AllocError;
 use tk_format::{Reader, Writer};

@@ -43,9 +43,9 @@ impl From<AllocError> for SubjectError {
 
 ghost use Rattle.std.specs.Prelude.{◌≡◌, ◌++◌, ◌↔◌, false, IfOk, IsErrOf, IsTrue, OnOk};
 ghost use Rattle.std.specs.List.{list_all};
+ghost use Rattle.tk_format.specs.Reading.{Gets};
 ghost use Rattle.tk_fact.specs.Fields.{subject_field};
 ghost use Rattle.tk_fact.specs.Subject.{is_visible, is_subject};
-ghost use Rattle.tk_format.specs.Reading.{Gets};
 
 use std::alloc::{AllocError, Global};
 use tk_format::{ReadError, Reader, Writer};

@@ -1,8 +1,8 @@
 //! The field of a redirection URI.
 
 ghost use Rattle.std.specs.Prelude.{◌≡◌, ◌++◌, OnOk};
-ghost use Rattle.tk_fact.specs.Fields.{uri_field};
 ghost use Rattle.tk_format.specs.Reading.{Gets};
+ghost use Rattle.tk_fact.specs.Fields.{uri_field};
 
 use std::alloc::{AllocError, Global};
 use tk_format::{ReadError, Reader, Writer};

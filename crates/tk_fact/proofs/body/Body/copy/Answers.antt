@@ -10,8 +10,13 @@ returns-in_ok-copy-in-ClientAdded c =
 pub returns-in_err-copy-in-ClientAdded : goal.returns-in_err-copy-in-ClientAdded
 returns-in_err-copy-in-ClientAdded c = no_copy _ _ c.from_residual.ensures.0
 
-pub returns-in-ClientRetired : goal.returns-in-ClientRetired
-returns-in-ClientRetired c = copy_of bodies.ClientRetired _ _ _ refl c.in-ClientRetired.is
+pub returns-in_ok-copy-in-ClientRetired : goal.returns-in_ok-copy-in-ClientRetired
+returns-in_ok-copy-in-ClientRetired c =
+    copy_of bodies.ClientRetired _ _ _ c.in_ok-copy-in-ClientRetired.ensures c.in-ClientRetired.is
+
+pub returns-in_err-copy-in-ClientRetired : goal.returns-in_err-copy-in-ClientRetired
+returns-in_err-copy-in-ClientRetired c =
+    no_copy _ _ c.from_residual-in_err-copy-in-ClientRetired.ensures.0
 
 pub returns-in_ok-copy-in-ConsentGiven : goal.returns-in_ok-copy-in-ConsentGiven
 returns-in_ok-copy-in-ConsentGiven c =
@@ -21,8 +26,14 @@ pub returns-in_err-copy-in-ConsentGiven : goal.returns-in_err-copy-in-ConsentGiv
 returns-in_err-copy-in-ConsentGiven c =
     no_copy _ _ c.from_residual-in_err-copy-in-ConsentGiven.ensures.0
 
-pub returns-in-ConsentWithdrawn : goal.returns-in-ConsentWithdrawn
-returns-in-ConsentWithdrawn c = copy_of bodies.ConsentWithdrawn _ _ _ refl c.in-ConsentWithdrawn.is
+pub returns-in_ok-copy-in-ConsentWithdrawn : goal.returns-in_ok-copy-in-ConsentWithdrawn
+returns-in_ok-copy-in-ConsentWithdrawn c =
+    copy_of bodies.ConsentWithdrawn _ _ _ c.in_ok-copy-in-ConsentWithdrawn.ensures
+    c.in-ConsentWithdrawn.is
+
+pub returns-in_err-copy-in-ConsentWithdrawn : goal.returns-in_err-copy-in-ConsentWithdrawn
+returns-in_err-copy-in-ConsentWithdrawn c =
+    no_copy _ _ c.from_residual-in_err-copy-in-ConsentWithdrawn.ensures.0
 
 pub returns-in_ok-copy-in-CodeIssued : goal.returns-in_ok-copy-in-CodeIssued
 returns-in_ok-copy-in-CodeIssued c =
@@ -48,8 +59,13 @@ pub returns-in_err-copy-in-RefreshRotated : goal.returns-in_err-copy-in-RefreshR
 returns-in_err-copy-in-RefreshRotated c =
     no_copy _ _ c.from_residual-in_err-copy-in-RefreshRotated.ensures.0
 
-pub returns-in-TokenRevoked : goal.returns-in-TokenRevoked
-returns-in-TokenRevoked c = copy_of bodies.TokenRevoked _ _ _ refl c.in-TokenRevoked.is
+pub returns-in_ok-copy-in-TokenRevoked : goal.returns-in_ok-copy-in-TokenRevoked
+returns-in_ok-copy-in-TokenRevoked c =
+    copy_of bodies.TokenRevoked _ _ _ c.in_ok-copy-in-TokenRevoked.ensures c.in-TokenRevoked.is
+
+pub returns-in_err-copy-in-TokenRevoked : goal.returns-in_err-copy-in-TokenRevoked
+returns-in_err-copy-in-TokenRevoked c =
+    no_copy _ _ c.from_residual-in_err-copy-in-TokenRevoked.ensures.0
 
 pub returns-in-ReuseSeen : goal.returns-in-ReuseSeen
 returns-in-ReuseSeen c = copy_of bodies.ReuseSeen _ _ _ refl c.in-ReuseSeen.is
@@ -71,5 +87,10 @@ pub returns-in_err-copy-in-AccessRefreshed : goal.returns-in_err-copy-in-AccessR
 returns-in_err-copy-in-AccessRefreshed c =
     no_copy _ _ c.from_residual-in_err-copy-in-AccessRefreshed.ensures.0
 
-pub returns-in-SecretSet : goal.returns-in-SecretSet
-returns-in-SecretSet c = copy_of bodies.SecretSet _ _ _ refl c.in-SecretSet.is
+pub returns-in_ok-copy-in-SecretSet : goal.returns-in_ok-copy-in-SecretSet
+returns-in_ok-copy-in-SecretSet c =
+    copy_of bodies.SecretSet _ _ _ c.in_ok-copy-in-SecretSet.ensures c.in-SecretSet.is
+
+pub returns-in_err-copy-in-SecretSet : goal.returns-in_err-copy-in-SecretSet
+returns-in_err-copy-in-SecretSet c =
+    no_copy _ _ c.from_residual-in_err-copy-in-SecretSet.ensures.0

@@ -1,10 +1,11 @@
 use Rattle.std.proofs.Common.{rules}
 use Rattle.tk_fact.specs.FactBytes.{kinds}
+use Rattle.tk_fact.proofs.BodyLaws.{client_written}
 use Rattle.tk_fact.proofs.body.Body.write_fields.Goals as goal
 
 pub returns-in-ClientAdded : goal.returns-in-ClientAdded
-unfolding kinds
-returns-in-ClientAdded c = search rules
+returns-in-ClientAdded c =
+    client_written _ _ _ _ _ c.in-ClientAdded.is c.write.ensures
 
 pub returns-in-ClientRetired : goal.returns-in-ClientRetired
 unfolding kinds
