@@ -33,9 +33,11 @@ use Rattle.tk_ledger.specs.declared.subject_keys.CodeKey.{CodeKey}
 use Rattle.tk_ledger.specs.declared.subject_keys.LoginKey.{LoginKey}
 use Rattle.tk_ledger.specs.declared.subject_keys.OutKey.{OutKey}
 
+-- the empty set holds no fact
 none_held : (d : Dot) (b : Body) → ¬ (map.get (map.empty {R = dot_cmp}) d ≡ Some b)
 none_held d b h = none_is_not_some b (sym (map.get-empty dot_cmp d) ∙ h)
 
+-- no fact of the empty set passes a test
 any_fact-empty : (p : Dot × Body → Bool) → any_fact p map.empty ≡ false
 any_fact-empty p = false_from_ne_true (any_fact p map.empty)
     (λ h. (let x : Passing p map.empty = any_fact-held p map.empty h in

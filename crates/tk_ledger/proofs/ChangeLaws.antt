@@ -3,7 +3,7 @@
 --   put_ties, mark_ties, revoke_ties, out_ties, quiet_ties   the forest after each kind of change
 --   stored, stored_change, stored_back                       a fact at a free dot
 use Rattle.std.proofs.Common.{◌≡◌, ℕ, Bool, true, false, ◌&&◌, ◌||◌, cond, List, Option, Some, None}
-use Rattle.std.proofs.Common.{Result, Ok, Err, OnOk, OnErr, refl, sym, ap, subst, ◌∙◌}
+use Rattle.std.proofs.Common.{Result, Ok, Err, OnOk, refl, sym, ap, subst, ◌∙◌}
 use Rattle.std.specs.Option.{option_and_then, option_map}
 use Rattle.std.specs.Prelude.{nat_le}
 use Rattle.std.specs.BTreeSet.{BTreeSet}
@@ -17,7 +17,7 @@ use Rattle.tk_family.specs.Tops.{IsRaised}
 use Rattle.tk_family.proofs.LookUps.{link_put}
 use Rattle.tk_fact.specs.declared.body.Body.{Body}
 use Rattle.tk_fact.specs.declared.subject_out.SubjectOut as out
-use Rattle.tk_fact.specs.declared.token_revoked.TokenRevoked as revoked
+use Rattle.tk_ledger.specs.declared.change.RevokedToken as revoked
 use Rattle.tk_store.specs.FactSet.{FactSet}
 use Rattle.tk_store.specs.Adding.{Adds}
 use Rattle.tk_store.specs.declared.store.Added.{Added}
@@ -37,21 +37,11 @@ use Rattle.tk_ledger.proofs.ForestLaws.{puts, link-change, revoking, signs, link
 use Rattle.tk_ledger.proofs.ForestLaws.{tied_still, tied_put, tied_mark, tied_revoke}
 use Rattle.tk_ledger.proofs.OutLaws.{tied_out}
 
--- what follows from a claim about a success holds of the success
-pub on_ok : {A E : Type 0} (r : Result A E) (P Q : Type 0) → OnOk r P → (P → Q) → OnOk r Q
-on_ok (Ok x) P Q h f = f h
-on_ok (Err e) P Q h f = tt
-
 -- what follows from two claims about a success holds of the success
 pub on_ok2 : {A E : Type 0} (r : Result A E) (P Q R : Type 0) → OnOk r P → OnOk r Q → (P → Q → R)
     → OnOk r R
 on_ok2 (Ok x) P Q R h i f = f h i
 on_ok2 (Err e) P Q R h i f = tt
-
--- what follows from a claim about a failure holds of the failure
-pub on_err : {A E : Type 0} (r : Result A E) (P Q : Type 0) → OnErr r P → (P → Q) → OnErr r Q
-on_err (Ok x) P Q h f = tt
-on_err (Err e) P Q h f = f h
 
 -- true if a holds, and otherwise b, is a or b
 pub or_cond : (a b : Bool) → cond a true b ≡ (a || b)
@@ -65,6 +55,7 @@ pub record Changed (G : FactSet) (d : Dot) (x : Change) : Type 0 where
   pub is : change_in body ≡ x
   pub more : OneMore (map.remove G d) G d body
 
+-- for `changed`: by the body at the dot, if there is one
 changed_by : (G : FactSet) (d : Dot) (x : Change) (o : Option Body) → map.get G d ≡ o
     → option_map change_in o ≡ Some x → Changed G d x
 changed_by G d x None at h = absurd (none_is_not_some x h)
@@ -88,6 +79,7 @@ record Linked (G : FactSet) (d : Dot) (l : Link) : Type 0 where
   pub is : puts (change_in body) ≡ Some l
   pub more : OneMore (map.remove G d) G d body
 
+-- a dot with a link has a body with that link, which the set has more than without the dot
 linked : (G : FactSet) (d : Dot) (l : Link) → links_in (map.get G) d ≡ Some l → Linked G d l
 linked G d l h =
     let x : (b : Body) × (map.get G d ≡ Some b) × (link_of b ≡ Some l) =
@@ -132,7 +124,7 @@ mark_ties G d j x z h t woke = let c = changed G d (change.Mark j) h in
     tied_mark (map.remove G d) G d c.body j x z c.more c.is t woke
 
 -- the forest follows the set with a revocation once the token's dot is marked anew
-pub revoke_ties : (G : FactSet) (d : Dot) (f : revoked.TokenRevoked) (x z : ForestFacts)
+pub revoke_ties : (G : FactSet) (d : Dot) (f : revoked.RevokedToken) (x z : ForestFacts)
     → option_map change_in (map.get G d) ≡ Some (change.Revoke f) → IsTied (map.remove G d) x
     → Wakes G x (λ q. dot_eq q f.token.dot) z → IsTied G z
 revoke_ties G d f x z h t woke = let c = changed G d (change.Revoke f) h in
@@ -176,10 +168,12 @@ quiet_ties G d y x h p r s m t = let c = changed G d y h in
 
 -- ---- a fact at a free dot
 
+-- G is F with a fact at a dot that was free
 pub record Stored (F G : FactSet) (d : Dot) (b : Body) : Type 0 where
   pub set : G ≡ map.insert F d b
   pub free : map.get F d ≡ None
 
+-- for `stored`: by whether the fact was new or held
 stored_by : (F G : FactSet) (d : Dot) (b : Body) (a : Added) → map.get F d ≡ None
     → Adds F (d, b) (Ok a) G → Stored F G d b
 stored_by F G d b New free adds = record { set = adds.1; free = free }

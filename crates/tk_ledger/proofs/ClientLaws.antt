@@ -66,6 +66,7 @@ pub is_retired-complete : (F : FactSet) (d : Dot) → IsRetired (map.get F) d �
 is_retired-complete F d r = any_fact-of (retires d) F r.place (ClientRetired r.retirement) r.held
     (ap (λ e. is_same_dot e d) r.names ∙ same_dot-itself d)
 
+-- a client that was added, and that the test doesn't call retired, is live
 live_of : (F : FactSet) (d : Dot) (o : Option added.ClientAdded) → client_at F d ≡ o
     → (is_some o && not (is_retired F d)) ≡ true → IsLiveClient (map.get F) d
 live_of F d None at h = absurd (true≢false (sym h))
@@ -160,6 +161,7 @@ gives_from client subject c i j = and_from _ _
     (ap (λ d. is_same_dot d client) i ∙ same_dot-itself client)
     ((bytes_eq-Decides c.subject subject).1 j)
 
+-- for `is_consent_of-sound`: by the consent that was given at the dot, if there is one
 of_found : (F : FactSet) (client : Dot) (subject : List ℕ) (d : Dot) (o : Option given.ConsentGiven)
     → consent_at F d ≡ o → (gives client subject o && not (is_withdrawn F d)) ≡ true
     → IsConsentOf (map.get F) client subject d

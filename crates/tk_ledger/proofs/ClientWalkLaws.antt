@@ -57,11 +57,13 @@ clients_same F G views =
 
 -- ---- the rows
 
+-- looking a dot up in a list of entries finds what a map finds
 found_in : {X : Type 0} (q : Dot) (es : List (Dot × X))
     → lookup (rows.is_at (dot_cmp q)) es ≡ map.find dot_cmp q es
 found_in q [] = refl
 found_in q (e ∷ es) = ap (cond (eq_by_cmp dot_cmp q e.0) (Some e.1)) (found_in q es)
 
+-- entries whose dots rise are in the order of a map
 rises : {X : Type 0} (es : List (Dot × X)) → IsStrictlySortedBy dot_cmp (keys_of es)
     → T (map.is_sorted dot_cmp es)
 unfolding IsStrictlySortedBy
@@ -78,6 +80,7 @@ abbrev pub start_above : Option Dot → Bound Dot
 start_above None = Unbounded
 start_above (Some d) = Excluded d
 
+-- the dots in the range that starts above a cursor are those above the cursor
 in_range : (a : Option Dot) (q : Dot)
     → range_contains dot_cmp (start_above a) Unbounded q ≡ above_dot a q
 in_range None q = refl

@@ -11,7 +11,7 @@ use Rattle.std.specs.FinMap.Entries.{below_all}
 use Rattle.std.specs.List as list
 use Rattle.std.specs.Option.{option_map}
 use Rattle.std.specs.Ordering.{eq_by_cmp, ordering_reverse}
-use Rattle.std.specs.declared.cmp.Ordering.TheVariants.{Less, Equal, Greater}
+use Rattle.std.specs.declared.cmp.Ordering.TheVariants.{Less}
 use Rattle.tk_scope.specs.Scope.{tokens_of, is_within}
 use Rattle.tk_scope.proofs.Within.{within_decides}
 use Rattle.tk_handle.specs.declared.dot.Dot.{Dot}
@@ -20,10 +20,11 @@ use Rattle.tk_fact.specs.declared.body.Body.{Body}
 use Rattle.tk_fact.specs.declared.body.Body.TheVariants.{ConsentGiven}
 use Rattle.tk_store.specs.FactSet.{FactSet, Facts, AllIn, dot_of}
 use Rattle.tk_store.proofs.EntryLaws.{AllIn-entries}
-use Rattle.tk_store.proofs.FactSetLaws.{tied}
+use Rattle.tk_handle.proofs.TestLaws.{tied}
 use Rattle.tk_ledger.specs.Clients.{is_withdrawn, gives, grants, consents, consent_for}
 use Rattle.tk_ledger.specs.Clients.{IsConsentFor, IsLeastConsent}
 use Rattle.tk_ledger.proofs.ClientLaws.{gives_parts, gives_from, unwithdrawn_of, not_withdrawn}
+use Rattle.tk_ledger.proofs.KeySearchLaws.{equal_not_less, greater_not_less}
 use Rattle.tk_handle.proofs.TestLaws.{both, lesser as less}
 use Rattle.std.proofs.lemmas.Option.{none-some as none_is_not_some, same_Some as some_injective}
 
@@ -61,12 +62,6 @@ consents_complete F client subject scope d x = and_from _ _
 
 -- ---- the first in a list
 
-greater_not_less : ¬ (Greater ≡ Less)
-greater_not_less h = cc
-
-equal_not_less : ¬ (Equal ≡ Less)
-equal_not_less h = cc
-
 -- a fact that is found in a list of held facts is held, and passes
 pub found_in : (p : Dot × Body → Bool) (F : FactSet) (es : Facts) (f : Dot × Body) → AllIn F es
     → list.find p es ≡ Some f → (map.get F f.0 ≡ Some f.1) × (p f ≡ true)
@@ -89,6 +84,7 @@ above_key d (e ∷ es) q b low h = elim (cases_Bool (eq_by_cmp dot_cmp q e.0)) [
       (sym (cond-false (eq_by_cmp dot_cmp q e.0) (Some e.1) (map.find dot_cmp q es) more) ∙ h)
 ]
 
+-- a fact passes a test if an equal dot and an equal body do
 passes_at : (p : Dot × Body → Bool) (e : Dot × Body) (q : Dot) (b : Body) → q ≡ e.0 → b ≡ e.1
     → p (q, b) ≡ true → p e ≡ true
 passes_at p e q b i j h = rw (← i, ← j) h
@@ -151,6 +147,7 @@ none_passes p (e ∷ es) h q b at passes = elim (cases_Bool (p e)) [
 
 -- ---- the consent for a scope
 
+-- for `least_consent`: by what the search through the facts finds
 least_of : (F : FactSet) (client : Dot) (subject scope : List ℕ) (o : Option (Dot × Body))
     → list.find (consents F client subject scope) (map.entries F) ≡ o
     → IsLeastConsent (map.get F) client subject scope (option_map dot_of o)

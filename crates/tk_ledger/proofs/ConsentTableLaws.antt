@@ -2,6 +2,7 @@
 --   unlisted       the table after the key of the consent at a dot was removed
 --   give_row       the table after a consent was given
 --   withdraw_row   the table after a consent was withdrawn
+use Rattle.std.proofs.Math.Bool.{and-true as and_yes, and-false as and_no}
 use Rattle.std.proofs.Common.{◌≡◌, ℕ, Bool, true, false, ◌&&◌, ◌||◌, not, cond, List, Option, Some}
 use Rattle.std.proofs.Common.{None, refl, sym, ap, subst, ◌∙◌}
 use Rattle.std.proofs.lemmas.Bool.{and_parts}
@@ -27,19 +28,22 @@ use Rattle.tk_ledger.proofs.ChangeLaws.{changed}
 use Rattle.tk_ledger.proofs.TableChangeLaws.{consents_by}
 use Rattle.tk_ledger.proofs.KeyLaws.{at_is_same, consent_tied}
 use Rattle.tk_ledger.proofs.SameLaws.{same_dot-true}
-use Rattle.tk_ledger.proofs.TableLaws.{and_yes, and_no, given_on, ranged_on}
+use Rattle.tk_ledger.proofs.TableLaws.{given_on, ranged_on}
 
 -- ---- one key less
 
+-- a key is listed after a removal if it was listed before and isn't the removed one
 removed : (x t : Bool) → cond x false t ≡ (t && not x)
 removed true t = sym (and_no t)
 removed false t = sym (and_yes t)
 
+-- the last of three tests may be made first
 turned : (a b c : Bool) → (a && (b && c)) ≡ (c && (a && b))
 turned true b true = and_yes b
 turned true b false = and_no b
 turned false b c = sym (and_no c)
 
+-- the key of the consent at a dot ties with those of equal dot, client and subject alone
 key_is : (o : Option given.ConsentGiven) (d : Dot) (key k : ConsentKey)
     → Some key ≡ option_map (key_of d) o
     → eq_by_cmp consent_cmp key k ≡ (is_at d k.consent && is_from k.client k.subject o)

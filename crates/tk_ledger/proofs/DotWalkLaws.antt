@@ -18,7 +18,7 @@ use Rattle.tk_handle.specs.Dot.{dot_cmp, dot_cmp_total}
 use Rattle.tk_fact.specs.declared.body.Body.{Body}
 use Rattle.tk_store.specs.FactSet.{FactSet}
 use Rattle.tk_store.specs.Walk.{is_above, above}
-use Rattle.tk_store.proofs.FactSetLaws.{tied}
+use Rattle.tk_handle.proofs.TestLaws.{tied}
 use Rattle.tk_store.proofs.WalkLaws.{above_next}
 use Rattle.tk_ledger.specs.SubjectWalk.{seen, shown_in, Walks}
 use Rattle.tk_handle.proofs.TestLaws.{and as joined, both}
@@ -51,6 +51,7 @@ module _ {X : Type 0} where
       (λ q. map.get-from_sorted dot_cmp es q s ∙ h q ∙ sym (map.get-from_sorted dot_cmp fs q r)))
       ∙ map.entries-from_sorted dot_cmp fs r
 
+  -- the entries above a dot are those whose key is above that dot
   above_is : (a : Option Dot) (es : List (Dot × X))
       → filter (is_above a) es ≡ where_key dot_cmp (above_dot a) es
   above_is None es = refl
@@ -63,6 +64,7 @@ placed place ks = map_list (λ k. (place k, k)) ks
 -- ---- what a view shows at entries
 
 module _ {X Y : Type 0} (view : Dot → Option X) where
+  -- a dot below all entries is below all that a view shows of them
   seen_below : (d : Dot) (es : List (Dot × Y)) → T (below_all dot_cmp d es)
       → T (below_all dot_cmp d (filter_map (seen view) es))
   seen_below d [] h = h
@@ -73,6 +75,7 @@ module _ {X Y : Type 0} (view : Dot → Option X) where
         | Some x ↦ joined _ _ (both _ _ h).0 (seen_below d es (both _ _ h).1)
       ]
 
+  -- what a view shows of sorted entries is sorted
   seen_sorted : (es : List (Dot × Y)) → T (map.is_sorted dot_cmp es)
       → T (map.is_sorted dot_cmp (filter_map (seen view) es))
   seen_sorted [] h = h
@@ -83,6 +86,7 @@ module _ {X Y : Type 0} (view : Dot → Option X) where
         | Some x ↦ joined _ _ (seen_below e.0 es (both _ _ h).0) (seen_sorted es (both _ _ h).1)
       ]
 
+  -- at a dot of the entries a look-up finds what the view shows there, and nothing elsewhere
   seen_found : (q : Dot) (es : List (Dot × Y))
       → map.find dot_cmp q (filter_map (seen view) es)
       ≡ cond (is_some (map.find dot_cmp q es)) (view q) None

@@ -46,6 +46,7 @@ same_at g F G w q l y at h =
     from_some link_of (map.get F q) l at in
     ap (option_and_then g) (x.1 ∙ sym (w q x.0 x.1)) ∙ h
 
+-- a grant under a code that its client revoked by an older fact was revoked before the new one
 ended_before : (F G : FactSet) (d : Dot) (b : Body) (k : TokenId) (c : Dot)
     → k.kind ≢ kind.Access → OneMore F G d b
     → (e : IsEnded (map.get G) k) → e.by_client.place ≢ d → IsUnder (links_in (map.get F)) k.dot c
@@ -119,6 +120,7 @@ pub record SignsOut (G : FactSet) (b : Body) (k : TokenId) : Type 0 where
   pub subject_is : sign_out.subject ≡ issued.subject
   pub not_before : issued.start ≤ sign_out.moment
 
+-- a body that issues a code has the link of a code
 issued_link : (b : Body) (f : issued.CodeIssued) → issued_in b ≡ Some f → link_of b ≡ Some Code
 issued_link (CodeIssued x) f h = refl
 issued_link body f h = absurd (none_is_not_some f h)
@@ -181,12 +183,14 @@ abbrev pub Stops : FactSet → FactSet → Body → TokenId → Type 0
 Stops F G b k =
     Revokes b k ⊎ (SignsOut G b k ⊎ IsRaised (links_in (map.get F)) (links_in (map.get G)) k.dot)
 
+-- a refresh token is no access token
 no_access : (k : TokenId) → k.kind ≡ kind.Refresh → k.kind ≢ kind.Access
 no_access k is other = absurd (apart (sym is ∙ other))
   where
     apart : ¬ (kind.Refresh ≡ kind.Access)
     apart e = cc
 
+-- a token that is stopped with one more fact was stopped before, or that fact stops it
 stopped_by_one : (F G : FactSet) (d : Dot) (b : Body) (k : TokenId) → OneMore F G d b
     → IsStopped (map.get G) k → IsStopped (map.get F) k ⊎ Stops F G b k
 stopped_by_one F G d b k m (inl e) = elim (ended_by_one F G d b k (no_access k e.0) m e.1) [

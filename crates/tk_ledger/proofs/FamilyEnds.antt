@@ -76,6 +76,7 @@ grant_there body_at k m na mints =
     grant_of k.kind k.dot x.0 m na x.2 in
     (l.0, ap (option_and_then link_of) x.1 ∙ l.1, l.2)
 
+-- links that are equal as options are equal
 same_link : (l j : Link) → Some l ≡ Some j → l ≡ j
 same_link l j h = cc
 

@@ -24,13 +24,13 @@ use Rattle.tk_family.proofs.WalkLaws.{code_of-sound, code_of-complete}
 use Rattle.tk_fact.specs.declared.body.Body.{Body}
 use Rattle.tk_fact.specs.declared.body.Body.TheVariants.{CodeIssued, CodeRedeemed, RefreshRotated}
 use Rattle.tk_fact.specs.declared.body.Body.TheVariants.{ReuseSeen}
-use Rattle.tk_fact.specs.declared.token_revoked.TokenRevoked as revoked
+use Rattle.tk_ledger.specs.declared.change.RevokedToken as revoked
 use Rattle.tk_store.specs.FactSet.{FactSet}
 use Rattle.tk_store.proofs.PutLaws.{some_injective, none_is_not_some}
 use Rattle.tk_store.proofs.OneMoreLaws.{OneMore, more_subset, cases_dots, apart_at}
 use Rattle.tk_ledger.specs.Tokens.{link_of, links_in, reuse_of, is_marked}
 use Rattle.tk_ledger.specs.ByTop.{code_in_top}
-use Rattle.tk_ledger.specs.Changes.{change_in, reuses_of}
+use Rattle.tk_ledger.specs.Changes.{change_in, reuses_of, revoked_in}
 use Rattle.tk_ledger.specs.Index.{IsTied, Wakes}
 use Rattle.tk_ledger.specs.declared.change.Change.{Change}
 use Rattle.tk_ledger.specs.declared.change.Change.TheVariants as change
@@ -38,7 +38,8 @@ use Rattle.tk_ledger.proofs.TokenLaws.{is_marked-sound, is_marked-complete}
 use Rattle.tk_ledger.proofs.TokenGrowthLaws.{IsMarked-below}
 use Rattle.tk_ledger.proofs.RootLaws.{link_under, links-below}
 use Rattle.tk_ledger.proofs.SameLaws.{same_token-true}
-use Rattle.tk_ledger.proofs.KeyLaws.{same_tests, at_itself}
+use Rattle.tk_ledger.proofs.KeyLaws.{same_tests}
+use Rattle.tk_store.proofs.OneMoreLaws.{at_itself}
 use Rattle.tk_ledger.proofs.EndingLaws.{Revokes, SignsOut, Stops, marks_by_one}
 use Rattle.tk_ledger.proofs.WakeLaws.{grant_place, wakes_none}
 
@@ -62,12 +63,14 @@ pub reuse-change : (k : TokenId) (b : Body) → reuse_of k b ≡ reuses_of k (ch
 reuse-change k (ReuseSeen f) = refl
 reuse-change k body = refl
 
-abbrev pub revoking : Change → Option revoked.TokenRevoked
+-- the revocation that a change has, if it has one
+abbrev pub revoking : Change → Option revoked.RevokedToken
 revoking (change.Revoke f) = Some f
 revoking other = None
 
+-- the change of a fact that revokes a token is the revocation of that token
 revoking-change : (b : Body) (k : TokenId) (r : Revokes b k)
-    → revoking (change_in b) ≡ Some r.revocation
+    → revoking (change_in b) ≡ Some (revoked_in r.revocation)
 revoking-change b k r = ap (λ (x : Body). revoking (change_in x)) r.body
 
 -- the change is a sign-out
@@ -75,6 +78,7 @@ abbrev pub signs : Change → Bool
 signs (change.SignOut subject moment) = true
 signs other = false
 
+-- the change of a fact that signs out the subject of a code is a sign-out
 signs-change : (G : FactSet) (b : Body) (k : TokenId) → SignsOut G b k → signs (change_in b) ≡ true
 signs-change G b k r = ap (λ (x : Body). signs (change_in x)) r.body
 
@@ -119,10 +123,12 @@ links_put F G d b l L N m some old new q = elim (cases_dots q d) [
       ∙ sym (ap (option_and_then link_of) (m.there q ne))
 ]
 
+-- no dot is raised between links that are the same at each dot
 unraised : (f g : Links) (q : Dot) → ((x : Dot) → f x ≡ g x) → IsRaised f g q → ⊥
 unraised f g q h r =
     r.before r.code (subst (λ (x : Links). IsUnder x q r.code) (sym (λ i x. h x i)) r.now)
 
+-- a dot that is raised between two links is raised between links equal to these
 raised_by : (f g L N : Links) (q : Dot) → ((x : Dot) → L x ≡ f x) → ((x : Dot) → N x ≡ g x)
     → IsRaised f g q → IsRaised L N q
 raised_by f g L N q h i r = subst (λ (x : Links). IsRaised x N q) (sym (λ j x. h x j))
@@ -134,6 +140,7 @@ raised_by f g L N q h i r = subst (λ (x : Links). IsRaised x N q) (sym (λ j x.
 abbrev pub Touches : FactSet → FactSet → Body → TokenId → Type 0
 Touches F G b k = (reuses_of k (change_in b) ≡ true) ⊎ Stops F G b k
 
+-- a marked token stays marked with one more fact
 still_marked : (F G : FactSet) (d : Dot) (b : Body) → OneMore F G d b → (k : TokenId)
     → is_marked F k ≡ true → is_marked G k ≡ true
 still_marked F G d b m k h =
@@ -208,7 +215,8 @@ unsigned G b k none r = absurd (true≢false (sym (signs-change G b k r) ∙ non
 -- a change that revokes nothing revokes no token
 pub unrevoked : (b : Body) (k : TokenId) {P : Type 0} → revoking (change_in b) ≡ None → Revokes b k
     → P
-unrevoked b k none r = absurd (none_is_not_some r.revocation (sym none ∙ revoking-change b k r))
+unrevoked b k none r =
+    absurd (none_is_not_some (revoked_in r.revocation) (sym none ∙ revoking-change b k r))
 
 -- a change without a link brings no dot under a code
 unlinked : (F G : FactSet) (d : Dot) (b : Body) (q : Dot) {P : Type 0} → OneMore F G d b
@@ -274,16 +282,16 @@ tied_mark F G d b j x z m is t woke =
     (λ k r. unrevoked b k (ap revoking is) r) (λ k r. unsigned G b k (ap signs is) r)
 
 -- a token that a revocation revokes is the revocation's
-pub revokes_at : (b : Body) (f : revoked.TokenRevoked) (k : TokenId) → change_in b ≡ change.Revoke f
+pub revokes_at : (b : Body) (f : revoked.RevokedToken) (k : TokenId) → change_in b ≡ change.Revoke f
     → Revokes b k → dot_eq k.dot f.token.dot ≡ true
 revokes_at b f k is r =
-    let same : f ≡ r.revocation =
-    some_injective f r.revocation (sym (ap revoking is) ∙ revoking-change b k r) in
-    ap (λ (g : revoked.TokenRevoked). dot_eq k.dot g.token.dot) same
+    let same : f ≡ revoked_in r.revocation =
+    some_injective f (revoked_in r.revocation) (sym (ap revoking is) ∙ revoking-change b k r) in
+    ap (λ (g : revoked.RevokedToken). dot_eq k.dot g.token.dot) same
     ∙ ap (λ (t : TokenId). dot_eq k.dot t.dot) r.token ∙ at_itself k.dot
 
 -- the forest after a revocation, and the marks at the token's dot
-pub tied_revoke : (F G : FactSet) (d : Dot) (b : Body) (f : revoked.TokenRevoked)
+pub tied_revoke : (F G : FactSet) (d : Dot) (b : Body) (f : revoked.RevokedToken)
     (x z : ForestFacts)
     → OneMore F G d b → change_in b ≡ change.Revoke f → IsTied F x
     → Wakes G x (λ q. dot_eq q f.token.dot) z → IsTied G z
@@ -295,6 +303,7 @@ tied_revoke F G d b f x z m is t woke =
 
 -- ---- look-ups
 
+-- an option that has no dot is None
 unfound : (o : Option Dot) → ((c : Dot) → o ≡ Some c → ⊥) → None ≡ o
 unfound None h = refl
 unfound (Some c) h = absurd (h c refl)

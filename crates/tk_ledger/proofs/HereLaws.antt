@@ -5,7 +5,6 @@
 --                                           what the status means
 use Rattle.std.proofs.Common.{◌≡◌, ◌≢◌, ◌↔◌, ℕ, true, false, cond, Option, Some, None, refl, sym}
 use Rattle.std.proofs.Common.{ap, ◌∙◌}
-use Rattle.std.proofs.lemmas.Bool.{true≢false}
 use Rattle.std.specs.Option.{option_and_then}
 use Rattle.std.specs.FinMap as map
 use Rattle.tk_handle.specs.declared.handle.Handle.{Handle}
@@ -27,13 +26,10 @@ use Rattle.tk_ledger.specs.declared.status.Status.TheVariants.{Unseen, Wrong, Br
 use Rattle.tk_ledger.proofs.StandingLaws.{sound_status}
 use Rattle.tk_ledger.proofs.StatusCases.{says, known_exactly}
 use Rattle.tk_ledger.proofs.StatusLaws.{live_exactly}
-
-skipped_slot : (o : Option Slot) → is_skipped_slot o ≡ true → o ≡ Some Skipped
-skipped_slot None h = absurd (true≢false (sym h))
-skipped_slot (Some (Held b)) h = absurd (true≢false (sym h))
-skipped_slot (Some Skipped) h = refl
+use Rattle.tk_store.proofs.SlotLaws.{marked_is as skipped_slot}
 
 module _ (P : StoreFields) (now : ℕ) (h : Handle) where
+  -- the facts that the store holds
   abbrev F : FactSet
   F = held_facts P
 
@@ -56,6 +52,7 @@ module _ (P : StoreFields) (now : ℕ) (h : Handle) where
       status_by F now h.id o (minted_as (map.get F) h) (root_in (map.get F) h.id.dot))
       (get_held P.slots h.id.dot ∙ ap held_slot at)
 
+  -- what holds of Wrong at a skipped dot, and of the status by facts elsewhere, holds by the store
   by_test : (R : Status → Type 0) → (map.get P.slots h.id.dot ≡ Some Skipped → R Wrong)
       → (is_skipped P.slots h.id.dot ≡ false → R (status_in F now h)) → R (status_here P now h)
   by_test R gone here =
@@ -75,6 +72,7 @@ module _ (P : StoreFields) (now : ℕ) (h : Handle) where
       (get_held P.slots h.id.dot ∙ ap held_slot at))
       ∙ mints)
 
+  -- if the dot isn't skipped, what a status says by the facts held is so by the store
   from_says : (x : Status) → is_skipped P.slots h.id.dot ≡ false → Says (map.get F) h x
       → SaysHere P h x
   from_says Unseen whole s = whole_free P.slots h.id.dot whole s

@@ -2,28 +2,27 @@
 --   at_is_same                      dots, by their order and by their numbers
 --   token_tied                      tokens
 --   consent_tied                    the keys of consents
-use Rattle.std.proofs.Common.{◌≡◌, ℕ, Bool, true, false, ◌&&◌, ◌==◌, List, refl, sym, ap, ◌∙◌}
-use Rattle.std.proofs.Common.{eq-eqb}
-use Rattle.std.proofs.lemmas.Bool.{true≢false, eqb-true}
+use Rattle.std.proofs.Common.{◌≡◌, ℕ, Bool, true, false, ◌&&◌, List, refl, sym, ap, ◌∙◌}
 use Rattle.std.proofs.lemmas.Cmp.{tied_itself}
-use Rattle.std.proofs.lemmas.Map.Lookups.{exact_bytes, exact_unsigned}
+use Rattle.std.proofs.lemmas.Map.Lookups.{exact_bytes}
 use Rattle.std.proofs.lemmas.Slice.Eq.{bytes_eq-Decides}
-use Rattle.std.specs.Cmp.{nat_cmp_total}
 use Rattle.std.specs.Cmp.Lexicographic.{slice_cmp, nat_list_cmp_total}
-use Rattle.std.specs.Ordering.{nat_cmp, eq_by_cmp, ordering_then, is_eq}
+use Rattle.std.specs.Ordering.{nat_cmp, eq_by_cmp, is_eq}
 use Rattle.std.specs.Str.{bytes_eq}
-use Rattle.std.specs.declared.cmp.Ordering.{Ordering}
-use Rattle.std.specs.declared.cmp.Ordering.TheVariants.{Less, Equal, Greater}
 use Rattle.tk_handle.specs.declared.dot.Dot.{Dot}
 use Rattle.tk_handle.specs.declared.token_id.TokenId.{TokenId}
-use Rattle.tk_handle.specs.Dot.{dot_cmp, dot_cmp_total}
+use Rattle.tk_handle.specs.Dot.{dot_cmp}
 use Rattle.tk_handle.specs.Kind.{kind_number}
 use Rattle.tk_handle.specs.TokenId.{token_cmp}
-use Rattle.tk_store.proofs.FactSetLaws.{tied}
+use Rattle.tk_handle.proofs.TestLaws.{tied}
 use Rattle.tk_ledger.specs.Bodies.{is_same_dot, is_same_token}
 use Rattle.tk_ledger.specs.Index.{consent_cmp, consent_key}
 use Rattle.tk_ledger.proofs.SameLaws.{same_dot-true, same_dot-itself, same_token-true}
 use Rattle.tk_ledger.proofs.SameLaws.{same_token-itself}
+use Rattle.tk_family.proofs.ChildLaws.{both_tied}
+use Rattle.tk_handle.proofs.TestLaws.{equal_of}
+use Rattle.tk_store.proofs.OneMoreLaws.{at_itself}
+use Rattle.tk_vector.proofs.VersionVectorLaws.{number_tied}
 
 -- two tests that imply each other are equal
 pub same_tests : (a b : Bool) → (a ≡ true → b ≡ true) → (b ≡ true → a ≡ true) → a ≡ b
@@ -31,32 +30,11 @@ same_tests true b h i = sym (h refl)
 same_tests false true h i = i refl
 same_tests false false h i = refl
 
--- a dot compares as equal to itself
-pub at_itself : (d : Dot) → eq_by_cmp dot_cmp d d ≡ true
-at_itself d = ap is_eq (tied_itself dot_cmp_total d)
-
 -- equality of dots by their order is equality by their numbers
 pub at_is_same : (a b : Dot) → eq_by_cmp dot_cmp a b ≡ is_same_dot a b
 at_is_same a b = same_tests (eq_by_cmp dot_cmp a b) (is_same_dot a b)
     (λ h. ap (is_same_dot a) (sym (tied a b h)) ∙ same_dot-itself a)
     (λ h. ap (eq_by_cmp dot_cmp a) (sym (same_dot-true a b h)) ∙ at_itself a)
-
--- one order and then another are equal exactly if both are
-pub both_tied : (r s : Ordering) → is_eq (ordering_then r s) ≡ (is_eq r && is_eq s)
-both_tied Less s = refl
-both_tied Equal s = refl
-both_tied Greater s = refl
-
-equal_of : (o : Ordering) → is_eq o ≡ true → o ≡ Equal
-equal_of Less h = absurd (true≢false (sym h))
-equal_of Equal h = refl
-equal_of Greater h = absurd (true≢false (sym h))
-
--- numbers compare as equal exactly if they are equal
-pub number_tied : (a b : ℕ) → is_eq (nat_cmp a b) ≡ (a == b)
-number_tied a b = same_tests (is_eq (nat_cmp a b)) (a == b)
-    (λ h. eq-eqb a b (exact_unsigned a b (equal_of (nat_cmp a b) h)))
-    (λ h. ap is_eq (ap (nat_cmp a) (sym (eqb-true a b h)) ∙ tied_itself nat_cmp_total a))
 
 -- bytes compare as equal exactly if they are equal
 pub bytes_tied : (xs ys : List ℕ) → is_eq (slice_cmp nat_cmp xs ys) ≡ bytes_eq xs ys

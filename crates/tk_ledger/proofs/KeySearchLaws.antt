@@ -20,14 +20,17 @@ use Rattle.std.specs.declared.cmp.Ordering.{Ordering}
 use Rattle.std.specs.declared.cmp.Ordering.TheVariants.{Less, Equal, Greater}
 use Rattle.tk_store.proofs.PutLaws.{some_injective, none_is_not_some}
 
-greater_not_less : ¬ (Greater ≡ Less)
+-- Greater is not Less
+pub greater_not_less : ¬ (Greater ≡ Less)
 greater_not_less h = cc
 
-equal_not_less : ¬ (Equal ≡ Less)
+-- Equal is not Less
+pub equal_not_less : ¬ (Equal ≡ Less)
 equal_not_less h = cc
 
 -- ---- whether there is a key
 
+-- a test that each key passes
 abbrev pub every : {K : Type 0} → K → Bool
 every e = true
 
@@ -89,6 +92,7 @@ module _ {K : Type 0} (cmp : K → K → Ordering)
 
 module _ {K : Type 0} (cmp : K → K → Ordering) (total : IsTotalOrder cmp)
     (tied_same : (a b : K) → eq_by_cmp cmp a b ≡ true → a ≡ b) (p c : K → Bool) where
+  -- a key of a list is in the list with one more key in front
   later : (e x : K) (xs : List K) → among cmp e xs ≡ true → among cmp e (x ∷ xs) ≡ true
   later e x xs h = or_more (is_at (cmp e) x) (among cmp e xs) h
     where
@@ -146,6 +150,7 @@ module _ {K : Type 0} (cmp : K → K → Ordering) (total : IsTotalOrder cmp)
       rest (inr left) =
           sym (ap (find p) (cond-false (c x) (x ∷ filter c xs) (filter c xs) left)) ∙ h
 
+  -- a key below each key of a list is below each key that the list has
   above_key : (x : K) (xs : List K) → AllByRecursion (λ y. cmp x y ≡ Less) xs → (k : K)
       → among cmp k xs ≡ true → cmp x k ≡ Less
   above_key x [] low k at = absurd (true≢false (sym at))

@@ -28,19 +28,22 @@ use Rattle.tk_handle.proofs.SpanLaws.{from_first, to_last}
 use Rattle.tk_handle.proofs.TestLaws.{and as joined}
 use Rattle.tk_store.specs.FactSet.{FactSet}
 use Rattle.tk_store.specs.Walk.{above}
-use Rattle.tk_store.proofs.FactSetLaws.{tied}
+use Rattle.tk_handle.proofs.TestLaws.{tied}
 use Rattle.tk_ledger.specs.SubjectWalk.{seen, shown_in}
 use Rattle.tk_ledger.proofs.DotWalkLaws.{less, above_dot, placed, OnFacts, walk_all}
-use Rattle.tk_ledger.proofs.KeyLaws.{same_tests, at_itself}
+use Rattle.tk_ledger.proofs.KeyLaws.{same_tests}
+use Rattle.tk_store.proofs.OneMoreLaws.{at_itself}
 use Rattle.tk_ledger.proofs.KeySearchLaws.{among, in_filter, of_filter}
 
 -- ---- orders of a dot and a tail
 
+-- a key is at most another if both of its parts are at most the other's
 lower : (o r : Ordering) → is_le o ≡ true → is_le r ≡ true → is_le (ordering_then o r) ≡ true
 lower Less r h i = refl
 lower Equal r h i = i
 lower Greater r h i = absurd (true≢false (sym h))
 
+-- a key isn't below another if both of the other's parts are at most its own
 upper : (o r : Ordering) → is_le o ≡ true → is_le r ≡ true
     → not (is_lt (ordering_then (ordering_reverse o) (ordering_reverse r))) ≡ true
 upper Less r h i = refl
@@ -49,11 +52,13 @@ upper Equal Equal h i = refl
 upper Equal Greater h i = absurd (true≢false (sym i))
 upper Greater r h i = absurd (true≢false (sym h))
 
+-- a key whose first part is less is less
 lt_then : (o r : Ordering) → is_lt o ≡ true → is_lt (ordering_then o r) ≡ true
 lt_then Less r h = refl
 lt_then Equal r h = absurd (true≢false (sym h))
 lt_then Greater r h = absurd (true≢false (sym h))
 
+-- what is less than another is at most the other
 lt_le : (o : Ordering) → is_lt o ≡ true → is_le o ≡ true
 lt_le Less h = refl
 lt_le Equal h = absurd (true≢false (sym h))
@@ -68,6 +73,7 @@ past Equal Equal h i = absurd (true≢false (sym h))
 past Equal Greater h i = absurd (true≢false (sym i))
 past Greater r h i = absurd (true≢false (sym h))
 
+-- a key isn't above another if both of its parts are at most the other's
 not_above : (o r : Ordering) → is_le o ≡ true → is_le r ≡ true
     → is_gt (ordering_then o r) ≡ false
 not_above Less r h i = refl
@@ -119,6 +125,7 @@ module _ {K R : Type 0} (cmp : K → K → Ordering) (total : IsTotalOrder cmp)
   span_forward (Some d) g h = ap is_gt (span.order d greatest_dot greatest greatest)
       ∙ not_above (dot_cmp d greatest_dot) (tail_cmp greatest greatest) (to_last d h) g.1
 
+  -- the greatest key isn't below the key of a dot in range with a tail in range
   not_over : (d : Dot) (t : R) → IsDot d → is_le (tail_cmp t greatest) ≡ true
       → not (is_lt (cmp (key greatest_dot greatest) (key d t))) ≡ true
   not_over d t h i =
@@ -162,9 +169,11 @@ module _ {K R : Type 0} (cmp : K → K → Ordering) (total : IsTotalOrder cmp)
 
   -- ---- the entries of keys
 
+  -- the keys of a list as entries at their dots
   abbrev entries : List K → List (Dot × K)
   entries xs = placed place xs
 
+  -- an entry that is found at a dot is a key of the list with that dot
   found : (q : Dot) (xs : List K) → is_some (maps.find dot_cmp q (entries xs)) ≡ true
       → (k : K) × ((place k ≡ q) × (among cmp k xs ≡ true))
   found q [] h = absurd (true≢false (sym h))
@@ -183,6 +192,7 @@ module _ {K R : Type 0} (cmp : K → K → Ordering) (total : IsTotalOrder cmp)
         (r.0, (r.1.0, or_right (is_at (cmp r.0) x) (among cmp r.0 xs) r.1.1))
   ]
 
+  -- an entry is found at the dot of each key of the list
   there : (k : K) (xs : List K) → among cmp k xs ≡ true
       → is_some (maps.find dot_cmp (place k) (entries xs)) ≡ true
   there k [] h = absurd (true≢false (sym h))
@@ -216,6 +226,7 @@ module _ {K R : Type 0} (cmp : K → K → Ordering) (total : IsTotalOrder cmp)
         → among cmp (key (place k) (tail k)) ks ≡ true
     as_key k h at = ap (λ (x : K). among cmp x ks) (sym (of_span a k h)) ∙ at
 
+    -- of two keys in the span, the lower one has the lower dot
     rises : (x y : K) → among cmp x ks ≡ true → among cmp y ks ≡ true → kept a x ≡ true
         → kept a y ≡ true → cmp x y ≡ Less → dot_cmp (place x) (place y) ≡ Less
     rises x y at also h i below = by_order (dot_cmp (place x) (place y)) refl
@@ -250,13 +261,16 @@ module _ {K R : Type 0} (cmp : K → K → Ordering) (total : IsTotalOrder cmp)
     abbrev Within : List K → Type 0
     Within xs = (k : K) → among cmp k xs ≡ true → among cmp k ks ≡ true
 
+    -- if each key of a list is among the keys, so is each key behind the first
     within_rest : (x : K) (xs : List K) → Within (x ∷ xs) → Within xs
     within_rest x xs w k h = w k (or_right (is_at (cmp k) x) (among cmp k xs) h)
 
+    -- the first key of a list within the keys is among them
     within_here : (x : K) (xs : List K) → Within (x ∷ xs) → among cmp x ks ≡ true
     within_here x xs w =
         w x (or_left (is_at (cmp x) x) (among cmp x xs) (ap is_eq (tied_itself total x)))
 
+    -- a key below each key of a list has a dot below those of the entries in the span
     low : (x : K) → among cmp x ks ≡ true → kept a x ≡ true → (xs : List K) → Within xs
         → AllByRecursion (λ y. cmp x y ≡ Less) xs
         → T (below_all dot_cmp (place x) (entries (filter (kept a) xs)))
@@ -271,6 +285,7 @@ module _ {K R : Type 0} (cmp : K → K → Ordering) (total : IsTotalOrder cmp)
           (low x at h ys (within_rest y ys w) all.1)
     ]
 
+    -- the entries in the span of a sorted list of keys are sorted by their dots
     in_order : (xs : List K) → Within xs → IsStrictlySortedBy cmp xs
         → T (maps.is_sorted dot_cmp (entries (filter (kept a) xs)))
     unfolding IsStrictlySortedBy

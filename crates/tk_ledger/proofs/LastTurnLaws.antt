@@ -45,10 +45,12 @@ pub record IsLast (F : FactSet) (client : Dot) (last : ℕ) : Type 0 where
   pub above : (turn : ℕ) → HasTurn F client turn → turn ≤ last
   pub held : (last ≡ 0) ⊎ HasTurn F client last
 
+-- one more turn, if there is one, doesn't lower the greatest turn
 no_less : (o : Option ℕ) (xs : List ℕ) → greatest_turn xs ≤ greatest_turn (cons_option o xs)
 no_less None xs = omega arith
 no_less (Some n) xs = le-max_right n (greatest_turn xs)
 
+-- a turn that is added to a list is at most the greatest turn
 not_above : (o : Option ℕ) (xs : List ℕ) (n : ℕ) → o ≡ Some n
     → n ≤ greatest_turn (cons_option o xs)
 not_above None xs n h = absurd (none_is_not_some n h)
@@ -56,6 +58,7 @@ not_above (Some m) xs n h =
     subst (λ (k : ℕ). k ≤ greatest_turn (m ∷ xs)) (some_injective m n h)
     (le-max_left m (greatest_turn xs))
 
+-- a turn that a fact of the list sets is at most the greatest turn of the list
 above_in : (client : Dot) (es : Facts) (d : Dot) (b : Body) (n : ℕ)
     → map.find dot_cmp d es ≡ Some b → turn_in client b ≡ Some n
     → n ≤ greatest_turn (turns client es)
@@ -75,6 +78,7 @@ above_in client (e ∷ es) d b n at h = elim (cases_Bool (eq_by_cmp dot_cmp d e.
     chained : (a b c : ℕ) → a ≤ b → b ≤ c → a ≤ c
     chained a b c h i = omega (arith, h, i)
 
+-- the greater of two numbers is one of them
 max_either : (a b : ℕ) → (max a b ≡ a) ⊎ (max a b ≡ b)
 max_either a b = elim (cases_lt a b) [
   | inl less ↦ inr (max-eq_right (below less))
@@ -84,6 +88,7 @@ max_either a b = elim (cases_lt a b) [
     below : a < b → a ≤ b
     below lt = omega (arith, lt)
 
+-- the greatest turn of some held facts is 0, or a held fact has it
 held_in : (F : FactSet) (client : Dot) (es : Facts) → AllIn F es
     → (greatest_turn (turns client es) ≡ 0) ⊎ HasTurn F client (greatest_turn (turns client es))
 held_in F client [] all = inl refl
@@ -112,6 +117,7 @@ last_turn-is F client = record {
   held = held_in F client (map.entries F) (AllIn-entries F);
 }
 
+-- for `last_unique`: one last turn of a client is at most another
 reached : (F : FactSet) (client : Dot) (m n : ℕ) → IsLast F client m → IsLast F client n → m ≤ n
 reached F client m n i j = elim i.held [
   | inl none ↦ subst (λ (k : ℕ). k ≤ n) (sym none) (omega arith)

@@ -10,6 +10,7 @@ pub mod FamilyEnds
 pub mod ForestLaws
 pub mod HereLaws
 pub mod IndexLaws
+pub mod ForestIndexLaws
 pub mod KeyLaws
 pub mod KeySearchLaws
 pub mod KeyWalkLaws

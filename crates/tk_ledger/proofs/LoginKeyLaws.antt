@@ -30,7 +30,9 @@ use Rattle.tk_ledger.specs.Changes.{digest_prefix}
 use Rattle.tk_ledger.specs.SubjectTables.{login_cmp, login_key, login_start, begins_under, IsLogins}
 use Rattle.tk_ledger.specs.Tokens.{issued_at}
 use Rattle.tk_ledger.specs.declared.subject_keys.LoginKey.{LoginKey}
-use Rattle.tk_ledger.proofs.KeyLaws.{at_is_same, both_tied, number_tied}
+use Rattle.tk_ledger.proofs.KeyLaws.{at_is_same}
+use Rattle.tk_vector.proofs.VersionVectorLaws.{number_tied}
+use Rattle.tk_family.proofs.ChildLaws.{both_tied}
 use Rattle.tk_ledger.proofs.KeyWalkLaws.{IsSpan, AreKeys}
 use Rattle.tk_ledger.proofs.KeyWalkLaws.{span_forward as forward}
 use Rattle.tk_ledger.proofs.SameLaws.{same_dot-true}
@@ -56,6 +58,7 @@ pub login_tied-dot : (g h : ℕ) (d q : Dot)
 login_tied-dot g h d q tie =
     same_dot-true d q (and_parts (g == h) (is_same_dot d q) (sym (login_tied g h d q) ∙ tie)).1
 
+-- login keys with equal parts are equal
 key_by : (a b : LoginKey) → a.prefix ≡ b.prefix → a.code ≡ b.code → a ≡ b
 key_by a b h i = λ x. record { prefix = h x; code = i x }
 
@@ -71,6 +74,7 @@ login_same a b h =
 abbrev pub NoTail : Type 0
 NoTail = Unit {0}
 
+-- the order of tails, of which there is one
 abbrev pub tail_cmp : NoTail → NoTail → Ordering
 tail_cmp t u = Equal
 
@@ -86,9 +90,11 @@ tails_total = record {
 abbrev pub login_at : ℕ → Dot → NoTail → LoginKey
 login_at prefix d t = login_key prefix d
 
+-- the tail of a key
 abbrev pub no_tail : LoginKey → NoTail
 no_tail k = tt
 
+-- an ordering followed by Equal is that ordering
 then_equal : (o : Ordering) → o ≡ ordering_then o Equal
 then_equal Less = refl
 then_equal Equal = refl

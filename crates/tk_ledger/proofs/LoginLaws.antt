@@ -45,6 +45,7 @@ once F d f issues alive p q one two = elim (cases_dots p q) [
 ]
 
 module _ (F : FactSet) (x : ForestFacts) (t : IsTied F x) (d : Dot) where
+  -- the fact that uses a code whose family isn't dead is the code's redemption
   redeemed_once : (f : issued.CodeIssued) → issued_at (map.get F) d ≡ Some f
       → is_dead F d ≡ false → (p : Dot) → use_of (links_at x p) ≡ Some (code_token d)
       → option_map (λ body. (p, body)) (map.get F p) ≡ redemption_of F d

@@ -31,7 +31,8 @@ use Rattle.tk_ledger.proofs.ChangeLaws.{changed, or_cond}
 use Rattle.tk_ledger.proofs.KeyLaws.{at_is_same}
 use Rattle.tk_ledger.proofs.LoginKeyLaws.{login_tied, login_tied-dot}
 use Rattle.tk_ledger.proofs.SameLaws.{same_dot-true}
-use Rattle.tk_ledger.proofs.SubjectTableLaws.{issuing, without, fewer}
+use Rattle.tk_ledger.proofs.SubjectTableLaws.{issuing, without}
+use Rattle.tk_family.proofs.HangRemovalLaws.{less as fewer}
 use Rattle.tk_ledger.proofs.TableLaws.{own_on}
 
 -- ---- a change and its body begin the same login
@@ -41,15 +42,18 @@ abbrev pub begins : ℕ → Change → Bool
 begins prefix (change.Issue own start) = own == prefix
 begins prefix other = false
 
+-- a body begins a login under a prefix exactly if its change does
 begins-change : (prefix : ℕ) (b : Body)
     → begins_under prefix (issued_in b) ≡ begins prefix (change_in b)
 begins-change prefix (CodeIssued x) = refl
 begins-change prefix body = refl
 
+-- a change that issues no code begins no login
 begins_none : (prefix : ℕ) (y : Change) → issuing y ≡ None → begins prefix y ≡ false
 begins_none prefix (change.Issue own start) h = absurd (none_is_not_some own (sym h))
 begins_none prefix other h = refl
 
+-- a login at a dot is begun by the new fact, or was before
 begun_on : (F G : FactSet) (d : Dot) (b : Body) (prefix : ℕ) (q : Dot) (x : Bool)
     → OneMore F G d b
     → x ≡ begins_under prefix (issued_at (map.get F) q)
@@ -72,6 +76,7 @@ begun_on F G d b prefix q x m i =
 abbrev RangedLogins : BTreeSet LoginKey → Type 0
 RangedLogins t = (prefix : ℕ) (d : Dot) → is_listed_login t prefix d ≡ true → IsDot d
 
+-- the table of logins after any change
 logins_by : (G : FactSet) (d : Dot) (y : Change) (t u : BTreeSet LoginKey)
     → option_map change_in (map.get G d) ≡ Some y → IsLogins (map.remove G d) t → RangedLogins u
     → ((prefix : ℕ) (q : Dot)

@@ -1,8 +1,6 @@
 -- The forest and all tables follow the set when that loses a fact. Key results:
---   untied_link, untied_revocation, untied_reuse
---                                      the forest after the loss of a link, a revocation, a reuse
---   lost_code, lost_link, lost_revocation, lost_reuse
---                                      all tables, and the forest
+--   untied_link, untied_revocation, untied_reuse        the forest after the loss of a fact
+--   lost_code, lost_link, lost_revocation, lost_reuse   all tables, and the forest
 use Rattle.std.proofs.Common.{◌≡◌, ◌≢◌, ◌⊎◌, inl, inr, ℕ, Bool, true, false, cond, if◌then◌else◌}
 use Rattle.std.proofs.Common.{Some, None, refl, sym, ap, subst, ◌∙◌}
 use Rattle.std.proofs.lemmas.Bool.{true≢false, cases_Bool, cond-true, cond-false}
@@ -21,9 +19,9 @@ use Rattle.tk_family.specs.Families.{IsUnder, grant_at}
 use Rattle.tk_family.specs.ForestFacts.{ForestFacts}
 use Rattle.tk_family.proofs.FamilyLaws.{IsUnder-within}
 use Rattle.tk_fact.specs.declared.body.Body.{Body}
-use Rattle.tk_fact.specs.declared.token_revoked.TokenRevoked as revoked
+use Rattle.tk_ledger.specs.declared.change.RevokedToken as revoked
 use Rattle.tk_store.specs.FactSet.{FactSet}
-use Rattle.tk_store.proofs.OneMoreLaws.{OneMore, more_subset, cases_dots, apart_at}
+use Rattle.tk_store.proofs.OneMoreLaws.{OneMore, more_subset, cases_dots, apart_at, at_itself}
 use Rattle.tk_ledger.specs.Changes.{change_in, adds, retires_of, gives_to, withdraws_of, revokes_of}
 use Rattle.tk_ledger.specs.Changes.{reuses_of}
 use Rattle.tk_ledger.specs.Index.{revocation_cmp, revocation_key, IsRevocations, reuse_cmp}
@@ -43,7 +41,6 @@ use Rattle.tk_ledger.proofs.ChangeLaws.{Changed, changed}
 use Rattle.tk_ledger.proofs.ForestLaws.{puts, revoking, signs, Touches, same_mark, put_reuses}
 use Rattle.tk_ledger.proofs.ForestLaws.{put_revokes, put_signs, unsigned, unrevoked, revokes_at}
 use Rattle.tk_ledger.proofs.ForestLaws.{links_still}
-use Rattle.tk_ledger.proofs.KeyLaws.{at_itself}
 use Rattle.tk_ledger.proofs.LoginTableLaws.{logins_kept, logins_less}
 use Rattle.tk_ledger.proofs.SameLaws.{same_token-true}
 use Rattle.tk_ledger.proofs.SecretTableLaws.{setting, secrets_less}
@@ -135,7 +132,7 @@ untied_reuse F G d b j x z m is t woke =
     ])
 
 -- the forest without a revocation, if the marks at the token's dot were written
-untied_revocation : (F G : FactSet) (d : Dot) (b : Body) (f : revoked.TokenRevoked)
+untied_revocation : (F G : FactSet) (d : Dot) (b : Body) (f : revoked.RevokedToken)
     (x z : ForestFacts) → OneMore F G d b → change_in b ≡ change.Revoke f → IsTied G x
     → Wakes F x (λ q. dot_eq q f.token.dot) z → IsTied F z
 untied_revocation F G d b f x z m is t woke =
@@ -160,6 +157,7 @@ pub record Loss (F : FactSet) (d : Dot) (y : Change) (x : Index) : Type 0 where
   pub more : OneMore F before d body
   pub indexed : IsIndexed before x
 
+-- tables of the set before a loss give the fact that is lost
 pub loss : (F : FactSet) (d : Dot) (y : Change) (x : Index) → WasIndexed F d y x → Loss F d y x
 loss F d y x w =
     let c : Changed w.before d y = changed w.before d y w.makes in
@@ -284,7 +282,7 @@ lost_reuses F d j x s w r =
     reuses_less F o.before d o.body j x.reuses s o.more o.is o.indexed.reuses_are r
 
 -- and after the loss of a revocation
-pub less_revocations : (F : FactSet) (d : Dot) (f : revoked.TokenRevoked) (x : Index)
+pub less_revocations : (F : FactSet) (d : Dot) (f : revoked.RevokedToken) (x : Index)
     (s : BTreeSet Revocation) → WasIndexed F d (change.Revoke f) x
     → ((e : Revocation)
     → contains revocation_cmp s e
@@ -295,7 +293,7 @@ less_revocations F d f x s w r =
     revocations_less F o.before d o.body f x.revocations s o.more o.is o.indexed.revocations_are r
 
 -- the loss of a revocation leaves the table of reuses
-pub less_reuses : (F : FactSet) (d : Dot) (f : revoked.TokenRevoked) (x : Index)
+pub less_reuses : (F : FactSet) (d : Dot) (f : revoked.RevokedToken) (x : Index)
     → WasIndexed F d (change.Revoke f) x → IsReuses F x.reuses
 less_reuses F d f x w =
     let o : Loss F d (change.Revoke f) x = loss F d (change.Revoke f) x w in
@@ -358,7 +356,7 @@ lost_reuse F d j x s z w r woke =
     }
 
 -- all tables after the loss of a revocation, without its key
-pub lost_revocation : (F : FactSet) (d : Dot) (f : revoked.TokenRevoked) (x : Index)
+pub lost_revocation : (F : FactSet) (d : Dot) (f : revoked.RevokedToken) (x : Index)
     (s : BTreeSet Revocation) (z : ForestFacts) → WasIndexed F d (change.Revoke f) x
     → ((e : Revocation)
     → contains revocation_cmp s e

@@ -19,17 +19,18 @@ use Rattle.tk_fact.specs.declared.body.Body.{Body}
 use Rattle.tk_fact.specs.Keeping.{kept_for}
 use Rattle.tk_store.specs.FactSet.{FactSet, Facts}
 use Rattle.tk_store.proofs.EntryLaws.{Passing, any_fact-held, any_fact-of}
-use Rattle.tk_store.proofs.FactSetLaws.{tied}
+use Rattle.tk_handle.proofs.TestLaws.{tied}
 use Rattle.tk_ledger.specs.Retention.{mints, IsOverAt, MintsNothing, MaySkip, is_over_by}
 use Rattle.tk_ledger.specs.Retention.{mints_nothing}
 use Rattle.tk_ledger.specs.Retention.{is_over, is_any_over, may_skip, issues, picks_code}
 use Rattle.tk_ledger.specs.Retention.{picks_other, picked, dots_over}
 use Rattle.tk_ledger.specs.Tokens.{Root, root_in}
-use Rattle.tk_ledger.proofs.KeyLaws.{at_itself}
+use Rattle.tk_store.proofs.OneMoreLaws.{at_itself}
 use Rattle.tk_ledger.proofs.RootLaws.{root-sound, root-complete}
 
 -- ---- the test
 
+-- a dot whose body mints nothing, by the test, has a fact that mints nothing
 barren_here : (F : FactSet) (d : Dot) (o : Option Body) → map.get F d ≡ o → mints_nothing o ≡ true
     → MintsNothing (map.get F) d
 barren_here F d None at h = absurd (true≢false (sym h))
@@ -39,6 +40,7 @@ barren_here F d (Some b) at h = by (mints b) refl h
     by false is h = record { fact = b; here = at; barren = is }
     by true is h = absurd (true≢false (sym h))
 
+-- a dot whose root is over, by the test, is in a family that is over at the horizon
 over_root : (F : FactSet) (horizon : ℕ) (d : Dot) (o : Option Root) → root_in (map.get F) d ≡ o
     → is_over_by horizon o ≡ true → IsOverAt (map.get F) horizon d
 over_root F horizon d None j h = absurd (true≢false (sym h))
@@ -52,6 +54,7 @@ over_root F horizon d (Some root) j h =
       over = leb-true root.issued.family_end horizon h;
     }
 
+-- what is over by the test is in a family that is over, or at a fact that mints nothing
 over_why : (F : FactSet) (horizon : ℕ) (k : TokenId) → is_over F horizon k ≡ true
     → IsOverAt (map.get F) horizon k.dot ⊎ MintsNothing (map.get F) k.dot
 over_why F horizon k h = elim (or_cases (mints_nothing (map.get F k.dot))
@@ -71,6 +74,7 @@ may_skip-sound F horizon d b here h = by_token (kept_for d b) refl h
     by_token (Some k) kept h =
         record { fact = b; here = here; token = k; kept = kept; why = over_why F horizon k h }
 
+-- what is in a family that is over, or at a fact that mints nothing, is over by the test
 why_over : (F : FactSet) (horizon : ℕ) (k : TokenId)
     → IsOverAt (map.get F) horizon k.dot ⊎ MintsNothing (map.get F) k.dot
     → is_over F horizon k ≡ true
@@ -90,6 +94,7 @@ may_skip-complete F horizon d s =
 
 -- ---- all facts that may be skipped
 
+-- a fact is at the dot, and passes the test
 abbrev at_dot : (Dot × Body → Bool) → Dot → Dot × Body → Bool
 at_dot p q f = p f && dot_eq q f.0
 
@@ -121,6 +126,7 @@ picked-sound p F q h =
     let same : q ≡ x.dot = tied q x.dot both.1 in
     (x.body, ap (map.get F) same ∙ x.held, ap (λ (d : Dot). p (d, x.body)) same ∙ both.0)
 
+-- the dot of a held fact that passes is among those of the facts that pass
 picked-complete : (p : Dot × Body → Bool) (F : FactSet) (q : Dot) (b : Body) → map.get F q ≡ Some b
     → p (q, b) ≡ true → has (picked p (map.entries F)) q ≡ true
 picked-complete p F q b held passes = has_picked p (map.entries F) q

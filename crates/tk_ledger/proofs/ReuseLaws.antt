@@ -23,7 +23,7 @@ use Rattle.tk_handle.proofs.SpanLaws.{from_first, to_last, not_past, between}
 use Rattle.tk_fact.specs.declared.body.Body.{Body}
 use Rattle.tk_store.specs.FactSet.{FactSet}
 use Rattle.tk_store.proofs.EntryLaws.{Passing, any_fact-held, any_fact-of}
-use Rattle.tk_store.proofs.FactSetLaws.{tied}
+use Rattle.tk_handle.proofs.TestLaws.{tied}
 use Rattle.tk_store.proofs.OneMoreLaws.{OneMore}
 use Rattle.tk_ledger.specs.Bodies.{is_same_dot, is_same_token}
 use Rattle.tk_ledger.specs.Changes.{change_in, reuses_of}
@@ -32,17 +32,21 @@ use Rattle.tk_ledger.specs.Index.{is_listed_reuse, IsReuses}
 use Rattle.tk_ledger.specs.Tokens.{sees_reuse, is_reused}
 use Rattle.tk_ledger.specs.declared.reuses.ReuseKey.{ReuseKey}
 use Rattle.tk_ledger.proofs.ForestLaws.{reuse-change}
-use Rattle.tk_ledger.proofs.KeyLaws.{same_tests, at_is_same, both_tied, number_tied}
+use Rattle.tk_ledger.proofs.KeyLaws.{same_tests, at_is_same}
+use Rattle.tk_vector.proofs.VersionVectorLaws.{number_tied}
+use Rattle.tk_family.proofs.ChildLaws.{both_tied}
 use Rattle.tk_ledger.proofs.KeySearchLaws.{every, some_key, any_key, found_passes, none_passes}
 use Rattle.tk_ledger.proofs.SameLaws.{same_dot-true}
 use Rattle.tk_ledger.proofs.TableLaws.{own_on}
 
 -- ---- keys
 
+-- the order of reuse keys is total
 reuses_total : IsTotalOrder reuse_cmp
 reuses_total = then_total (on_total (λ k. k.dot) dot_cmp_total)
     (then_total (on_total (λ k. k.kind) nat_cmp_total) (on_total (λ k. k.place) dot_cmp_total))
 
+-- reuse keys compare as equal exactly if their parts are equal
 key_tied : (a b : ReuseKey)
     → eq_by_cmp reuse_cmp a b
     ≡ (is_same_dot a.dot b.dot && ((a.kind == b.kind) && is_same_dot a.place b.place))
@@ -56,6 +60,7 @@ key_tied a b =
     (number_tied a.kind b.kind)
     ∙ ap (λ x. is_same_dot a.dot b.dot && ((a.kind == b.kind) && x)) (at_is_same a.place b.place)
 
+-- reuse keys with equal parts are equal
 key_by : (a b : ReuseKey) → a.dot ≡ b.dot → a.kind ≡ b.kind → a.place ≡ b.place → a ≡ b
 key_by a b h i j = λ x. record { dot = h x; kind = i x; place = j x }
 
@@ -95,6 +100,7 @@ reuses_forward k a b first last =
     ∙ ap (λ (x : ReuseKey). is_gt (reuse_cmp (reuse_key k least_dot) x)) last
     ∙ ap is_gt (key_order k least_dot greatest_dot)
 
+-- the span of a token has a key, by the test of its two ends
 abbrev in_range : TokenId → ReuseKey → Bool
 in_range k e = range_contains reuse_cmp (Included (reuse_key k least_dot))
     (Included (reuse_key k greatest_dot)) e
@@ -127,6 +133,7 @@ of_token k e h =
 
 -- ---- the table has a reuse of exactly the tokens whose reuse was seen
 
+-- a token whose reuse is held at a dot is reused, by the test
 reuse_held : (F : FactSet) (k : TokenId) (d : Dot) (o : Option Body) → map.get F d ≡ o
     → is_reuse_of k o ≡ true → is_reused F k ≡ true
 reuse_held F k d None at h = absurd (true≢false (sym h))

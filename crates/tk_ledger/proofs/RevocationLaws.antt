@@ -31,7 +31,7 @@ use Rattle.tk_fact.specs.Tokens.{MintedFields}
 use Rattle.tk_fact.specs.declared.body.Body.{Body}
 use Rattle.tk_store.specs.FactSet.{FactSet}
 use Rattle.tk_store.proofs.EntryLaws.{Passing, any_fact-held, any_fact-of}
-use Rattle.tk_store.proofs.FactSetLaws.{tied}
+use Rattle.tk_handle.proofs.TestLaws.{tied}
 use Rattle.tk_store.proofs.OneMoreLaws.{OneMore}
 use Rattle.tk_ledger.specs.ByTop.{ended_in}
 use Rattle.tk_ledger.specs.Bodies.{is_same_dot, is_same_token}
@@ -41,13 +41,16 @@ use Rattle.tk_ledger.specs.Index.{has_revocation, is_revocation_of, is_listed_re
 use Rattle.tk_ledger.specs.Index.{IsRevocations}
 use Rattle.tk_ledger.specs.Tokens.{Root, revokes, is_revoked, is_ended_by}
 use Rattle.tk_ledger.specs.declared.revocations.Revocation.{Revocation}
-use Rattle.tk_ledger.proofs.KeyLaws.{same_tests, at_is_same, both_tied, number_tied, bytes_tied}
+use Rattle.tk_ledger.proofs.KeyLaws.{same_tests, at_is_same, bytes_tied}
+use Rattle.tk_vector.proofs.VersionVectorLaws.{number_tied}
+use Rattle.tk_family.proofs.ChildLaws.{both_tied}
 use Rattle.tk_ledger.proofs.KeySearchLaws.{every, some_key, any_key, found_passes, none_passes}
 use Rattle.tk_ledger.proofs.SameLaws.{same_dot-true}
 use Rattle.tk_ledger.proofs.TableLaws.{own_on, revokes-change}
 
 -- ---- keys
 
+-- the order of revocation keys is total
 revocations_total : IsTotalOrder revocation_cmp
 revocations_total =
     then_total (on_total (λ k. k.dot) dot_cmp_total)
@@ -55,6 +58,7 @@ revocations_total =
     (then_total (on_total (λ k. k.digest) nat_list_cmp_total)
     (then_total (on_total (λ k. k.client) dot_cmp_total) (on_total (λ k. k.place) dot_cmp_total))))
 
+-- revocation keys compare as equal exactly if their parts are equal
 key_tied : (a b : Revocation)
     → eq_by_cmp revocation_cmp a b
     ≡ (is_same_dot a.dot b.dot
@@ -90,6 +94,7 @@ key_tied a b =
     && ((a.kind == b.kind) && (bytes_eq a.digest b.digest && (is_same_dot a.client b.client && x))))
     (at_is_same a.place b.place)
 
+-- revocation keys with equal parts are equal
 key_by : (a b : Revocation) → a.dot ≡ b.dot → a.kind ≡ b.kind → a.digest ≡ b.digest
     → a.client ≡ b.client → a.place ≡ b.place → a ≡ b
 key_by a b h i j k l =
@@ -147,6 +152,7 @@ revocations_forward k g c a b first last =
     ∙ ap (λ (x : Revocation). is_gt (revocation_cmp (revocation_key k g c least_dot) x)) last
     ∙ ap is_gt (key_order k g c least_dot greatest_dot)
 
+-- the span of a token, digest and client has a key, by the test of its two ends
 abbrev in_range : TokenId → List ℕ → Dot → Revocation → Bool
 in_range k g c e = range_contains revocation_cmp (Included (revocation_key k g c least_dot))
     (Included (revocation_key k g c greatest_dot)) e
@@ -198,6 +204,7 @@ of_token k g c e h =
 
 -- ---- the table has a revocation exactly if the client revoked the token
 
+-- a token whose revocation is held at a dot is revoked, by the test
 revocation_held : (F : FactSet) (k : TokenId) (g : List ℕ) (c d : Dot) (o : Option Body)
     → map.get F d ≡ o → is_revocation_of k g c o ≡ true → is_revoked F k g c ≡ true
 revocation_held F k g c d None at h = absurd (true≢false (sym h))

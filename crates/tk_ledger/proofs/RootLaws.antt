@@ -106,6 +106,7 @@ pub minted-linked : (body_at : Bodies) (d c : Dot) (l : Link) → links_in body_
 minted-linked body_at d c l at under =
     subst (λ (q : Dot). IsUnder (links_in body_at) q c) (anchor-linked body_at d l at) under
 
+-- a body that mints a code or a refresh token has a link
 grant_link : (b : Body) (k : Kind) (m : MintedFields) → k ≢ kind.Access → minted_of b k ≡ Some m
     → (l : Link) × (link_of b ≡ Some l)
 grant_link (bodies.CodeIssued f) k m other h = (Code, refl)

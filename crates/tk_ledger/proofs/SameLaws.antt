@@ -1,4 +1,7 @@
--- Dots and tokens that are equal by their tests are equal.
+-- Dots and tokens that are equal by their tests are equal. Key results:
+--   same_dot-true, same_dot-itself       dots are the same by the test exactly if they are equal
+--   same_token-true, same_token-itself   tokens are the same by the test exactly if they are equal
+--   names_token-true, names_dot-true     an option that names a token or a dot, by the test, has it
 use Rattle.std.proofs.Common.{◌≡◌, ◌≢◌, ◌==◌, true, false, Option, Some, None, refl, sym, ap, ◌∙◌}
 use Rattle.std.proofs.Common.{arith}
 use Rattle.std.proofs.lemmas.Bool.{true≢false, and_parts, and_from, false_from_ne_true}
@@ -36,6 +39,7 @@ same_dot-false a b h same = true≢false (sym (same_dot-itself a) ∙ ap (is_sam
 pub same_dot-apart : (a b : Dot) → a ≢ b → is_same_dot a b ≡ false
 same_dot-apart a b ne = false_from_ne_true (is_same_dot a b) (λ same. ne (same_dot-true a b same))
 
+-- kinds with equal numbers are equal
 same_kind : (k j : Kind) → (kind_number k == kind_number j) ≡ true → k ≡ j
 same_kind Code Code h = refl
 same_kind Code Access h = absurd (true≢false (sym h))
@@ -47,11 +51,13 @@ same_kind Refresh Code h = absurd (true≢false (sym h))
 same_kind Refresh Access h = absurd (true≢false (sym h))
 same_kind Refresh Refresh h = refl
 
+-- the number of a kind equals itself, by the test
 kind_itself : (k : Kind) → (kind_number k == kind_number k) ≡ true
 kind_itself Code = refl
 kind_itself Access = refl
 kind_itself Refresh = refl
 
+-- tokens with equal dots and kinds are equal
 both : (d e : Dot) (k j : Kind) (a b : TokenId) → d ≡ e → k ≡ j → a ≡ record { dot = d; kind = k }
     → b ≡ record { dot = e; kind = j } → a ≡ b
 both d e k j a b h i p q = cc

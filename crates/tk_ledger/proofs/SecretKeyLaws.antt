@@ -22,11 +22,13 @@ use Rattle.std.specs.declared.ops.Bound.TheVariants.{Included}
 use Rattle.tk_handle.specs.declared.dot.Dot.{Dot}
 use Rattle.tk_handle.specs.Dot.{IsDot, dot_cmp, dot_cmp_total, least_dot, greatest_dot}
 use Rattle.tk_handle.proofs.SpanLaws.{number_le, from_first, to_last, not_past, between}
-use Rattle.tk_store.proofs.FactSetLaws.{tied}
+use Rattle.tk_handle.proofs.TestLaws.{tied}
 use Rattle.tk_ledger.specs.Bodies.{is_same_dot}
 use Rattle.tk_ledger.specs.SecretTables.{secret_cmp, secret_key, first_of, last_of, greatest_key}
 use Rattle.tk_ledger.specs.declared.secrets.SecretKey.{SecretKey}
-use Rattle.tk_ledger.proofs.KeyLaws.{at_is_same, both_tied, number_tied, bytes_tied}
+use Rattle.tk_ledger.proofs.KeyLaws.{at_is_same, bytes_tied}
+use Rattle.tk_vector.proofs.VersionVectorLaws.{number_tied}
+use Rattle.tk_family.proofs.ChildLaws.{both_tied}
 use Rattle.tk_ledger.proofs.SameLaws.{same_dot-true}
 
 -- ---- keys
@@ -39,6 +41,7 @@ secrets_total =
     (then_total (on_total (λ k. k.digest) nat_list_cmp_total)
     (on_total (λ k. k.place) dot_cmp_total)))
 
+-- secret keys compare as equal exactly if their parts are equal
 key_tied : (a b : SecretKey)
     → eq_by_cmp secret_cmp a b
     ≡ (is_same_dot a.client b.client
@@ -62,6 +65,7 @@ key_tied a b =
     && ((a.left == b.left) && (bytes_eq a.digest b.digest && x)))
     (at_is_same a.place b.place)
 
+-- secret keys with equal parts are equal
 key_by : (a b : SecretKey) → a.client ≡ b.client → a.left ≡ b.left → a.digest ≡ b.digest
     → a.place ≡ b.place → a ≡ b
 key_by a b h i j k = λ x. record { client = h x; left = i x; digest = j x; place = k x }
@@ -123,11 +127,13 @@ zeros_first (suc n) (x ∷ g) h = elim (number_le 0 x (omega arith)) [
       ∙ zeros_first n g (omega (arith, h))
 ]
 
+-- a key is at most another if its first part isn't above and the rest is at most the other's
 le_then : (o r : Ordering) → is_gt o ≡ false → is_le r ≡ true → is_le (ordering_then o r) ≡ true
 le_then Less r h i = refl
 le_then Equal r h i = i
 le_then Greater r h i = sym h
 
+-- a key is in the span of the client
 abbrev pub is_of_client : Dot → SecretKey → Bool
 is_of_client c e = range_contains secret_cmp (Included (first_of c)) (Included (last_of c)) e
 
@@ -186,6 +192,7 @@ secret_forward c l g a b first last =
     ∙ ap (λ (x : SecretKey). is_gt (secret_cmp (secret_key c l g least_dot) x)) last
     ∙ ap is_gt (key_order c l g least_dot greatest_dot)
 
+-- a key is in the span of one secret of the client
 abbrev pub is_of_secret : Dot → ℕ → List ℕ → SecretKey → Bool
 is_of_secret c l g e = range_contains secret_cmp (Included (secret_key c l g least_dot))
     (Included (secret_key c l g greatest_dot)) e

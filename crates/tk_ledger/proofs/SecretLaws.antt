@@ -42,6 +42,7 @@ use Rattle.tk_ledger.proofs.SecretKeyLaws.{secrets_total, secret_same, client_or
 use Rattle.tk_ledger.proofs.SecretKeyLaws.{in_client, of_client, is_of_secret, in_secret, of_secret}
 use Rattle.tk_ledger.proofs.SignOutLaws.{less_is}
 
+-- a body that a secret is found in is the fact that sets it
 secret_body : (b : Body) (f : set.SecretSet) → secret_in b ≡ Some f → b ≡ SecretSet f
 secret_body (SecretSet x) f h = ap (λ (y : set.SecretSet). SecretSet y) (some_injective x f h)
 secret_body body f h = absurd (none_is_not_some f h)
@@ -55,6 +56,7 @@ record Found (F : FactSet) (c : Dot) (left : ℕ) (g : List ℕ) (d : Dot) : Typ
   pub digest : fact.digest ≡ g
   pub early : fact.turn ≤ greatest_key
 
+-- each key in the table is that of a fact that is held
 found : (F : FactSet) (t : BTreeSet SecretKey) (c : Dot) (left : ℕ) (g : List ℕ) (d : Dot)
     → IsSecrets F t → contains secret_cmp t (secret_key c left g d) ≡ true → Found F c left g d
 found F t c left g d i h = by (secret_at (map.get F) d) refl (sym (i.listed c left g d) ∙ h)
@@ -83,6 +85,7 @@ record Listed (F : FactSet) (t : BTreeSet SecretKey) (d : Dot) (f : set.SecretSe
   pub long : length f.digest ≡ 32
   pub early : f.turn ≤ greatest_key
 
+-- each fact that sets a secret and is held has its key in the table, and is in range
 listed : (F : FactSet) (t : BTreeSet SecretKey) (d : Dot) (f : set.SecretSet) → IsSecrets F t
     → map.get F d ≡ Some (SecretSet f) → Listed F t d f
 listed F t d f i here = record {
@@ -127,6 +130,7 @@ record Setting (F : FactSet) (client : Dot) (turn : ℕ) : Type 0 where
   pub client_is : fact.client ≡ client
   pub turn_is : fact.turn ≡ turn
 
+-- a turn of the client is that of a fact that is held
 setting : (F : FactSet) (client : Dot) (turn : ℕ) → HasTurn F client turn → Setting F client turn
 setting F client turn h = by h.body h.held h.sets
   where

@@ -42,6 +42,7 @@ sets_to client left digest (change.SetSecret c turn g) =
     is_same_dot c client && ((turns_left turn == left) && bytes_eq g digest)
 sets_to client left digest other = false
 
+-- a body sets a secret exactly if its change does
 sets-change : (c : Dot) (l : ℕ) (g : List ℕ) (b : Body)
     → is_left_to c l g (secret_in b) ≡ sets_to c l g (change_in b)
 sets-change c l g (SecretSet x) = refl
@@ -52,6 +53,7 @@ abbrev pub setting : Change → Bool
 setting (change.SetSecret c turn g) = true
 setting other = false
 
+-- a change that sets no secret sets none of any client, turn or digest
 sets_none : (c : Dot) (l : ℕ) (g : List ℕ) (y : Change) → setting y ≡ false
     → sets_to c l g y ≡ false
 sets_none c l g (change.SetSecret e turn h) none = absurd (true≢false none)
@@ -62,6 +64,7 @@ abbrev pub turn_by : Change → Option ℕ
 turn_by (change.SetSecret c turn g) = Some turn
 turn_by other = None
 
+-- the turn of a secret that a body sets is that of its change
 turn-change : (b : Body) (f : set.SecretSet) → secret_in b ≡ Some f
     → turn_by (change_in b) ≡ Some f.turn
 turn-change (SecretSet x) f h = ap (λ (c : set.SecretSet). Some c.turn) (some_injective x f h)
@@ -72,10 +75,12 @@ abbrev pub IsKeyed : Change → Type 0
 IsKeyed (change.SetSecret c turn g) = turn ≤ greatest_key
 IsKeyed other = Unit {0}
 
+-- a change that sets no secret has no turn out of range
 unset_keyed : (y : Change) → setting y ≡ false → IsKeyed y
 unset_keyed (change.SetSecret c turn g) h = absurd (true≢false h)
 unset_keyed other h = tt
 
+-- the turn of a change whose turn is in range is at most the greatest of a key
 keyed_turn : (y : Change) (turn : ℕ) → turn_by y ≡ Some turn → IsKeyed y → turn ≤ greatest_key
 keyed_turn (change.SetSecret c n g) turn h keyed =
     subst (λ (m : ℕ). m ≤ greatest_key) (some_injective n turn h) keyed
@@ -88,6 +93,7 @@ abbrev pub RangedSecrets : BTreeSet SecretKey → Type 0
 RangedSecrets t = (c : Dot) (l : ℕ) (g : List ℕ) (d : Dot) → is_listed_secret t c l g d ≡ true
     → IsDot d × (length g ≡ 32)
 
+-- a secret at a dot is set by the new fact, or was before
 set_on : (F G : FactSet) (d : Dot) (b : Body) (c : Dot) (l : ℕ) (g : List ℕ) (q : Dot) (x : Bool)
     → OneMore F G d b → x ≡ is_left_to c l g (secret_at (map.get F) q)
     → ((sets_to c l g (change_in b) && is_at d q) || x)
@@ -103,6 +109,7 @@ set_on F G d b c l g q x m i =
     (λ ne. ap (λ e. is_left_to c l g (option_and_then secret_in e)) (m.there q ne))
     i
 
+-- the table of secrets follows the set with one more fact
 secrets_on : (F G : FactSet) (d : Dot) (b : Body) (t u : BTreeSet SecretKey) → OneMore F G d b
     → IsSecrets F t → RangedSecrets u → IsKeyed (change_in b)
     → ((c : Dot) (l : ℕ) (g : List ℕ) (q : Dot)
@@ -121,6 +128,7 @@ secrets_on F G d b t u m i ranged keyed r = record {
   ];
 }
 
+-- the table of secrets after any change
 secrets_by : (G : FactSet) (d : Dot) (y : Change) (t u : BTreeSet SecretKey)
     → option_map change_in (map.get G d) ≡ Some y → IsSecrets (map.remove G d) t → RangedSecrets u
     → IsKeyed y

@@ -38,7 +38,8 @@ use Rattle.tk_ledger.specs.SignOuts.{IsFirstUnreached, sign_out_in, sign_out_at}
 use Rattle.tk_ledger.specs.SubjectTables.{IsOuts, left_after, out_cmp, out_key, outs_of, tells_by}
 use Rattle.tk_ledger.specs.SubjectTables.{tells_of}
 use Rattle.tk_ledger.specs.declared.subject_keys.OutKey.{OutKey}
-use Rattle.tk_ledger.proofs.KeyLaws.{same_tests, at_itself}
+use Rattle.tk_ledger.proofs.KeyLaws.{same_tests}
+use Rattle.tk_store.proofs.OneMoreLaws.{at_itself}
 use Rattle.tk_ledger.proofs.KeySearchLaws.{among, found_passes, none_passes, first_least}
 use Rattle.tk_ledger.proofs.SameLaws.{same_dot-true, same_dot-itself}
 use Rattle.tk_ledger.proofs.SubjectKeyLaws.{out_listed, outs_total, out_by, out_same, out_order}
@@ -46,6 +47,7 @@ use Rattle.tk_ledger.proofs.SubjectKeyLaws.{in_outs, of_subject}
 use Rattle.tk_ledger.proofs.RootLaws.{from_some}
 use Rattle.tk_ledger.proofs.TokenLaws.{is_signed_out-sound, is_signed_out-complete}
 
+-- a body that a sign-out is found in is that of the sign-out
 sign_out_body : (b : Body) (f : out.SubjectOut) → sign_out_in b ≡ Some f → b ≡ SubjectOut f
 sign_out_body (SubjectOut x) f h = ap (λ (y : out.SubjectOut). SubjectOut y) (some_injective x f h)
 sign_out_body body f h = absurd (none_is_not_some f h)
@@ -64,6 +66,7 @@ record Listed (F : FactSet) (t : BTreeSet OutKey) (subject : List ℕ) (f : out.
       ≡ true
   pub passes : tells_of F subject (its_key subject f d) ≡ true
 
+-- a sign-out that is held has its key in the table and in the span of its subject, and passes
 listed : (F : FactSet) (t : BTreeSet OutKey) (subject : List ℕ) (moment : ℕ) → IsOuts F t
     → (s : IsSignedOut (map.get F) subject moment) → Listed F t subject s.sign_out s.place
 listed F t subject moment i s =

@@ -1,15 +1,12 @@
 -- What the store of a ledger knows once a dot is skipped. Key results:
 --   skipped_held, free_skipped   the facts that are held then
 --   skipped_passes, was_indexed  what is needed to bring the tables up to date
---   skips_none, skips_more, skips_whole
---                                a loop that skips the dots of a list
---   may_still, never_refused     a dot that may go is never refused
---   all_may_go                   what may be skipped may go
+--   skips_more                   a loop that skips the dots of a list
+--   never_refused, all_may_go    what may be skipped may go, and is never refused
 use Rattle.std.proofs.Common.{◌≡◌, ◌⊎◌, inl, inr, ℕ, ◌+◌, ◌-◌, ◌<◌, ◌≤◌, Bool, true, false, ◌||◌}
 use Rattle.std.proofs.Common.{cond, List, get_or, take, length, Option, Some, None, is_some}
 use Rattle.std.proofs.Common.{option_map, Result, Ok, Err, refl, sym, ap, subst, ◌∙◌, arith}
 use Rattle.std.proofs.lemmas.Bool.{true≢false, cases_Bool}
-use Rattle.std.proofs.lemmas.List.{take_all}
 use Rattle.std.proofs.lemmas.List.Folds.{list_any_more}
 use Rattle.std.specs.FinMap as map
 use Rattle.tk_handle.specs.declared.dot.Dot.{Dot}
@@ -38,6 +35,7 @@ use Rattle.tk_ledger.specs.Losses.{passes, WasIndexed}
 use Rattle.tk_ledger.specs.Retention.{MaySkip, SkipsAll, AllMayGo}
 use Rattle.tk_ledger.specs.declared.change.Change.{Change}
 use Rattle.tk_ledger.specs.declared.index.Index.{Index}
+use Rattle.tk_handle.proofs.TestLaws.{neither}
 
 -- ---- one dot
 
@@ -56,6 +54,7 @@ passing_change (SubjectOut f) h = h
 passing_change (AccessRefreshed f) h = refl
 passing_change (SecretSet f) h = h
 
+-- the store after a skip that succeeds is that with the dot skipped
 skipped_is : (P Q : StoreFields) (d : Dot) (a : Added) → Skips P d (Ok a) Q → Q ≡ with_skipped P d
 skipped_is P Q d added.New s = s.1
 skipped_is P Q d added.Held s = s.1
@@ -65,6 +64,7 @@ pub skipped_held : (P Q : StoreFields) (d : Dot) (a : Added) → Skips P d (Ok a
     → held_facts Q ≡ map.remove (held_facts P) d
 skipped_held P Q d a s = ap held_facts (skipped_is P Q d a s) ∙ held_skip P.slots d
 
+-- a fact in a slot that may go passes
 may_pass : (o : Option Slot) (b : Body) → MayGo o → held_slot o ≡ Some b → is_passing b ≡ true
 may_pass None b may h = absurd may
 may_pass (Some (Held c)) b may h = sym (ap is_passing (some_injective c b h)) ∙ may
@@ -103,6 +103,7 @@ free_skipped P Q d (Err e) free s = ap held_facts (skips_unchanged P Q d e s)
 
 -- ---- the dots of a list
 
+-- a map without a key has no more entries than before
 remove_most : {X : Type 0} (F : map.FinMap dot_cmp X) (d : Dot)
     → map.len (map.remove F d) ≤ map.len F
 remove_most F d =
@@ -114,6 +115,7 @@ remove_most F d =
       | false ↦ λ is. omega (arith, is)
     ] less
 
+-- a skip that succeeds skips its dot alone
 one_skipped : (P Q : StoreFields) (d : Dot) (a : Added) → Skips P d (Ok a) Q
     → SkipsAll P (λ q. dot_eq q d) Q
 one_skipped P Q d a s = record {
@@ -130,10 +132,7 @@ one_skipped P Q d a s = record {
       (remove_most (held_facts P) d);
 }
 
-neither : (a b : Bool) → (a || b) ≡ false → (a ≡ false) × (b ≡ false)
-neither true b h = absurd (true≢false h)
-neither false b h = (refl, h)
-
+-- one of two tests holds if either does
 either : (a b : Bool) → (a || b) ≡ true → (a ≡ true) ⊎ (b ≡ true)
 either true b h = inl refl
 either false b h = inr h
@@ -159,6 +158,7 @@ skips_then P Q R f g one two = record {
           | inr is ↦ absurd (true≢false (sym is ∙ apart))
         ])
 
+-- tests that pass the same dots skip the same dots
 skips_as : (P Q : StoreFields) (f g : Dot → Bool) → ((q : Dot) → g q ≡ f q) → SkipsAll P f Q
     → SkipsAll P g Q
 skips_as P Q f g same s = record {
@@ -166,15 +166,6 @@ skips_as P Q f g same s = record {
   there = λ q apart. s.there q (sym (same q) ∙ apart);
   horizon = s.horizon;
   fewer = s.fewer;
-}
-
--- skipping no dots changes nothing
-pub skips_none : (P : StoreFields) → SkipsAll P (λ _. false) P
-skips_none P = record {
-  here = λ q at. absurd (true≢false (sym at));
-  there = λ q _. refl;
-  horizon = refl;
-  fewer = omega arith;
 }
 
 -- one more dot of a list was skipped
@@ -187,19 +178,7 @@ skips_more P Q R ds i e d a lt is done s =
     ∙ ap (λ (p : Dot). has (take i ds) q || dot_eq q p) (sym is))
     (skips_then P Q R (has (take i ds)) (λ q. dot_eq q d) done (one_skipped Q R d a s))
 
--- all dots of a list were skipped
-pub skips_whole : (P Q : StoreFields) (ds : List Dot) (i : ℕ) → length ds ≤ i
-    → SkipsAll P (has (take i ds)) Q → SkipsAll P (has ds) Q
-skips_whole P Q ds i end s = subst (λ (xs : List Dot). SkipsAll P (has xs) Q) (take_all i ds end) s
-
--- a dot that may go may still go when others were skipped
-pub may_still : (P Q : StoreFields) (f : Dot → Bool) (d : Dot) → SkipsAll P f Q
-    → MayGo (map.get P.slots d) → MayGo (map.get Q.slots d)
-may_still P Q f d s may = elim (cases_Bool (f d)) [
-  | inl gone ↦ subst MayGo (sym (s.here d gone)) tt
-  | inr kept ↦ subst MayGo (sym (s.there d kept)) may
-]
-
+-- a slot that may go does not last
 refused : (o : Option Slot) → MayGo o → Lasts o → ⊥
 refused None may lasts = may
 refused (Some (Held b)) may lasts = true≢false (sym may ∙ lasts)

@@ -20,8 +20,9 @@ use Rattle.tk_store.specs.FactSet.{FactSet, Facts}
 use Rattle.tk_store.specs.Slots.{Skipped, held_slot}
 use Rattle.tk_store.specs.StoreFields.{StoreFields, held_facts, with_skipped}
 use Rattle.tk_store.specs.Walk.{is_above, above}
-use Rattle.tk_store.proofs.FactSetLaws.{same_set, tied}
-use Rattle.tk_store.proofs.PutLaws.{by_dot, get_here, none_is_not_some}
+use Rattle.tk_store.proofs.FactSetLaws.{same_set}
+use Rattle.tk_handle.proofs.TestLaws.{some_none, tied}
+use Rattle.tk_store.proofs.PutLaws.{by_dot, get_here}
 use Rattle.tk_store.proofs.SlotLaws.{get_held}
 use Rattle.tk_store.proofs.WalkLaws.{goes_on, at_end}
 use Rattle.tk_ledger.specs.Slices.{Goes, SkipsIf, Steps, Went, Stays, is_past, next_cursor}
@@ -29,10 +30,12 @@ use Rattle.tk_ledger.specs.Slices.{LooksOver}
 
 -- ---- what is above a cursor
 
+-- the facts above a cursor are those at dots past it
 past_is : (a : Option Dot) (es : Facts) → filter (is_above a) es ≡ where_key dot_cmp (is_past a) es
 past_is None es = refl
 past_is (Some e) es = refl
 
+-- the facts above a cursor are sorted by their dots
 sorted_above : (F : FactSet) (a : Option Dot) → T (map.is_sorted dot_cmp (above F a))
 sorted_above F a = subst (λ (es : Facts). T (map.is_sorted dot_cmp es))
     (sym (past_is a (map.entries F)))
@@ -47,9 +50,11 @@ find_above F a q =
     (λ x same. ap (is_past a) (sym (dot_cmp-IsAntisymmetric q x same))) (map.entries F)
     ∙ ap (λ o. cond (is_past a q) o None) (sym (map.get-entries F q))
 
+-- the facts above a cursor, as a set
 abbrev set_above : FactSet → Option Dot → FactSet
 set_above F a = map.from_sorted (above F a)
 
+-- the facts above a cursor have those of the set at the dots past it, and no others
 get_above : (F : FactSet) (a : Option Dot) (q : Dot)
     → map.get (set_above F a) q ≡ cond (is_past a q) (map.get F q) None
 get_above F a q = map.get-from_sorted dot_cmp (above F a) q (sorted_above F a) ∙ find_above F a q
@@ -69,13 +74,10 @@ above_same F G a same =
     by_test q true is = same q is
     by_test q false is = refl
 
+-- a test holds if an option that depends on it has a value
 some_of_cond : {A : Type 0} (t : Bool) (o : Option A) → cond t o None ≢ None → t ≡ true
 some_of_cond true o some = refl
 some_of_cond false o some = absurd (some refl)
-
--- an option with a value is not absent
-pub some_none : {A : Type 0} (x : A) → Some x ≢ None
-some_none x h = none_is_not_some x (sym h)
 
 -- the first fact above a cursor is past it
 first_past : (F : FactSet) (a : Option Dot) (f : Dot × Body) → slice_get (above F a) 0 ≡ Some f
@@ -108,12 +110,14 @@ first_least F a f q first past held = by_tie (eq_by_cmp dot_cmp q f.0) refl
         (ap (λ t. cond t (Some f.1) (map.find dot_cmp q (above F (Some f.0)))) apart
         ∙ find_above F (Some f.0) q ∙ none)))
 
+-- if there is no first fact above a cursor, no fact is past it
 none_past : (F : FactSet) (a : Option Dot) (q : Dot) → slice_get (above F a) 0 ≡ None
     → is_past a q ≡ true → map.get F q ≡ None
 none_past F a q none past =
     sym (ap (λ t. cond t (map.get F q) None) past) ∙ sym (find_above F a q)
     ∙ ap (map.find dot_cmp q) (at_end F a none)
 
+-- a dot past one that is past a cursor is past the cursor
 past_on : (a : Option Dot) (d q : Dot) → is_past a d ≡ true → is_past (Some d) q ≡ true
     → is_past a q ≡ true
 past_on None d q h k = refl
@@ -123,21 +127,25 @@ past_on (Some e) d q h k = lt_on e d q h k
         → is_lt (dot_cmp e q) ≡ true
     lt_on e d q h k = grind (arith, nat_tests)
 
+-- a dot past another is not that dot
 not_past_itself : (d q : Dot) → is_past (Some d) q ≡ true → q ≢ d
 not_past_itself d q past same = true≢false
     (sym past ∙ ap (λ (x : Dot). is_lt (dot_cmp d x)) same ∙ ap is_lt (tied_itself dot_cmp_total d))
 
 -- ---- facts that went
 
+-- one more fact went, behind the others
 steps_more : (P Q : StoreFields) (ds : List Dot) (d : Dot) → Steps P ds Q → Goes Q d
     → Steps P (ds ++ d ∷ []) (with_skipped Q d)
 steps_more P Q [] d is go =
     (subst (λ (R : StoreFields). Goes R d) is go, ap (λ (R : StoreFields). with_skipped R d) is)
 steps_more P Q (e ∷ ds) d steps go = (steps.0, steps_more (with_skipped P e) Q ds d steps.1 go)
 
+-- at first no fact went
 went_none : (P : StoreFields) → Went P 0 P
 went_none P = record { dots = []; steps = refl; count = refl }
 
+-- one more fact went, and is counted
 went_more : (P Q : StoreFields) (n : ℕ) (d : Dot) → Went P n Q → Goes Q d
     → Went P (n + 1) (with_skipped Q d)
 went_more P Q n d went go = record {
@@ -154,6 +162,7 @@ went_same P Q went = by went.dots went.steps went.count
     by [] steps none = steps
     by (d ∷ ds) steps none = absurd (omega (arith, none))
 
+-- a fact that may not go when it is looked at stays
 stays_here : (P Q : StoreFields) (n : ℕ) (d : Dot) → Went P n Q → (Goes Q d → ⊥) → Stays P n Q d
 stays_here P Q n d went stays = record {
   before = n;
@@ -165,6 +174,7 @@ stays_here P Q n d went stays = record {
   stays = stays;
 }
 
+-- a fact that stays still stays when another goes
 stays_more : (P Q : StoreFields) (n : ℕ) (d e : Dot) → Stays P n Q d → Goes Q e
     → Stays P (n + 1) (with_skipped Q e) d
 stays_more P Q n d e s go = record {
@@ -182,6 +192,7 @@ pub turned : (t : Bool) → not t ≡ false → t ≡ true
 turned true h = refl
 turned false h = absurd (true≢false h)
 
+-- a test whose opposite is true is false
 turned_back : (t : Bool) → not t ≡ true → t ≡ false
 turned_back true h = absurd (true≢false (sym h))
 turned_back false h = refl
@@ -215,14 +226,17 @@ first_looked P after count = record {
   left = λ q past low held. absurd (true≢false (sym past ∙ low));
 }
 
+-- a skip leaves the slots at other dots
 slot_other : (Q : StoreFields) (d q : Dot) → q ≢ d
     → map.get (with_skipped Q d).slots q ≡ map.get Q.slots q
 slot_other Q d q ne =
     by_dot (λ o. o ≡ map.get Q.slots q) Q.slots d Skipped q (λ same. absurd (ne same)) refl
 
+-- a dot that was skipped has no fact
 held_here : (Q : StoreFields) (d : Dot) → map.get (held_facts (with_skipped Q d)) d ≡ None
 held_here Q d = get_held (with_skipped Q d).slots d ∙ ap held_slot (get_here Q.slots d Skipped)
 
+-- a skip leaves the facts at other dots
 held_other : (Q : StoreFields) (d q : Dot) → q ≢ d
     → map.get (held_facts (with_skipped Q d)) q ≡ map.get (held_facts Q) q
 held_other Q d q ne = get_held (with_skipped Q d).slots q ∙ ap held_slot (slot_other Q d q ne)
@@ -230,12 +244,14 @@ held_other Q d q ne = get_held (with_skipped Q d).slots q ∙ ap held_slot (slot
 
 -- ---- one fact more
 
+-- how many facts are gone, with one more fact that goes or stays
 abbrev pub gone_with : ℕ → Bool → ℕ
 gone_with n true = n + 1
 gone_with n false = n
 
 module _ (P : StoreFields) (after : Option Dot) (count turn : ℕ) (at : Option Dot) (gone : ℕ)
     (Q : StoreFields) (L : Looked P after count turn at gone Q) where
+  -- above the last fact there is no next cursor
   past_end : (m : ℕ) → 0 < m → above (held_facts Q) at ≡ [] → next_cursor (held_facts Q) at m ≡ None
   past_end zero low end = absurd (omega (arith, low))
   past_end (suc m) low end = ap (λ (es : Facts).
@@ -299,6 +315,7 @@ module _ (P : StoreFields) (after : Option Dot) (count turn : ℕ) (at : Option 
 
   module _ (f : Dot × Body) (first : slice_get (above (held_facts Q) at) 0 ≡ Some f)
       (more : turn < count) where
+    -- what is past the next fact is past the cursor
     up : (q : Dot) → is_past (Some f.0) q ≡ true → is_past at q ≡ true
     up q past = past_on at f.0 q (first_past (held_facts Q) at f first) past
 
@@ -325,6 +342,7 @@ module _ (P : StoreFields) (after : Option Dot) (count turn : ℕ) (at : Option 
       ]
     ]
 
+    -- the next fact, if it may not go, is looked at and stays
     looked_kept : (Goes Q f.0 → ⊥) → Looked P after count (turn + 1) (Some f.0) gone Q
     looked_kept stays = record {
       went = L.went;
@@ -340,6 +358,7 @@ module _ (P : StoreFields) (after : Option Dot) (count turn : ℕ) (at : Option 
       ];
     }
 
+    -- the next fact, if it may go, is looked at and is skipped
     looked_gone : Goes Q f.0
         → Looked P after count (turn + 1) (Some f.0) (gone + 1) (with_skipped Q f.0)
     looked_gone go = record {

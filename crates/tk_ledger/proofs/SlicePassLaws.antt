@@ -1,6 +1,5 @@
 -- The facts that may go, and a pass of a prune. Key results:
---   goes_over, goes_named, goes_fully
---                                  the tests of a fact that may go, and the relation
+--   goes_over, goes_fully          the tests of a fact that may go, and the relation
 --   go_known, absent_stays         a fact that may go is held, and is not refused
 --   pass_ends                      a pass by which no fact goes leaves none that may go
 use Rattle.std.proofs.Common.{◌≡◌, ◌≢◌, ◌⊎◌, inl, inr, ℕ, ◌<◌, max, true, false, not, List, [], ◌∷◌}
@@ -22,7 +21,8 @@ use Rattle.tk_ledger.specs.Slices.{LooksOver, Turn, IsIdle, PassEnds}
 use Rattle.tk_ledger.proofs.RetentionLaws.{may_skip-sound, may_skip-complete}
 use Rattle.tk_ledger.proofs.SkipLaws.{passing_kept, may_go}
 use Rattle.tk_ledger.specs.declared.slices.Slice.{Slice}
-use Rattle.tk_ledger.proofs.SliceLaws.{some_none, turned, went_same}
+use Rattle.tk_ledger.proofs.SliceLaws.{turned, went_same}
+use Rattle.tk_handle.proofs.TestLaws.{some_none}
 
 -- ---- a fact that may go
 
@@ -30,15 +30,6 @@ use Rattle.tk_ledger.proofs.SliceLaws.{some_none, turned, went_same}
 pub goes_over : (P : StoreFields) (d : Dot) (b : Body) → map.get (held_facts P) d ≡ Some b
     → may_skip (held_facts P) P.horizon (d, b) ≡ true → Goes P d
 goes_over P d b here over = inl (may_skip-sound (held_facts P) P.horizon d b here over)
-
--- a fact that names a skipped dot may go
-pub goes_named : (P : StoreFields) (d : Dot) (b : Body) → map.get (held_facts P) d ≡ Some b
-    → is_any_skipped P.slots (names_of b) ≡ true → Goes P d
-goes_named P d b here named = by (names_of b) refl named
-  where
-    by : (o : Option Dot) → names_of b ≡ o → is_any_skipped P.slots o ≡ true → Goes P d
-    by None is h = absurd (true≢false (sym h))
-    by (Some q) is h = inr (record { fact = b; here = here; named = q; names = is; skipped = h })
 
 -- a fact that may go is of a family that is over, or names a skipped dot
 pub goes_fully : (P : StoreFields) (d : Dot) (b : Body) → map.get (held_facts P) d ≡ Some b
@@ -59,7 +50,8 @@ pub absent_stays : (P : StoreFields) (d : Dot) → map.get (held_facts P) d ≡ 
 absent_stays P d none (inl may) = none_is_not_some may.fact (sym none ∙ may.here)
 absent_stays P d none (inr names) = none_is_not_some names.fact (sym none ∙ names.here)
 
-names_passing : (b : Body) (q : Dot) → names_of b ≡ Some q → is_passing b ≡ true
+-- a fact that names a dot passes
+pub names_passing : (b : Body) (q : Dot) → names_of b ≡ Some q → is_passing b ≡ true
 names_passing (CodeRedeemed f) q h = refl
 names_passing (RefreshRotated f) q h = refl
 names_passing (TokenRevoked f) q h = refl
@@ -108,12 +100,14 @@ further after (Some e) d past out = (
   ],
 )
 
+-- raising the horizon to a moment twice is raising it once
 raised_again : (old P : StoreFields) (moment : ℕ) → P ≡ with_horizon old moment
     → with_horizon P moment ≡ with_horizon old moment
 raised_again old P moment same = ap (λ (R : StoreFields). with_horizon R moment) same
     ∙ (let e : max (max old.horizon moment) moment ≡ max old.horizon moment = omega arith in
     λ i. record { slots = old.slots; horizon = e i })
 
+-- for `pass_ends`: no fact past the cursor may go if no slice from there on lets one go
 idle : (old : StoreFields) (moment : ℕ) (after : Option Dot) (ts : List Turn) (d : Dot)
     → IsIdle old moment after ts → is_past after d ≡ true → after ≢ None ⊎ (ts ≢ [])
     → Goes (with_horizon old moment) d → ⊥

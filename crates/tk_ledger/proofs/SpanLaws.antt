@@ -33,7 +33,7 @@ use Rattle.tk_handle.proofs.SpanLaws.{between, from_first, to_last}
 use Rattle.tk_fact.specs.declared.body.Body.{Body}
 use Rattle.tk_fact.specs.declared.consent_given.ConsentGiven as given
 use Rattle.tk_store.specs.FactSet.{FactSet}
-use Rattle.tk_store.proofs.FactSetLaws.{tied}
+use Rattle.tk_handle.proofs.TestLaws.{tied}
 use Rattle.tk_ledger.specs.Bodies.{is_same_dot}
 use Rattle.tk_ledger.specs.Clients.{given_in, consent_at, is_withdrawn, grants, covers, consent_for}
 use Rattle.tk_ledger.specs.Clients.{IsConsentFor, IsLeastConsent}
@@ -55,6 +55,7 @@ pub consents_total : IsTotalOrder consent_cmp
 consents_total = then_total (on_total (λ k. k.subject) nat_list_cmp_total)
     (then_total (on_total (λ k. k.consent) dot_cmp_total) (on_total (λ k. k.client) dot_cmp_total))
 
+-- consent keys with equal parts are equal
 key_by : (a b : ConsentKey) → a.client ≡ b.client → a.subject ≡ b.subject → a.consent ≡ b.consent
     → a ≡ b
 key_by a b h i j = λ x. record { subject = i x; consent = j x; client = h x }
@@ -86,6 +87,7 @@ consent_span subject = record {
       refl;
 }
 
+-- the least dot and the greatest dot are at most the greatest
 greatest_client : (is_le (dot_cmp least_dot greatest_dot) ≡ true)
     × (is_le (dot_cmp greatest_dot greatest_dot) ≡ true)
 greatest_client = (refl, refl)
@@ -147,6 +149,7 @@ in_span F t i client subject q at =
 
 -- ---- one consent
 
+-- a consent that covers the scope and isn't withdrawn, by the tests, is a live one for it
 live_sound : (F : FactSet) (client : Dot) (subject scope : List ℕ) (d : Dot)
     → (covers F client subject scope d && not (is_withdrawn F d)) ≡ true
     → IsConsentFor (map.get F) client subject scope d
@@ -170,6 +173,7 @@ covers_sound F t client subject scope e i at h = live_sound F client subject sco
     (and_parts (is_from e.client e.subject (consent_at F e.consent))
     (not (is_withdrawn F e.consent)) (sym (i.listed e.client e.subject e.consent) ∙ at)).1)
 
+-- a live consent for the scope covers the scope, by the test
 covers_complete : (F : FactSet) (client : Dot) (subject scope : List ℕ) (d : Dot)
     → IsConsentFor (map.get F) client subject scope d → covers F client subject scope d ≡ true
 covers_complete F client subject scope d x =
@@ -215,10 +219,12 @@ key_of_found F t client subject scope e i at x =
 
 -- ---- the consent for a scope
 
+-- a key is one of the client whose consent covers the scope, by the test
 abbrev covering : FactSet → Dot → List ℕ → List ℕ → ConsentKey → Bool
 covering F client subject scope k =
     is_same_dot k.client client && covers F client subject scope k.consent
 
+-- the key of a live consent for the scope is one that covers the scope, by the test
 covering_key : (F : FactSet) (client : Dot) (subject scope : List ℕ) (d : Dot)
     → IsConsentFor (map.get F) client subject scope d
     → covering F client subject scope (consent_key client (sha256 subject) d) ≡ true

@@ -27,6 +27,7 @@ limits_kept : (a b : Bool)
 limits_kept true b h = refl
 limits_kept false b h = cc
 
+-- a body that passes its check issues codes to names of subjects alone
 issues : (b : Body) (code : issued.CodeIssued) → issued_in b ≡ Some code → refusal_of b ≡ None
     → is_subject code.subject ≡ true
 issues (bodies.CodeIssued f) code h passes =
@@ -47,6 +48,7 @@ issues (bodies.SubjectOut f) code h passes = cc
 issues (bodies.AccessRefreshed f) code h passes = cc
 issues (bodies.SecretSet f) code h passes = cc
 
+-- a code of a set whose facts pass their checks was issued to the name of a subject
 issued_subject : (F : FactSet) → IsFactSet F → (c : Dot) (code : issued.CodeIssued)
     → issued_at (map.get F) c ≡ Some code → is_subject code.subject ≡ true
 issued_subject F sound c code e =
@@ -54,6 +56,7 @@ issued_subject F sound c code e =
     from_some issued_in (map.get F c) code e in
     issues x.0 code x.2 (sound c x.0 x.1)
 
+-- for `sound_status`: by the body at the dot, the minted token and the root
 sound_by : (F : FactSet) (now : ℕ) (h : Handle) → IsFactSet F
     → (b : Option Body) (m : Option MintedFields) (o : Option Root)
     → root_in (map.get F) h.id.dot ≡ o → IsSound now (status_by F now h.id b m o)

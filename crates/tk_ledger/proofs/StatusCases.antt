@@ -32,6 +32,7 @@ use Rattle.tk_ledger.proofs.RootLaws.{from_some, root-sound, root-complete}
 
 -- ---- a token that is minted with the digest
 
+-- what is found with a digest was minted, and has the digest
 with_digest-sound : (digest : List ℕ) (o : Option MintedFields) (m : MintedFields)
     → with_digest digest o ≡ Some m → (o ≡ Some m) × (m.digest ≡ digest)
 with_digest-sound digest None m h = absurd (none_is_not_some m h)
@@ -47,6 +48,7 @@ with_digest-sound digest (Some x) m h = elim (cases_Bool (bytes_eq x.digest dige
       (none_is_not_some m (sym (cond-false (bytes_eq x.digest digest) (Some x) None apart) ∙ h))
 ]
 
+-- what was minted with a digest is found with it
 with_digest-complete : (digest : List ℕ) (o : Option MintedFields) (m : MintedFields) → o ≡ Some m
     → m.digest ≡ digest → with_digest digest o ≡ Some m
 with_digest-complete digest o m h d = ap (with_digest digest) h
@@ -54,6 +56,7 @@ with_digest-complete digest o m h d = ap (with_digest digest) h
 
 -- ---- the parts of a standing
 
+-- the facts have the handle's token and its root, with this standing
 pub record Knows (F : FactSet) (now : ℕ) (h : Handle) (s : StandingFields) : Type 0 where
   pub body : Body
   pub minted : MintedFields
@@ -65,18 +68,22 @@ pub record Knows (F : FactSet) (now : ℕ) (h : Handle) (s : StandingFields) : T
   pub issues : issued_at (map.get F) root.code ≡ Some root.issued
   pub standing : standing_in F now h.id body minted root ≡ s
 
+-- a status has a standing
 abbrev is_known : Status → Bool
 is_known Unseen = false
 is_known Wrong = false
 is_known (Broken t) = false
 is_known (Known s) = true
 
+-- a status that is not known, by the test, has no standing
 other : (x : Status) (s : StandingFields) → is_known x ≡ false → x ≡ Known s → ⊥
 other x s h same = true≢false (sym (ap is_known same) ∙ h)
 
+-- equal known statuses have equal standings
 same_standing : (a s : StandingFields) → Known a ≡ Known s → a ≡ s
 same_standing a s h = cc
 
+-- for `known_parts`: by the body at the dot, the minted token and the root
 known_by : (F : FactSet) (now : ℕ) (h : Handle) (s : StandingFields) (b : Option Body)
     (m : Option MintedFields) (o : Option Root)
     → map.get F h.id.dot ≡ b → minted_as (map.get F) h ≡ m → root_in (map.get F) h.id.dot ≡ o
@@ -132,12 +139,14 @@ unseen_unminted : (body_at : Bodies) (h : Handle) → body_at h.id.dot ≡ None
 unseen_unminted body_at h none t = none_is_not_some t.minted
     (sym (ap (option_and_then (λ b. minted_of b h.id.kind)) none) ∙ t.mints)
 
+-- a token that is found minted is minted
 abbrev minted_token : (F : FactSet) (h : Handle) (m : MintedFields)
     → minted_as (map.get F) h ≡ Some m → IsMintedToken (map.get F) h
 minted_token F h m j =
     let d = with_digest-sound (digest_of h) (minted_in (map.get F) h.id) m j in
     record { minted = m; mints = d.0; digest = d.1 }
 
+-- a handle for which no minted token is found has none
 unminted : (F : FactSet) (h : Handle) → minted_as (map.get F) h ≡ None
     → ¬ IsMintedToken (map.get F) h
 unminted F h j t = none_is_not_some t.minted
@@ -152,10 +161,12 @@ code_issued (CodeRedeemed f) h = absurd (cc)
 code_issued (RefreshRotated f) h = absurd (cc)
 code_issued body h = absurd (none_is_not_some Code h)
 
+-- the anchor of a dot that has a root is in a family
 in_family : (F : FactSet) (d : Dot) (o : Root) → root_in (map.get F) d ≡ Some o
     → IsInFamily (links_in (map.get F)) (anchor_in (map.get F) d)
 in_family F d o n = record { code = o.code; under = (root-sound F d o n).0 }
 
+-- the anchor of a dot that has no root is in no family
 no_family : (F : FactSet) (d : Dot) → root_in (map.get F) d ≡ None
     → ¬ IsInFamily (links_in (map.get F)) (anchor_in (map.get F) d)
 no_family F d n f =
@@ -165,6 +176,7 @@ no_family F d n f =
     none_is_not_some (record { code = f.code; issued = i.0 })
     (sym n ∙ root-complete F d f.code i.0 f.under (ap (option_and_then issued_in) x.1 ∙ i.1))
 
+-- for `says`: by the body at the dot, the minted token and the root
 says_by : (F : FactSet) (now : ℕ) (h : Handle) (b : Option Body) (m : Option MintedFields)
     (o : Option Root)
     → map.get F h.id.dot ≡ b → minted_as (map.get F) h ≡ m → root_in (map.get F) h.id.dot ≡ o
@@ -182,6 +194,7 @@ says F now h = says_by F now h (map.get F h.id.dot) (minted_as (map.get F) h)
 
 -- ---- a status is that of each handle that it describes
 
+-- a status of a handle that Unseen describes is Unseen
 unseen_from : (body_at : Bodies) (h : Handle) (x : Status) → Says body_at h x
     → Says body_at h Unseen → x ≡ Unseen
 unseen_from body_at h Unseen x none = refl
@@ -198,6 +211,7 @@ unseen_exactly F now h = (
   unseen_from (map.get F) h (status_in F now h) (says F now h),
 )
 
+-- a status of a handle that Wrong describes is Wrong
 wrong_from : (body_at : Bodies) (h : Handle) (x : Status) → Says body_at h x → Says body_at h Wrong
     → x ≡ Wrong
 wrong_from body_at h Unseen x w = absurd (w.0 x)
@@ -214,9 +228,11 @@ wrong_exactly F now h = (
   wrong_from (map.get F) h (status_in F now h) (says F now h),
 )
 
+-- a handle has at most one minted token
 one_minted : (body_at : Bodies) (h : Handle) (t u : IsMintedToken body_at h) → t.minted ≡ u.minted
 one_minted body_at h t u = some_injective t.minted u.minted (sym t.mints ∙ u.mints)
 
+-- a status of a handle that Broken describes is Broken, with the same expiry
 broken_from : (body_at : Bodies) (h : Handle) (expiry : ℕ) (x : Status) → Says body_at h x
     → Says body_at h (Broken expiry) → x ≡ Broken expiry
 broken_from body_at h expiry Unseen x b = absurd (unseen_unminted body_at h x b.0.0)
@@ -235,6 +251,7 @@ broken_exactly F now h expiry = (
   broken_from (map.get F) h expiry (status_in F now h) (says F now h),
 )
 
+-- a handle that a known status describes has a known token
 known_to : (body_at : Bodies) (h : Handle) (x : Status) → Says body_at h x → IsKnown x
     → IsKnownToken body_at h
 known_to body_at h Unseen x k = absurd k
@@ -242,6 +259,7 @@ known_to body_at h Wrong x k = absurd k
 known_to body_at h (Broken t) x k = absurd k
 known_to body_at h (Known s) x k = x
 
+-- a status of a handle that has a known token is known
 known_from : (body_at : Bodies) (h : Handle) (x : Status) → Says body_at h x
     → IsKnownToken body_at h → IsKnown x
 known_from body_at h Unseen x k = absurd (unseen_unminted body_at h x k.0)

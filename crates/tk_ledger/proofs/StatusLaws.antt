@@ -26,10 +26,12 @@ use Rattle.tk_ledger.proofs.TokenLaws.{is_ended-complete, is_used-sound, is_used
 
 -- ---- the first state that holds
 
+-- the state by six tests for the other states, in their order
 abbrev pub chain : Bool → Bool → Bool → Bool → Bool → Bool → State
 chain a b c d e f = if a then state.Dead else if b then state.Withdrawn else if c then state.Over
     else if d then state.Used else if e then state.Past else if f then state.Ended else state.Live
 
+-- none of six tests passes
 pub record AllFalse (a b c d e f : Bool) : Type 0 where
   pub dead : a ≡ false
   pub withdrawn : b ≡ false
@@ -38,6 +40,7 @@ pub record AllFalse (a b c d e f : Bool) : Type 0 where
   pub past : e ≡ false
   pub ended : f ≡ false
 
+-- a state that is not live, by the test, is not Live
 not_live : (s : State) → is_live s ≡ false → s ≡ state.Live → ⊥
 not_live s h same = true≢false (sym (ap is_live same) ∙ h)
 
@@ -52,6 +55,7 @@ chain_live false false false false false true h = absurd (not_live state.Ended r
 chain_live false false false false false false h =
     record { dead = refl; withdrawn = refl; over = refl; used = refl; past = refl; ended = refl }
 
+-- the state of a token that fails each test for another state is Live
 live_chain : (a b c d e f : Bool) → AllFalse a b c d e f → chain a b c d e f ≡ state.Live
 live_chain a b c d e f h = rw (h.dead, h.withdrawn, h.over, h.used, h.past, h.ended) refl
 
@@ -61,17 +65,21 @@ live_chain a b c d e f h = rw (h.dead, h.withdrawn, h.over, h.used, h.past, h.en
 pub above : (n t : ℕ) → nat_le n t ≡ false → t < n
 above n t h = grind (arith, nat_tests)
 
+-- a number above another is not at most the other
 not_below : (n t : ℕ) → t < n → nat_le n t ≡ false
 not_below n t h = grind (arith, nat_tests)
 
+-- two tests hold if it is false that they don't both hold
 both_live : (a b : Bool) → not (a && b) ≡ false → (a ≡ true) × (b ≡ true)
 both_live true true h = (refl, refl)
 both_live true false h = absurd (true≢false h)
 both_live false b h = absurd (true≢false h)
 
+-- if two tests hold, it is false that they don't both hold
 live_both : (a b : Bool) → a ≡ true → b ≡ true → not (a && b) ≡ false
 live_both a b h i = rw (h, i) refl
 
+-- the second of two tests that don't both hold fails if the first holds
 right_false : (a b : Bool) → (a && b) ≡ false → a ≡ true → b ≡ false
 right_false true b h i = h
 right_false false b h i = absurd (true≢false (sym i))
@@ -114,15 +122,18 @@ live_is_active F now h s nc e live =
           (ap (λ (k : Kind). not (is_access k)) is));
     }
 
+-- two tests don't both hold if the second fails whenever the first holds
 when : (a b : Bool) → (a ≡ true → b ≡ false) → (a && b) ≡ false
 when true b h = h refl
 when false b h = refl
 
+-- a kind that is an access token's, by the test, is Access
 access_is : (k : Kind) → is_access k ≡ true → k ≡ kind.Access
 access_is kind.Code h = absurd (true≢false (sym h))
 access_is kind.Access h = refl
 access_is kind.Refresh h = absurd (true≢false (sym h))
 
+-- a kind that is no code's and no access token's is Refresh
 refresh_is : (k : Kind) → k ≢ kind.Code → not (is_access k) ≡ true → k ≡ kind.Refresh
 refresh_is kind.Code nc h = absurd (nc refl)
 refresh_is kind.Access nc h = absurd (true≢false (sym h))
@@ -153,6 +164,7 @@ active_is_live F now h a =
       }),
     )
 
+-- for `live_exactly`: a token whose status is live, whichever it is, is active
 live_of : (F : FactSet) (now : ℕ) (h : Handle) (x : Status) → status_in F now h ≡ x
     → h.id.kind ≢ kind.Code → IsLive x → IsActive (map.get F) now h
 live_of F now h Unseen e nc l = absurd l

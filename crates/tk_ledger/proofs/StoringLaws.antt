@@ -25,9 +25,11 @@ pub use Rattle.tk_store.proofs.SlotOrderLaws.{added_horizon}
 
 module _ (P Q R : StoreFields) (f : Dot × Body) (d : Dot) (b : Body) (same : (d, b) ≡ f)
     (free : map.get P.slots f.0 ≡ None) where
+  -- the dot of the fact is free
   free_at : map.get P.slots d ≡ None
   free_at = ap (λ (p : Dot × Body). map.get P.slots p.0) same ∙ free
 
+  -- adding the fact puts that fact at the free dot
   set_by : (a : Added) → AddsTo P (d, b) (Ok a) Q → Q ≡ with_fact P d b
   set_by added.New adds = adds.1
   set_by added.Held adds = absurd (subst (HasFact b) free_at adds.0)

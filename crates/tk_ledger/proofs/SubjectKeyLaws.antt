@@ -1,6 +1,6 @@
 -- The keys of codes and of sign-outs. Key results:
---   code_tied, code_same, out_same, codes_total, outs_total
---                                            keys tie exactly if they are equal
+--   code_tied, code_same, out_same           keys tie exactly if they are equal
+--   outs_total                               the order of sign-outs is total
 --   codes_forward, outs_forward, out_order   the spans run forward
 --   in_codes                                 the span has the dot of each code under the prefix
 --                                            that starts in it
@@ -44,16 +44,14 @@ use Rattle.tk_ledger.specs.SubjectTables.{IsOuts}
 use Rattle.tk_ledger.specs.Tokens.{issued_at}
 use Rattle.tk_ledger.specs.declared.subject_keys.CodeKey.{CodeKey}
 use Rattle.tk_ledger.specs.declared.subject_keys.OutKey.{OutKey}
-use Rattle.tk_ledger.proofs.KeyLaws.{at_itself, at_is_same, both_tied, number_tied, bytes_tied}
+use Rattle.tk_ledger.proofs.KeyLaws.{at_is_same, bytes_tied}
+use Rattle.tk_vector.proofs.VersionVectorLaws.{number_tied}
+use Rattle.tk_store.proofs.OneMoreLaws.{at_itself}
+use Rattle.tk_family.proofs.ChildLaws.{both_tied}
 use Rattle.tk_ledger.proofs.KeySearchLaws.{among}
 use Rattle.tk_ledger.proofs.SameLaws.{same_dot-true}
 
 -- ---- codes
-
--- the order of code keys is total
-pub codes_total : IsTotalOrder code_cmp
-codes_total = then_total (on_total (λ k. k.prefix) nat_cmp_total)
-    (then_total (on_total (λ k. k.start) nat_cmp_total) (on_total (λ k. k.code) dot_cmp_total))
 
 -- code keys compare as equal exactly if their parts are equal
 pub code_tied : (g h m n : ℕ) (d q : Dot)
@@ -74,6 +72,7 @@ code_tied-dot g h m n d q tie =
     and_parts (g == h) ((m == n) && is_same_dot d q) (sym (code_tied g h m n d q) ∙ tie) in
     same_dot-true d q (and_parts (m == n) (is_same_dot d q) p.1).1
 
+-- code keys with equal parts are equal
 code_by : (a b : CodeKey) → a.prefix ≡ b.prefix → a.start ≡ b.start → a.code ≡ b.code → a ≡ b
 code_by a b h i j = λ x. record { prefix = h x; start = i x; code = j x }
 
@@ -85,6 +84,7 @@ code_same a b h =
     code_by a b (eqb-true a.prefix b.prefix p.0) (eqb-true a.start b.start q.0)
     (same_dot-true a.code b.code q.1)
 
+-- the keys under one prefix are in the order of their starts, and then of their dots
 code_order : (prefix m n : ℕ) (a b : Dot)
     → code_cmp (code_key prefix m a) (code_key prefix n b)
     ≡ ordering_then (nat_cmp m n) (dot_cmp a b)
@@ -103,6 +103,7 @@ codes_forward prefix m n a b le first last =
       | inr same ↦ ap (λ o. is_gt (ordering_then o (dot_cmp least_dot greatest_dot))) same
     ]
 
+-- the key of each code in range that starts between the moments is in the span
 in_span : (prefix m n start : ℕ) (q : Dot) → m ≤ start → start ≤ n → IsDot q
     → range_contains code_cmp (Included (code_key prefix m least_dot))
     (Included (code_key prefix n greatest_dot)) (code_key prefix start q)
@@ -124,6 +125,7 @@ in_span prefix m n start q above below h = and_from _ _
           ∙ not_past (dot_cmp q greatest_dot) (to_last q h)
     ])
 
+-- a listed key that passes has its code among those of the keys that pass
 kept_dot : (c : CodeKey → Bool) (k : CodeKey) (ks : List CodeKey) → among code_cmp k ks ≡ true
     → c k ≡ true → has (dots_of (filter c ks)) k.code ≡ true
 kept_dot c k [] at kept = absurd (true≢false (sym at))

@@ -40,6 +40,7 @@ abbrev pub issues_to : ℕ → ℕ → Change → Bool
 issues_to prefix start (change.Issue own from) = (own == prefix) && (from == start)
 issues_to prefix start other = false
 
+-- a body issues a code under a prefix, from a start, exactly if its change does
 issues-change : (prefix start : ℕ) (b : Body)
     → is_to prefix start (issued_in b) ≡ issues_to prefix start (change_in b)
 issues-change prefix start (CodeIssued x) = refl
@@ -62,6 +63,7 @@ signs_out_by subject left (change.SignOut digest moment) =
     bytes_eq digest subject && (left_after moment == left)
 signs_out_by subject left other = false
 
+-- a body signs a subject out exactly if its change does
 signs_out-change : (subject : List ℕ) (left : ℕ) (b : Body)
     → is_left_by subject left (sign_out_in b) ≡ signs_out_by subject left (change_in b)
 signs_out-change subject left (SubjectOut x) = refl
@@ -78,6 +80,7 @@ abbrev pub moment_of : Change → Option ℕ
 moment_of (change.SignOut digest moment) = Some moment
 moment_of other = None
 
+-- the moment of a sign-out in a body is that of its change
 moment-change : (b : Body) (f : out.SubjectOut) → sign_out_in b ≡ Some f
     → moment_of (change_in b) ≡ Some f.moment
 moment-change (SubjectOut x) f h = ap (λ (c : out.SubjectOut). Some c.moment) (some_injective x f h)
@@ -146,11 +149,6 @@ codes_alike F t u i same = record {
       λ prefix start q h. i.ranged prefix start q (sym (same (code_key prefix start q)) ∙ h);
 }
 
--- a table without a key has only keys that it had
-pub fewer : (a b : Bool) → cond a false b ≡ true → b ≡ true
-fewer true b h = absurd (true≢false (sym h))
-fewer false b h = h
-
 -- a key that was put in and removed again leaves the other keys
 pub without : (a b : Bool) → (a ≡ true → b ≡ false) → cond a false (a || b) ≡ b
 without true b h = sym (h refl)
@@ -192,6 +190,7 @@ pub unsigned_early : (y : Change) → signs y ≡ false → IsEarly y
 unsigned_early (change.SignOut digest moment) h = absurd (true≢false h)
 unsigned_early other h = tt
 
+-- the moment of a sign-out whose change is early enough is at most the greatest
 early_moment : (y : Change) (moment : ℕ) → moment_of y ≡ Some moment → IsEarly y
     → moment ≤ greatest_moment
 early_moment (change.SignOut digest n) moment h early =

@@ -2,6 +2,7 @@
 -- results:
 --   clients_by .. reuses_by, same_consents .. same_reuses    the tables after each kind of change
 --   revoke_row, code_row, out_row, reuse_row   a table after one more key
+use Rattle.std.proofs.Math.Bool.{and-true as and_yes}
 use Rattle.std.proofs.Common.{◌≡◌, ℕ, ◌≤◌, Bool, true, false, ◌&&◌, ◌||◌, not, ◌==◌, cond, List}
 use Rattle.std.proofs.Common.{Some, None, refl, sym, ap, subst, ◌∙◌}
 use Rattle.std.specs.Option.{option_map}
@@ -14,7 +15,7 @@ use Rattle.tk_handle.specs.declared.dot.Dot.{Dot}
 use Rattle.tk_handle.specs.declared.token_id.TokenId.{TokenId}
 use Rattle.tk_handle.specs.Dot.{IsDot, dot_cmp}
 use Rattle.tk_handle.specs.Ranges.{greatest_moment}
-use Rattle.tk_fact.specs.declared.token_revoked.TokenRevoked as revoked
+use Rattle.tk_ledger.specs.declared.change.RevokedToken as revoked
 use Rattle.tk_store.specs.FactSet.{FactSet}
 use Rattle.tk_ledger.specs.Bodies.{is_same_dot, is_same_token}
 use Rattle.tk_ledger.specs.Clients.{is_withdrawn}
@@ -37,7 +38,7 @@ use Rattle.tk_ledger.specs.declared.subject_keys.OutKey.{OutKey}
 use Rattle.tk_ledger.proofs.KeyLaws.{at_is_same}
 use Rattle.tk_ledger.proofs.ReuseLaws.{reuse_tied, RangedReuses, reuses_on, reuses_ranged}
 use Rattle.tk_ledger.proofs.ReuseLaws.{reuses_alike}
-use Rattle.tk_ledger.proofs.TableLaws.{and_yes, clients_on, consents_on, Ranged, withdrawals_on}
+use Rattle.tk_ledger.proofs.TableLaws.{clients_on, consents_on, Ranged, withdrawals_on}
 use Rattle.tk_ledger.proofs.RevocationLaws.{revocation_tied, RangedRevocations, revocations_on}
 use Rattle.tk_ledger.proofs.RevocationLaws.{revocations_ranged, revocations_alike}
 use Rattle.tk_ledger.proofs.SubjectKeyLaws.{code_tied, out_tied}
@@ -102,6 +103,7 @@ withdrawals_by G d y t u h i w = let x = changed G d y h in
     withdrawals_on (map.remove G d) G d x.body t u x.more i
     (λ q. w q ∙ ap (λ z. withdraws_of q z || contains dot_cmp t q) (sym x.is))
 
+-- the table of revocations after any change
 revocations_by : (G : FactSet) (d : Dot) (y : Change) (t u : BTreeSet Revocation)
     → option_map change_in (map.get G d) ≡ Some y → IsRevocations (map.remove G d) t
     → RangedRevocations u
@@ -116,7 +118,7 @@ revocations_by G d y t u h i ranged r =
     ∙ ap (λ z. (revokes_of k g c z && is_at d q) || is_listed_revocation t k g c q) (sym x.is))
 
 -- the table with the key of a revocation
-pub revoke_row : (G : FactSet) (d : Dot) (f : revoked.TokenRevoked) (t u : BTreeSet Revocation)
+pub revoke_row : (G : FactSet) (d : Dot) (f : revoked.RevokedToken) (t u : BTreeSet Revocation)
     → option_map change_in (map.get G d) ≡ Some (change.Revoke f) → IsRevocations (map.remove G d) t
     → IsDot d
     → ((e : Revocation)
@@ -156,6 +158,7 @@ pub same_revocations : (G : FactSet) (d : Dot) (y : Change) (t : BTreeSet Revoca
 same_revocations G d y t h none i = revocations_by G d y t t h i i.ranged
     (λ k g c q. sym (ap (λ b. (b && is_at d q) || is_listed_revocation t k g c q) (none k g c)))
 
+-- the table of codes after any change
 codes_by : (G : FactSet) (d : Dot) (y : Change) (t u : BTreeSet CodeKey)
     → option_map change_in (map.get G d) ≡ Some y → IsCodes (map.remove G d) t → RangedCodes u
     → ((prefix start : ℕ) (q : Dot)
@@ -170,6 +173,7 @@ codes_by G d y t u h i ranged l =
     ∙ ap (λ z. (issues_to prefix start z && is_at d q) || is_listed_code t prefix start q)
     (sym x.is))
 
+-- the table of sign-outs after any change
 outs_by : (G : FactSet) (d : Dot) (y : Change) (t u : BTreeSet OutKey)
     → option_map change_in (map.get G d) ≡ Some y → IsOuts (map.remove G d) t → RangedOuts u
     → IsEarly y
@@ -203,6 +207,7 @@ same_outs G d y t h none i = outs_by G d y t t h i i.ranged (unsigned_early y no
     sym (ap (λ b. (b && is_at d q) || is_listed_out t subject left q)
     (signs_none subject left y none)))
 
+-- the table of reuses after any change
 reuses_by : (G : FactSet) (d : Dot) (y : Change) (t u : BTreeSet ReuseKey)
     → option_map change_in (map.get G d) ≡ Some y → IsReuses (map.remove G d) t → RangedReuses u
     → ((k : TokenId) (q : Dot)

@@ -4,6 +4,8 @@
 --                  the tables of clients, consents and withdrawals
 use Rattle.std.proofs.Common.{◌≡◌, inl, inr, ℕ, Bool, true, false, ◌&&◌, ◌||◌, not, List, is_some}
 use Rattle.std.proofs.Common.{refl, sym, ap, subst, ◌∙◌}
+use Rattle.std.proofs.Math.Bool.{and-true as and_yes, and-false as and_no}
+use Rattle.std.proofs.Math.Bool.{or-true as or_yes, or-false as or_no}
 use Rattle.std.proofs.lemmas.Bool.{or_cases, and_parts}
 use Rattle.std.specs.Option.{option_and_then}
 use Rattle.std.specs.BTreeMap.{BTreeMap}
@@ -26,11 +28,12 @@ use Rattle.tk_ledger.specs.Index.{row_at, row_added, row_retired, is_at, IsClien
 use Rattle.tk_ledger.specs.Index.{is_listed, IsConsents, IsWithdrawals}
 use Rattle.tk_ledger.specs.declared.client_rows.ClientRow.{ClientRow}
 use Rattle.tk_ledger.specs.declared.consent_keys.ConsentKey.{ConsentKey}
-use Rattle.tk_ledger.proofs.KeyLaws.{at_itself}
+use Rattle.tk_store.proofs.OneMoreLaws.{at_itself}
 use Rattle.tk_ledger.proofs.SameLaws.{same_dot-true}
 
 -- ---- a change and its body have the same effect
 
+-- a body adds a client exactly if its change does
 adds-change : (b : Body) → is_some (added_in b) ≡ adds (change_in b)
 adds-change (ClientAdded f) = refl
 adds-change body = refl
@@ -40,6 +43,7 @@ pub retires-change : (q : Dot) (b : Body) → retires_in q b ≡ retires_of q (c
 retires-change q (ClientRetired f) = refl
 retires-change q body = refl
 
+-- a body gives a client a consent of a subject exactly if its change does
 gives-change : (client : Dot) (subject : List ℕ) (b : Body)
     → is_from client subject (given_in b) ≡ gives_to client subject (change_in b)
 gives-change client subject (ConsentGiven f) = refl
@@ -56,32 +60,14 @@ pub revokes-change : (k : TokenId) (digest : List ℕ) (client : Dot) (b : Body)
 revokes-change k digest client (TokenRevoked f) = refl
 revokes-change k digest client body = refl
 
--- ---- tests with a constant
-
--- a test and true are the test
-pub and_yes : (x : Bool) → (x && true) ≡ x
-and_yes true = refl
-and_yes false = refl
-
--- a test and false are false
-pub and_no : (x : Bool) → (x && false) ≡ false
-and_no true = refl
-and_no false = refl
-
-or_yes : (x : Bool) → (x || true) ≡ true
-or_yes true = refl
-or_yes false = refl
-
-or_no : (x : Bool) → (x || false) ≡ x
-or_no true = refl
-or_no false = refl
-
 -- ---- the effect of a fact on its own dot
 
+-- at the dot of a new fact, where no fact was, the new fact alone decides
 here_or : (a x : Bool) → x ≡ false → a ≡ ((a && true) || x)
 here_or true x h = refl
 here_or false x h = sym h
 
+-- at other dots than that of a new fact, what was before decides
 there_or : (a x : Bool) → x ≡ ((a && false) || x)
 there_or true x = refl
 there_or false x = refl

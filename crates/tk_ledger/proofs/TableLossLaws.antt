@@ -14,7 +14,7 @@ use Rattle.std.specs.FinMap as map
 use Rattle.tk_handle.specs.declared.dot.Dot.{Dot}
 use Rattle.tk_handle.specs.declared.token_id.TokenId.{TokenId}
 use Rattle.tk_fact.specs.declared.body.Body.{Body}
-use Rattle.tk_fact.specs.declared.token_revoked.TokenRevoked as revoked
+use Rattle.tk_ledger.specs.declared.change.RevokedToken as revoked
 use Rattle.tk_store.specs.FactSet.{FactSet}
 use Rattle.tk_store.proofs.PutLaws.{none_is_not_some}
 use Rattle.tk_store.proofs.OneMoreLaws.{OneMore, any_fact-more}
@@ -45,7 +45,8 @@ use Rattle.tk_ledger.proofs.RevocationLaws.{revocation_tied, revoked_on}
 use Rattle.tk_ledger.proofs.SameLaws.{same_dot-true}
 use Rattle.tk_ledger.proofs.SubjectKeyLaws.{code_tied, code_tied-dot}
 use Rattle.tk_ledger.proofs.SubjectTableLaws.{issuing, issues_to, issues_none, signs_none}
-use Rattle.tk_ledger.proofs.SubjectTableLaws.{issued_on, signed_on, without, fewer}
+use Rattle.tk_ledger.proofs.SubjectTableLaws.{issued_on, signed_on, without}
+use Rattle.tk_family.proofs.HangRemovalLaws.{less as fewer}
 use Rattle.tk_ledger.proofs.TableLaws.{retires-change, added_on, given_on, withdrawn_on}
 
 -- ---- tables that have no key of the fact
@@ -191,7 +192,7 @@ code_dropped G d prefix start t u h i r = let x = changed G d (change.Issue pref
     codes_less (map.remove G d) G d x.body prefix start t u x.more x.is i r
 
 -- the table without the key of a revocation
-pub revocations_less : (F G : FactSet) (d : Dot) (b : Body) (f : revoked.TokenRevoked)
+pub revocations_less : (F G : FactSet) (d : Dot) (b : Body) (f : revoked.RevokedToken)
     (t u : BTreeSet Revocation) → OneMore F G d b → change_in b ≡ change.Revoke f
     → IsRevocations G t
     → ((e : Revocation)

@@ -55,6 +55,7 @@ IsOut-below F G w d o = record {
   signed_out = IsSignedOut-below F G w o.issued.subject o.issued.start o.signed_out;
 }
 
+-- a stopped token is stopped in a greater set
 IsStopped-below : (F G : FactSet) → IsSubset F G → (k : TokenId) → IsStopped (map.get F) k
     → IsStopped (map.get G) k
 IsStopped-below F G w k (inl e) = inl (e.0, IsEnded-below F G w k e.1)

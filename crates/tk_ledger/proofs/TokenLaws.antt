@@ -11,7 +11,6 @@ use Rattle.std.proofs.lemmas.Slice.Eq.{bytes_eq-Decides}
 use Rattle.std.specs.Option.{option_and_then}
 use Rattle.std.specs.FinMap as map
 use Rattle.tk_handle.specs.declared.dot.Dot.{Dot}
-use Rattle.tk_handle.specs.declared.kind.Kind.{Kind}
 use Rattle.tk_handle.specs.declared.kind.Kind.TheVariants as kind
 use Rattle.tk_handle.specs.declared.token_id.TokenId.{TokenId}
 use Rattle.tk_handle.specs.Kind.{is_code, is_refresh}
@@ -41,6 +40,8 @@ use Rattle.tk_ledger.proofs.SameLaws.{same_dot-true, same_dot-false, same_dot-ap
 use Rattle.tk_ledger.proofs.SameLaws.{same_dot-itself, same_token-true, same_token-itself}
 use Rattle.tk_ledger.proofs.SameLaws.{names_token-true, names_token-of, names_dot-true}
 use Rattle.tk_ledger.proofs.SameLaws.{names_dot-of}
+use Rattle.tk_family.proofs.Growth.{kind_code as code_is}
+use Rattle.tk_family.proofs.Growth.{kind_refresh as refresh_is}
 
 -- ---- uses
 
@@ -136,6 +137,7 @@ record Revoking (k : TokenId) (digest : List ℕ) (client : Dot) (b : Body) : Ty
   pub digested : revocation.digest ≡ digest
   pub by : revocation.client ≡ client
 
+-- a body that revokes the token, by the test, is its revocation by the client, with the digest
 revoking : (k : TokenId) (digest : List ℕ) (client : Dot) (b : Body)
     → revoked_by k digest client b ≡ true → Revoking k digest client b
 revoking k digest client (TokenRevoked x) h =
@@ -174,6 +176,7 @@ is_revoked-complete F k digest client r =
     (and_from _ _ ((bytes_eq-Decides r.revocation.digest digest).1 r.digest_is)
     (ap (λ (d : Dot). is_same_dot d client) r.client_is ∙ same_dot-itself client)))
 
+-- for `is_ended-sound`: by the minted token and the root
 ended_by-sound : (F : FactSet) (k : TokenId) (m : Option MintedFields) (o : Option Root)
     → minted_in (map.get F) k ≡ m → root_in (map.get F) k.dot ≡ o → is_ended_by F k m o ≡ true
     → IsEnded (map.get F) k
@@ -212,6 +215,7 @@ record SigningOut (subject : List ℕ) (moment : ℕ) (b : Body) : Type 0 where
   pub subject_is : sign_out.subject ≡ subject
   pub not_before : moment ≤ sign_out.moment
 
+-- a body that signs the subject out, by the test, is its sign-out at the moment or later
 signing_out : (subject : List ℕ) (moment : ℕ) (b : Body) → signs_out_in subject moment b ≡ true
     → SigningOut subject moment b
 signing_out subject moment (bodies.SubjectOut x) h =
@@ -246,6 +250,7 @@ is_signed_out-complete F subject moment s =
     (and_from _ _ ((bytes_eq-Decides s.sign_out.subject subject).1 s.subject_is)
     (le-leb moment s.sign_out.moment s.not_before))
 
+-- for `is_out-sound`: by the code that was issued at the dot, if there is one
 out_by-sound : (F : FactSet) (d : Dot) (o : Option issued.CodeIssued) → issued_at (map.get F) d ≡ o
     → is_out_by F o ≡ true → IsOut (map.get F) d
 out_by-sound F d None at h = absurd (true≢false (sym h))
@@ -266,22 +271,11 @@ is_out-complete F d o = ap (is_out_by F) o.issues
 
 -- ---- marks
 
+-- a body that is of the token's reuse, by the test, is a reuse of that token
 reusing : (k : TokenId) (b : Body) → reuse_of k b ≡ true
     → (r : seen.ReuseSeen) × (b ≡ ReuseSeen r) × (r.token ≡ k)
 reusing k (ReuseSeen x) h = (x, refl, same_token-true x.token k h)
 reusing k body h = absurd (true≢false (sym h))
-
--- a kind that is a refresh token's, by the test, is Refresh
-pub refresh_is : (k : Kind) → is_refresh k ≡ true → k ≡ kind.Refresh
-refresh_is kind.Code h = absurd (true≢false (sym h))
-refresh_is kind.Access h = absurd (true≢false (sym h))
-refresh_is kind.Refresh h = refl
-
--- a kind that is a code's, by the test, is Code
-pub code_is : (k : Kind) → is_code k ≡ true → k ≡ kind.Code
-code_is kind.Code h = refl
-code_is kind.Access h = absurd (true≢false (sym h))
-code_is kind.Refresh h = absurd (true≢false (sym h))
 
 -- a token that is stopped by the test is stopped
 pub is_stopped-sound : (F : FactSet) (k : TokenId) → is_stopped F k ≡ true → IsStopped (map.get F) k
@@ -327,6 +321,7 @@ is_marked-complete F k (inr s) =
 
 -- ---- bad grants and dead families
 
+-- a grant that is bad by the test is bad
 bad-sound : (F : FactSet) (d : Dot) (o : Option Link) → links_in (map.get F) d ≡ o
     → is_bad_grant F d o ≡ true → IsBad (links_in (map.get F)) (IsMarked (map.get F)) d
 bad-sound F d None at h = absurd (true≢false (sym h))
@@ -339,6 +334,7 @@ bad-sound F d (Some l) at h = record {
   ];
 }
 
+-- a bad grant is bad by the test
 bad-complete : (F : FactSet) (d : Dot) → IsBad (links_in (map.get F)) (IsMarked (map.get F)) d
     → is_bad_grant F d (links_in (map.get F) d) ≡ true
 bad-complete F d b = ap (is_bad_grant F d) b.here ∙ (elim b.why [

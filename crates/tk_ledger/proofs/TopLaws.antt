@@ -44,6 +44,7 @@ abbrev GrantsWithin : Links → Marks → Marks → Type 0
 GrantsWithin f m n =
     (q c : Dot) (l : Link) → f q ≡ Some l → IsUnder f q c → m (grant_at q l) → n (grant_at q l)
 
+-- a dead family is dead by other marks that have the marks of its grants
 dead_grants : (f : Links) (m n : Marks) → GrantsWithin f m n → (c : Dot) → IsDead f m c
     → IsDead f n c
 dead_grants f m n w c x = record {
@@ -67,6 +68,7 @@ top_grants f m n there back d top.Broken h = h
 top_grants f m n there back d (top.Code c) h = (h.0, λ dead. h.1 (dead_grants f n m back c dead))
 top_grants f m n there back d (top.Dead c) h = (h.0, dead_grants f m n there c h.1)
 
+-- the top of a dot in a forest that follows the set is its top by the set
 top_of_set : (F : FactSet) (x : ForestFacts) (d : Dot) (r : Top) → IsTied F x
     → IsTop (links_at x) (marks_at x) d r → IsTop (links_in (map.get F)) (IsMarked (map.get F)) d r
 top_of_set F x d r t h =
@@ -75,6 +77,7 @@ top_of_set F x d r t h =
     (λ q c l at under m. t.marks q c l at under ∙ is_marked-complete F (grant_at q l) m)
     d r (subst (λ (l : Links). IsTop l (marks_at x) d r) (links_path F x t.links) h)
 
+-- for `top_says`: by what the top is
 says : (F : FactSet) (d : Dot) (r : Top) → IsTop (links_in (map.get F)) (IsMarked (map.get F)) d r
     → TopSays F d r
 says F d top.Absent h = sym (top_code (links_in (map.get F)) (IsMarked (map.get F)) d top.Absent h)
@@ -102,6 +105,7 @@ used_says F x k r t both = same_tests r (is_used F k)
 
 -- ---- the status
 
+-- a minted token of a family is ended exactly if the client of the code revoked it
 ended_is : (F : FactSet) (k : TokenId) (m : MintedFields) (o : Root)
     → minted_in (map.get F) k ≡ Some m → root_in (map.get F) k.dot ≡ Some o
     → is_ended F k ≡ is_revoked F k m.digest o.issued.client
@@ -109,11 +113,13 @@ ended_is F k m o h i =
     ap (λ (x : Option MintedFields). is_ended_by F k x (root_in (map.get F) k.dot)) h
     ∙ ap (is_ended_by F k (Some m)) i
 
+-- the state by whether the family is dead is the state by the set
 state_is : (F : FactSet) (now : ℕ) (k : TokenId) (m : MintedFields) (o : Root) (dead : Bool)
     → is_dead F o.code ≡ dead → is_ended F k ≡ is_revoked F k m.digest o.issued.client
     → state_by dead F now k m o.issued ≡ state_in F now k m o
 state_is F now k m o dead h i = rw (h, i) refl
 
+-- for `by_top_is`: the status under a code, by the fact that issued it
 root_is : (F : FactSet) (now : ℕ) (k : TokenId) (b : Body) (m : MintedFields) (c : Dot)
     (dead : Bool) (o : Option Root)
     → minted_in (map.get F) k ≡ Some m → code_in (map.get F) (anchor_in (map.get F) k.dot) ≡ Some c
@@ -137,6 +143,7 @@ root_is F now k b m c dead (Some o) h i j e =
     })) (state_is F now k m o dead (ap (is_dead F) (sym (root_at F c o e).0) ∙ j)
     (ended_is F k m o h in_family))
 
+-- for `status_by_top`: by what the top is
 by_top_is : (F : FactSet) (now : ℕ) (k : TokenId) (b : Body) (m : MintedFields) (r : Top)
     → minted_in (map.get F) k ≡ Some m → TopSays F (anchor_in (map.get F) k.dot) r
     → by_top F now k b m r ≡ status_by F now k (Some b) (Some m) (root_in (map.get F) k.dot)
@@ -153,7 +160,8 @@ by_top_is F now k b m (top.Dead c) h t =
     ∙ sym (ap (λ (o : Option Dot).
     status_by F now k (Some b) (Some m) (option_and_then (root_of (map.get F)) o)) t.0)
 
-digest_kept : (digest : List ℕ) (o : Option MintedFields) (m : MintedFields)
+-- what is found with a digest was minted
+pub digest_kept : (digest : List ℕ) (o : Option MintedFields) (m : MintedFields)
     → with_digest digest o ≡ Some m → o ≡ Some m
 digest_kept digest None m h = h
 digest_kept digest (Some x) m h = kept (test x) h
@@ -165,6 +173,7 @@ digest_kept digest (Some x) m h = kept (test x) h
     kept true h = h
     kept false h = absurd (cc)
 
+-- values that are equal as options are equal
 some_first : {A : Type 0} (x y : A) → Some x ≡ Some y → x ≡ y
 some_first x y h = cc
 

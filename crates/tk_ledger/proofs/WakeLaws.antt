@@ -29,7 +29,7 @@ use Rattle.tk_family.proofs.WalkLaws.{code_of-complete}
 use Rattle.tk_fact.specs.declared.body.Body.{Body}
 use Rattle.tk_fact.specs.declared.body.Body.TheVariants.{CodeIssued, CodeRedeemed, RefreshRotated}
 use Rattle.tk_store.specs.FactSet.{FactSet}
-use Rattle.tk_store.proofs.FactSetLaws.{tied}
+use Rattle.tk_handle.proofs.TestLaws.{tied}
 use Rattle.tk_store.proofs.PutLaws.{none_is_not_some, some_injective}
 use Rattle.tk_ledger.specs.Bodies.{is_same_token}
 use Rattle.tk_ledger.specs.Tokens.{link_of, links_in, issued_in, issued_at, is_marked}
@@ -37,7 +37,10 @@ use Rattle.tk_ledger.specs.Index.{grant_kind, Wakes}
 use Rattle.tk_ledger.specs.SubjectTables.{dots_of}
 use Rattle.tk_ledger.specs.declared.subject_keys.CodeKey.{CodeKey}
 use Rattle.tk_ledger.proofs.SameLaws.{same_token-true, same_token-itself}
-use Rattle.tk_ledger.proofs.KeyLaws.{at_itself, token_tied}
+use Rattle.tk_ledger.proofs.KeyLaws.{token_tied}
+use Rattle.tk_store.proofs.OneMoreLaws.{at_itself}
+use Rattle.tk_family.proofs.Viewing.{insert_cond, remove_cond}
+use Rattle.tk_handle.proofs.TestLaws.{neither}
 
 -- ---- the marks at dots
 
@@ -51,21 +54,13 @@ grant_place q (Rotates p g) = refl
 pub ok_at : {A E : Type 0} (r : Result A E) (x : A) (P : Type 0) → r ≡ Ok x → OnOk r P → P
 ok_at {A} {E} r x P h o = subst (λ (q : Result A E). OnOk q P) h o
 
-or_cond : (a b : Bool) → (a || b) ≡ cond a true b
-or_cond true b = refl
-or_cond false b = refl
-
-less_cond : (a b : Bool) → (not a && b) ≡ cond a false b
-less_cond true b = refl
-less_cond false b = refl
-
 -- the marks after one more, and after one less
 pub mark_set : (x y : ForestFacts) (j : TokenId) (m : Bool) → m ≡ true
     → y.marks ≡ set.insert x.marks j → (k : TokenId)
     → set.contains y.marks k ≡ cond (is_same_token j k) m (set.contains x.marks k)
 mark_set x y j m is new k =
     mark_put x.marks y.marks j new k ∙ ap (λ b. b || set.contains x.marks k) (token_tied j k)
-    ∙ or_cond (is_same_token j k) (set.contains x.marks k)
+    ∙ insert_cond (is_same_token j k) (set.contains x.marks k)
     ∙ ap (λ b. cond (is_same_token j k) b (set.contains x.marks k)) (sym is)
 
 -- the marks after a token's mark was removed
@@ -76,12 +71,14 @@ mark_cleared x y j m is new k =
     ap (λ (s : set.FinSet token_cmp). set.contains s k) new
     ∙ set.contains-remove tokens_total x.marks j k
     ∙ ap (λ b. not b && set.contains x.marks k) (token_tied j k)
-    ∙ less_cond (is_same_token j k) (set.contains x.marks k)
+    ∙ remove_cond (is_same_token j k) (set.contains x.marks k)
     ∙ ap (λ b. cond (is_same_token j k) b (set.contains x.marks k)) (sym is)
 
+-- the token of a kind at a dot
 abbrev pub token_at : Dot → Kind → TokenId
 token_at d n = record { dot = d; kind = n }
 
+-- tokens at different dots are different, by the test
 elsewhere : (j k : TokenId) → dot_eq k.dot j.dot ≡ false → is_same_token j k ≡ false
 elsewhere j k apart = false_from_ne_true (is_same_token j k)
     (λ h. true≢false
@@ -157,10 +154,6 @@ wakes_as F x y a b same w = record {
   here = λ q c l at. w.here q c l (sym (same q) ∙ at);
   there = λ k apart. w.there k (sym (same k.dot) ∙ apart);
 }
-
-neither : (a b : Bool) → (a || b) ≡ false → (a ≡ false) × (b ≡ false)
-neither true b h = absurd (true≢false h)
-neither false b h = (refl, h)
 
 -- the marks at some dots were written, and then those at others
 pub wakes_then : (F : FactSet) (x y z : ForestFacts) (a b : Dot → Bool) → Wakes F x a y

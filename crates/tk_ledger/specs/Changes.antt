@@ -25,7 +25,9 @@ use Rattle.tk_fact.specs.declared.body.Body.TheVariants.{
   AccessRefreshed,
   SecretSet,
 }
+use Rattle.tk_fact.specs.declared.token_revoked.TokenRevoked as revoked
 use Rattle.tk_ledger.specs.Bodies.{is_same_dot, is_same_token}
+use Rattle.tk_ledger.specs.declared.change.RevokedToken.{RevokedToken}
 use Rattle.tk_ledger.specs.declared.change.Change.{Change}
 use Rattle.tk_ledger.specs.declared.change.Change.TheVariants as change
 
@@ -33,6 +35,10 @@ use Rattle.tk_ledger.specs.declared.change.Change.TheVariants as change
 -- The keys of subjects whose digests begin alike are mixed
 unfoldable pub digest_prefix : List ℕ → ℕ
 digest_prefix digest = from_be_bytes w64 (take 8 digest)
+
+-- the token that the fact revokes, in the name of a client
+abbrev pub revoked_in : revoked.TokenRevoked → RevokedToken
+revoked_in f = record { token = f.token; digest = f.digest; client = f.client }
 
 -- the change that the fact of a body makes. The key of a consent has its client and the digest of
 -- its subject, the key of a code the prefix of that digest and its start, the key of a sign-out the
@@ -45,7 +51,7 @@ change_in (ConsentWithdrawn f) = change.Withdraw f.consent
 change_in (CodeIssued f) = change.Issue (digest_prefix (sha256 f.subject)) f.start
 change_in (CodeRedeemed f) = change.Put (link.Redeems f.code)
 change_in (RefreshRotated f) = change.Put (link.Rotates f.parent f.generation)
-change_in (TokenRevoked f) = change.Revoke f
+change_in (TokenRevoked f) = change.Revoke (revoked_in f)
 change_in (ReuseSeen f) = change.Mark f.token
 change_in (SubjectOut f) = change.SignOut (sha256 f.subject) f.moment
 change_in (AccessRefreshed f) = change.Nothing

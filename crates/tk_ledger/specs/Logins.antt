@@ -69,7 +69,12 @@ redemption_of F d = find (uses (code_token d)) (map.entries F)
 -- the revocation, by the client, of the refresh token that the redemption minted (RFC 7009, 2.1)
 abbrev pub revocation_by : Dot → Dot × Body → Option revoked.TokenRevoked
 revocation_by client (d, CodeRedeemed f) =
-    Some (record { token = refresh_token d; digest = f.refresh.digest; client = client })
+    Some (record {
+      token = refresh_token d;
+      digest = f.refresh.digest;
+      client = client;
+      by = None;
+    })
 revocation_by client (d, body) = None
 
 -- the revocation that ends the login of the code, if that was redeemed (RFC 7009, 2.1)

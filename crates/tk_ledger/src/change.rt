@@ -1,8 +1,16 @@
 //! The change that one fact makes in the tables of a ledger.
 
-use tk_fact::TokenRevoked;
 use tk_family::Link;
 use tk_handle::{Dot, Moment, TokenId};
+
+// A token that is revoked, in the name of a client.
+#[derive(Clone, Copy)]
+pub(crate) struct RevokedToken {
+    pub(crate) token: TokenId,
+    // The SHA-256 digest of the token's handle.
+    pub(crate) digest: [u8; 32],
+    pub(crate) client: Dot,
+}
 
 // The change that one fact makes in the tables.
 #[derive(Clone, Copy)]
@@ -27,8 +35,8 @@ pub(crate) enum Change {
     },
     // A code is redeemed, or a refresh token rotated: the fact gets the link.
     Put(Link),
-    // A client revokes a token.
-    Revoke(TokenRevoked),
+    // A token is revoked.
+    Revoke(RevokedToken),
     // The reuse of the token was seen.
     Mark(TokenId),
     // A subject signs out everywhere.
@@ -50,10 +58,10 @@ pub(crate) enum Change {
 
 ghost use Rattle.std.specs.Prelude.{◌≡◌};
 ghost use Rattle.sha2.specs.Sha256.{sha256};
-ghost use Rattle.tk_ledger.specs.Changes.{change_in, digest_prefix};
+ghost use Rattle.tk_ledger.specs.Changes.{change_in, digest_prefix, revoked_in};
 
 use sha2::{Digest, Sha256};
-use tk_fact::{Body, Subject};
+use tk_fact::{Body, Subject, TokenRevoked};
 
 // Returns the SHA-256 digest of a subject, which is in the keys of its consents and sign-outs.
 pub(crate) fn subject_digest(subject: &Subject) -> [u8; 32]
@@ -70,6 +78,18 @@ pub(crate) fn digest_prefix(digest: &[u8; 32]) -> u64
 {
     let (prefix, _) = digest.split_first_chunk::<8>().unwrap();
     u64::from_be_bytes(*prefix)
+}
+
+// Returns the token that the fact revokes.
+fn revoked_by(fact: &TokenRevoked) -> RevokedToken
+    ensures { result ≡ revoked_in fact.now }
+{
+    let digest = fact.digest;
+    RevokedToken {
+        token: fact.token,
+        digest,
+        client: fact.client,
+    }
 }
 
 // Returns the change that the fact of a body makes.
@@ -93,7 +113,7 @@ pub(crate) fn change_of(body: &Body) -> Change
             parent: fact.parent,
             generation: fact.generation,
         }),
-        Body::TokenRevoked(fact) => Change::Revoke(*fact),
+        Body::TokenRevoked(fact) => Change::Revoke(revoked_by(fact)),
         Body::ReuseSeen(fact) => Change::Mark(fact.token),
         Body::SubjectOut(fact) => Change::SignOut {
             subject: subject_digest(&fact.subject),

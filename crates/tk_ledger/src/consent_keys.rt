@@ -12,12 +12,11 @@ pub(crate) struct ConsentKey {
 }
 
 ghost use Rattle.std.specs.Prelude.{◌≡◌, OnOk, OnErr, ◌&&◌, ◌||◌, not, cond, true, Some};
-ghost use Rattle.std.specs.Ordering.{eq_by_cmp};
 ghost use Rattle.std.specs.BTreeSet.{contains};
 ghost use Rattle.std.specs.Option.{option_map};
-ghost use Rattle.tk_handle.specs.declared.dot.Dot.{Dot as the_dot};
+ghost use Rattle.std.specs.Ordering.{eq_by_cmp};
 ghost use Rattle.tk_handle.specs.Dot.{IsDot, dot_cmp, greatest_dot};
-ghost use Rattle.tk_ledger.specs.declared.consent_keys.ConsentKey.{ConsentKey as the_key};
+ghost use Rattle.tk_handle.specs.declared.dot.Dot.{Dot as the_dot};
 ghost use Rattle.tk_store.specs.StoreFields.{held_facts};
 ghost use Rattle.tk_ledger.specs.Clients.{consent_at};
 ghost use Rattle.tk_ledger.specs.Index.{
@@ -28,6 +27,7 @@ ghost use Rattle.tk_ledger.specs.Index.{
   key_of,
   is_key_at,
 };
+ghost use Rattle.tk_ledger.specs.declared.consent_keys.ConsentKey.{ConsentKey as the_key};
 
 use crate::change::subject_digest;
 use crate::consents::given_in;

@@ -45,16 +45,16 @@ pub(crate) struct Index {
 }
 
 ghost use Rattle.std.specs.Prelude.{◌≡◌, Some, OnOk, OnErr};
-ghost use Rattle.std.specs.Option.{option_map};
 ghost use Rattle.std.specs.FinMap as map;
+ghost use Rattle.std.specs.Option.{option_map};
 ghost use Rattle.tk_store.specs.StoreFields.{held_facts};
-ghost use Rattle.tk_ledger.specs.declared.change.Change.TheVariants as change_as;
 ghost use Rattle.tk_ledger.specs.Changes.{change_in};
 ghost use Rattle.tk_ledger.specs.Index.{IsRevocations, IsReuses, IsTied, IsIndexed};
 ghost use Rattle.tk_ledger.specs.SubjectTables.{IsOuts};
 ghost use Rattle.tk_ledger.specs.Tokens.{links_in};
+ghost use Rattle.tk_ledger.specs.declared.change.Change.TheVariants as change_as;
 
-use crate::change::{Change, digest_prefix};
+use crate::change::{Change, RevokedToken, digest_prefix};
 use crate::client_rows::{add_client, retire_client};
 use crate::consent_keys::{give, withdraw};
 use crate::reuses::list_reuse;
@@ -64,7 +64,6 @@ use crate::sign_outs::first_left;
 use crate::subject_keys::{drop_code, drop_login, list_code, list_login, list_out};
 use crate::wake::{wake, wake_all, wake_started};
 use std::alloc::{AllocError, Global};
-use tk_fact::TokenRevoked;
 use tk_family::Link;
 use tk_handle::{Moment, TokenId};
 use tk_store::FactStore;
@@ -210,7 +209,7 @@ fn revoke_token(
     facts: &FactStore,
     index: &mut Index,
     dot: Dot,
-    fact: &TokenRevoked,
+    fact: &RevokedToken,
 ) -> Result<(), AllocError>
     requires change { option_map change_in (map.get (held_facts facts.now) dot)
         ≡ Some (change_as.Revoke fact.now) }

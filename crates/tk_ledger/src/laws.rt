@@ -1,6 +1,5 @@
 //! The laws of the ledger: functions with empty bodies, whose contracts hold of all sets of facts.
 
-ghost use Rattle.tk_ledger.specs.Slices.{PassEnds};
 ghost use Rattle.tk_ledger.specs.Laws.{
   UsedDecided,
   TwiceDecided,
@@ -28,6 +27,7 @@ ghost use Rattle.tk_ledger.specs.Laws.{
   SecretsEnd,
   TurnsGrow,
 };
+ghost use Rattle.tk_ledger.specs.Slices.{PassEnds};
 
 /// States a law: each test of a set of facts decides the relation of its name (own).
 pub fn tests_decide()

@@ -96,7 +96,7 @@ impl Ledger {
         }
     }
 
-    /// Adds a fact that passes its check.
+    /// Adds a fact that passes its check (`Fact::check`).
     ///
     /// A fact whose dot is skipped is dropped if it may be skipped, and refused if it lasts. If the
     /// fact is refused or memory runs out, the ledger is unchanged and the fact is dropped.

@@ -53,6 +53,7 @@ fn revocation_by(client: Dot, fact: &Fact) -> Option<TokenRevoked>
             },
             digest: redemption.refresh.digest,
             client,
+            by: None,
         }),
         _ => None,
     }

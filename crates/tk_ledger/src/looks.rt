@@ -1,11 +1,11 @@
 //! Look-ups among the facts and in the forest.
 
 ghost use Rattle.std.specs.Prelude.{◌≡◌};
-ghost use Rattle.std.specs.Option.{option_copied, option_map};
 ghost use Rattle.std.specs.FinMap as map;
+ghost use Rattle.std.specs.Option.{option_copied, option_map};
+ghost use Rattle.tk_fact.specs.Tokens.{shown_minted};
 ghost use Rattle.tk_family.specs.ForestFacts.{links_at};
 ghost use Rattle.tk_family.specs.Walks.{code_of};
-ghost use Rattle.tk_fact.specs.Tokens.{shown_minted};
 ghost use Rattle.tk_store.specs.StoreFields.{held_facts};
 ghost use Rattle.tk_ledger.specs.ByTop.{code_in_top, root_by};
 ghost use Rattle.tk_ledger.specs.Tokens as spec;

@@ -13,15 +13,15 @@ pub(crate) struct ReuseKey {
 }
 
 ghost use Rattle.std.specs.Prelude.{◌≡◌, OnOk, OnErr, cond, true, false};
-ghost use Rattle.std.specs.Ordering.{eq_by_cmp};
 ghost use Rattle.std.specs.BTreeSet.{contains};
+ghost use Rattle.std.specs.Ordering.{eq_by_cmp};
 ghost use Rattle.tk_handle.specs.Dot.{IsDot, least_dot, greatest_dot};
-ghost use Rattle.tk_ledger.specs.declared.reuses.ReuseKey.{ReuseKey as the_key};
 ghost use Rattle.tk_ledger.specs.Index.{
   reuse_cmp,
   reuse_key,
   has_reuse,
 };
+ghost use Rattle.tk_ledger.specs.declared.reuses.ReuseKey.{ReuseKey as the_key};
 
 use std::alloc::AllocError;
 use std::collections::BTreeSet;

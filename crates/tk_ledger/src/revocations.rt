@@ -15,11 +15,11 @@ pub(crate) struct Revocation {
 }
 
 ghost use Rattle.std.specs.Prelude.{◌≡◌, OnOk, OnErr, cond, true, false};
-ghost use Rattle.std.specs.Ordering.{eq_by_cmp};
 ghost use Rattle.std.specs.BTreeSet.{contains};
+ghost use Rattle.std.specs.Ordering.{eq_by_cmp};
 ghost use Rattle.tk_handle.specs.Dot.{IsDot, least_dot, greatest_dot};
-ghost use Rattle.tk_ledger.specs.declared.revocations.Revocation.{Revocation as the_revocation};
 ghost use Rattle.tk_ledger.specs.Index.{revocation_cmp, revocation_key, has_revocation};
+ghost use Rattle.tk_ledger.specs.declared.revocations.Revocation.{Revocation as the_revocation};
 
 use std::alloc::AllocError;
 use std::collections::BTreeSet;

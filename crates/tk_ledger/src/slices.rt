@@ -2,8 +2,8 @@
 
 ghost use Rattle.std.specs.Prelude.{◌≡◌, ◌↔◌, Some, IsTrue};
 ghost use Rattle.std.specs.FinMap as map;
-ghost use Rattle.tk_fact.specs.Keeping.{names_of};
 ghost use Rattle.tk_handle.specs.declared.dot.Dot.{Dot as the_dot};
+ghost use Rattle.tk_fact.specs.Keeping.{names_of};
 ghost use Rattle.tk_store.specs.StoreFields.{held_facts};
 ghost use Rattle.tk_ledger.specs.Index.{IsIndexed};
 ghost use Rattle.tk_ledger.specs.Slices.{Goes, LooksOver, PrunesSome, SkipsIf, is_any_skipped};

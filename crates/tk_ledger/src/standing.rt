@@ -1,8 +1,8 @@
 //! The status of a handle, by at most eight look-ups.
 
 ghost use Rattle.std.specs.Prelude.{◌≡◌, ◌+◌, ◌^◌, ◌<◌, ◌≤◌, Some};
-ghost use Rattle.std.specs.Option.{option_copied, option_map};
 ghost use Rattle.std.specs.FinMap as map;
+ghost use Rattle.std.specs.Option.{option_copied, option_map};
 ghost use Rattle.tk_handle.specs.Kind as kinds;
 ghost use Rattle.tk_fact.specs.Tokens.{minted_of, shown_minted};
 ghost use Rattle.tk_store.specs.SlotShown.{IsShown};

@@ -32,14 +32,11 @@ pub(crate) struct OutKey {
 }
 
 ghost use Rattle.std.specs.Prelude.{◌≡◌, OnOk, OnErr, cond, true, false, Some};
-ghost use Rattle.std.specs.Ordering.{eq_by_cmp};
 ghost use Rattle.std.specs.BTreeSet.{contains};
-ghost use Rattle.tk_handle.specs.declared.dot.Dot.{Dot as the_dot};
+ghost use Rattle.std.specs.Ordering.{eq_by_cmp};
 ghost use Rattle.tk_handle.specs.Dot.{IsDot, least_dot, greatest_dot};
 ghost use Rattle.tk_handle.specs.Ranges.{IsMoment, greatest_moment};
-ghost use Rattle.tk_ledger.specs.declared.subject_keys.CodeKey.{CodeKey as the_code};
-ghost use Rattle.tk_ledger.specs.declared.subject_keys.LoginKey.{LoginKey as the_login};
-ghost use Rattle.tk_ledger.specs.declared.subject_keys.OutKey.{OutKey as the_out};
+ghost use Rattle.tk_handle.specs.declared.dot.Dot.{Dot as the_dot};
 ghost use Rattle.tk_ledger.specs.SubjectTables.{
   code_cmp,
   code_key,
@@ -50,6 +47,9 @@ ghost use Rattle.tk_ledger.specs.SubjectTables.{
   out_key,
   left_after,
 };
+ghost use Rattle.tk_ledger.specs.declared.subject_keys.CodeKey.{CodeKey as the_code};
+ghost use Rattle.tk_ledger.specs.declared.subject_keys.LoginKey.{LoginKey as the_login};
+ghost use Rattle.tk_ledger.specs.declared.subject_keys.OutKey.{OutKey as the_out};
 
 use std::alloc::AllocError;
 use std::collections::BTreeSet;
@@ -170,7 +170,7 @@ pub(crate) fn left(moment: Moment) -> u64
     ensures value { result ≡ left_after moment }
     ensures ranged { IsMoment moment }
 {
-    Moment::GREATEST - moment.seconds()
+    Moment::MAX - moment.seconds()
 }
 
 // Notes a sign-out.
@@ -208,5 +208,5 @@ pub(crate) fn out_span(subject: &[u8; 32]) -> (OutKey, OutKey)
         left,
         place,
     };
-    (key(0, Dot::least()), key(Moment::GREATEST, Dot::greatest()))
+    (key(0, Dot::least()), key(Moment::MAX, Dot::greatest()))
 }

@@ -1,8 +1,7 @@
 //! Walks over what a subject has: live consents, and logins, in the order of their dots.
 
-ghost use Rattle.std.specs.FinMap as map;
-ghost use Rattle.std.specs.Option.{option_copied};
 ghost use Rattle.std.specs.Prelude.{◌≡◌};
+ghost use Rattle.std.specs.Option.{option_copied};
 ghost use Rattle.tk_store.specs.StoreFields.{held_facts};
 ghost use Rattle.tk_ledger.specs.SubjectWalk as spec;
 ghost use Rattle.tk_ledger.specs.SubjectWalk.{consents_of, logins_of, Walks};

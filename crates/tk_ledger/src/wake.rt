@@ -2,13 +2,13 @@
 //! that their client revoked, and codes whose subject signed out, whichever fact arrives first.
 
 ghost use Rattle.std.specs.Prelude.{◌≡◌, ◌≤◌, ◌&&◌, nat_le, IsSome, cond};
-ghost use Rattle.std.specs.Option.{option_copied, option_map};
 ghost use Rattle.std.specs.FinMap as map;
 ghost use Rattle.std.specs.FinSet as set;
+ghost use Rattle.std.specs.Option.{option_copied, option_map};
 ghost use Rattle.tk_handle.specs.declared.dot.Dot.{Dot as the_dot};
 ghost use Rattle.tk_handle.specs.declared.token_id.TokenId.{TokenId as the_token};
-ghost use Rattle.tk_family.specs.Dots.{dot_eq, has};
 ghost use Rattle.tk_fact.specs.Tokens.{shown_minted};
+ghost use Rattle.tk_family.specs.Dots.{dot_eq, has};
 ghost use Rattle.tk_store.specs.StoreFields.{held_facts};
 ghost use Rattle.tk_ledger.specs.Bodies.{is_same_token};
 ghost use Rattle.tk_ledger.specs.ByTop.{ended_in};

@@ -22,6 +22,7 @@ joined_above (Some Skipped) None s below agrees = absurd below
 joined_above (Some Skipped) (Some (Held c)) s below agrees = absurd below
 joined_above (Some Skipped) (Some Skipped) s below agrees = tt
 
+-- what is below the slots stays below them with a list that fits joined to them
 grown : (S T : Slots) (items : List (Dot × Slot)) → SlotsBelow S T → AllFit S items
     → SlotsBelow S (with_slots T items)
 grown S T [] below fit = below

@@ -1,5 +1,4 @@
 -- A set has one front, which follows what is put and taken. Key results:
---   one_front                         one number is a region's front
 --   front_from_next, next_of_front    the front is where the next serial is not held
 --   front_put                         a fact that is not the next of its region leaves the front
 --   front_advanced                    the next fact of a region moves the front to the end of the
@@ -25,12 +24,13 @@ use Rattle.tk_fact.specs.declared.body.Body.{Body}
 use Rattle.tk_store.specs.FactSet.{IsFactSet}
 use Rattle.tk_store.specs.Slots.{Slot, Slots, Held, Skipped, held_in, held_slot, without_fact}
 use Rattle.tk_store.specs.StoreFields.{IsKept}
-use Rattle.tk_store.proofs.FactSetLaws.{tied}
+use Rattle.tk_handle.proofs.TestLaws.{tied}
 use Rattle.tk_store.proofs.PutLaws.{by_dot, taken_back, get_here, IsFactSet-empty, IsFactSet-insert}
 use Rattle.tk_store.proofs.PutLaws.{IsFactSet-remove}
 use Rattle.tk_store.proofs.SlotLaws.{held_none, held_put, held_skip, held_taken, remove_free}
 use Rattle.tk_handle.proofs.TestLaws.{not_none as nothing_held}
 
+-- two numbers are equal or not
 cases_same : (a b : ℕ) → (a ≡ b) ⊎ (a ≢ b)
 cases_same a b = elim (cases_lt a b) [
   | inl lt ↦ inr (λ e. absurd (omega (arith, e)))
@@ -41,10 +41,6 @@ cases_same a b = elim (cases_lt a b) [
 ]
 
 module _ {X : Type 0} where
-  -- a region has one front
-  pub one_front : (F : map.FinMap dot_cmp X) (r m n : ℕ) → IsFrontAt F r m → IsFrontAt F r n → m ≡ n
-  one_front F r m n f g = let a = f.greatest n g.held in let b = g.greatest m f.held in omega arith
-
   -- the front is where the next dot is free
   pub front_from_next : (F : map.FinMap dot_cmp X) (r n : ℕ) → HeldUpTo F r n
       → map.get F (dot_at r (n + 1)) ≡ None → IsFrontAt F r n
@@ -74,10 +70,12 @@ module _ {X : Type 0} where
 
   -- ---- without the fact at a dot
 
+  -- a dot that was removed has nothing
   gone : (G : map.FinMap dot_cmp X) (d : Dot) → map.get (map.remove G d) d ≡ None
   gone G d = map.get-remove dot_cmp_total G d d
       ∙ ap (λ o. cond (is_eq o) None (map.get G d)) (tied_itself dot_cmp_total d)
 
+  -- a removal leaves what is at each other dot
   kept_there : (G : map.FinMap dot_cmp X) (d q : Dot) → q ≢ d
       → map.get (map.remove G d) q ≡ map.get G q
   kept_there G d q other = elim (cases_Bool (eq_by_cmp dot_cmp q d)) [
@@ -86,6 +84,7 @@ module _ {X : Type 0} where
         ∙ cond-false (eq_by_cmp dot_cmp q d) None (map.get G q) apart
   ]
 
+  -- a dot that has something after a removal had something before
   held_before : (G : map.FinMap dot_cmp X) (d q : Dot) → IsSome (map.get (map.remove G d) q)
       → IsSome (map.get G q)
   held_before G d q h = elim (cases_Bool (eq_by_cmp dot_cmp q d)) [
@@ -98,6 +97,7 @@ module _ {X : Type 0} where
         ∙ cond-false (eq_by_cmp dot_cmp q d) None (map.get G q) apart) h
   ]
 
+  -- a dot that had nothing has nothing after a removal
   none_after : (G : map.FinMap dot_cmp X) (d q : Dot) → map.get G q ≡ None
       → map.get (map.remove G d) q ≡ None
   none_after G d q none = elim (cases_Bool (eq_by_cmp dot_cmp q d)) [
@@ -110,11 +110,13 @@ module _ {X : Type 0} where
   -- ---- one fact more
 
   module _ (G : map.FinMap dot_cmp X) (d : Dot) where
+    -- a front without the dot is a front with the dot, unless the dot is next
     stays : (r n : ℕ) → IsFrontAt (map.remove G d) r n → dot_at r (n + 1) ≢ d → IsFrontAt G r n
     stays r n f other =
         front_from_next G r n (λ k low le. held_before G d (dot_at r k) (f.held k low le))
         (sym (kept_there G d (dot_at r (n + 1)) other) ∙ next_of_front (map.remove G d) r n f)
 
+    -- a dot right above the front moves the front to the end of the run
     moves : (n end : ℕ) → IsFrontAt (map.remove G d) d.region n → d.serial ≡ n + 1
         → ((k : ℕ) → d.serial ≤ k → k ≤ end → IsSome (map.get G (dot_at d.region k)))
         → map.get G (dot_at d.region (end + 1)) ≡ None
@@ -162,6 +164,7 @@ module _ {X : Type 0} where
 
     -- ---- one fact less
 
+    -- a removal lowers the front to right below the removed dot, or leaves the front
     falls : (r n m : ℕ) → IsFrontAt G r n → m ≤ n → ((k : ℕ) → 0 < k → k ≤ m → dot_at r k ≢ d)
         → (dot_at r (m + 1) ≡ d) ⊎ (m ≡ n) → IsFrontAt (map.remove G d) r m
     falls r n m f le others edge = front_from_next (map.remove G d) r m
@@ -230,6 +233,7 @@ known_from S d end here behind k from to = elim (cases_lt d.serial k) [
     dot_by d k e = λ i. record { region = d.region; serial = sym e i }
 
 module _ (S : Slots) (d : Dot) (free : map.get S d ≡ None) (x : Slot) where
+  -- a slot put at a free dot and removed again leaves the slots
   without_new : map.remove (map.insert S d x) d ≡ S
   without_new = taken_back S d x free
 

@@ -40,6 +40,7 @@ pub AllIn-contains : (U : FactSet) (fs : Facts) (f : Dot × Body) → AllIn U fs
 AllIn-contains U fs f all c =
     subst (λ (g : Dot × Body). map.get U g.0 ≡ Some g.1) c.2 (AllIn-at U fs c.0 f all c.1)
 
+-- the empty set is a subset of each set
 empty_subset : (U : FactSet) → IsSubset map.empty U
 empty_subset U d b h = absurd (none_is_not_some b (sym (map.get-empty dot_cmp d) ∙ h))
 

@@ -3,13 +3,11 @@ pub mod FactSetLaws
 pub mod FitLaws
 pub mod FrontLaws
 pub mod JoiningLaws
-pub mod JoiningStepsLaws
 pub mod NextDotLaws
 pub mod OneMoreLaws
 pub mod PagingLaws
 pub mod PutLaws
 pub mod SeekingLaws
-pub mod SetOrderLaws
 pub mod SlotJoiningLaws
 pub mod SlotLaws
 pub mod SlotOrderLaws
@@ -18,5 +16,4 @@ pub mod TableLaws
 pub mod TableWalkLaws
 pub mod PassingLaws
 pub mod WalkLaws
-pub mod WholeLaws
 pub mod WholeStoreLaws

@@ -1,42 +1,21 @@
--- The next dot of a region is free, and the last fact of a region has its greatest serial. Key
--- results:
+-- The next dot of a region is free. Key results:
 --   at_most_last_serial          no fact of a region has a greater serial than its greatest
 --   next_is_free                 no fact is at a region's next dot
 --   next_dot_there               the next dot, if a serial is left
---   greatest_is, greatest_none   the last fact of a region has its greatest serial, or the region
---                                has no fact
-use Rattle.std.proofs.Common.{◌≡◌, ℕ, ◌+◌, ◌<◌, ◌≤◌, ◌==◌, true, false, cond, if◌then◌else◌, max}
-use Rattle.std.proofs.Common.{List, [], ◌∷◌, Option, Some, None, IsSome, is_some, refl, sym, ap}
-use Rattle.std.proofs.Common.{◌∙◌, arith, inl, inr}
-use mathlib.Core.Bool.{false≢true}
-use Rattle.std.specs.Ordering.{eq_by_cmp, is_lt}
+use Rattle.std.proofs.Common.{◌≡◌, ℕ, ◌+◌, ◌≤◌, ◌==◌, true, false, cond, if◌then◌else◌, max}
+use Rattle.std.proofs.Common.{List, [], ◌∷◌, Option, Some, None, refl, sym, ap}
+use Rattle.std.proofs.Common.{◌∙◌, arith}
+use Rattle.std.specs.Ordering.{eq_by_cmp}
 use Rattle.std.specs.FinMap as map
 use Rattle.std.specs.Option.{SomeIff}
-use Rattle.std.specs.BTreeMap.Range.{IsLeBy}
-use Rattle.std.proofs.lemmas.Bool.{cases_lt}
 use Rattle.std.proofs.lemmas.Bool.Decides.{nat_tests}
 use Rattle.tk_handle.specs.declared.dot.Dot.{Dot}
 use Rattle.tk_handle.specs.Dot.{dot_cmp}
 use Rattle.tk_handle.specs.Ranges.{IsSerial, greatest_serial}
 use Rattle.tk_store.specs.FactSet.{AllIn}
-use Rattle.tk_store.specs.Front.{dot_at}
 use Rattle.tk_store.specs.NextDot.{last_serial, next_serial, next_dot}
-use Rattle.tk_store.proofs.EntryLaws.{AllIn-entries}
-use Rattle.tk_store.proofs.FactSetLaws.{tied}
+use Rattle.tk_handle.proofs.TestLaws.{tied}
 use Rattle.std.proofs.lemmas.Option.{none-some as none_is_not_some}
-
--- a dot of the region whose serial is in range is between the first and the last dot of the region
-pub in_region : (r : ℕ) (q : Dot) → q.region ≡ r → 0 < q.serial → q.serial ≤ greatest_serial
-    → IsLeBy dot_cmp (dot_at r 1) q × IsLeBy dot_cmp q (dot_at r greatest_serial)
-in_region r q here low high = (grind (arith, nat_tests), grind (arith, nat_tests))
-
-region_of : (r : ℕ) (e : Dot) → IsLeBy dot_cmp (dot_at r 1) e
-    → IsLeBy dot_cmp e (dot_at r greatest_serial) → e.region ≡ r
-region_of r e low high = grind (arith, nat_tests)
-
-serial_at_most : (e q : Dot) → e.region ≡ q.region → is_lt (dot_cmp e q) ≡ false
-    → q.serial ≤ e.serial
-serial_at_most e q same h = grind (arith, nat_tests)
 
 module _ {X : Type 0} where
   -- no serial of a region is above its last
@@ -89,47 +68,3 @@ module _ {X : Type 0} where
       first : (region serial rest : ℕ) → (region ≡ r → serial ≤ m) → rest ≤ m
           → max (if region == r then serial else 0) rest ≤ m
       first region serial rest h k = grind (arith, nat_tests)
-
-  module _ (F : map.FinMap dot_cmp X) (r : ℕ)
-      (high : (d : Dot) → IsSome (map.get F d) → d.serial ≤ greatest_serial) where
-    -- the greatest dot of the region that is held has its greatest serial
-    pub greatest_is : (e : Dot) → IsSome (map.get F e)
-        → IsLeBy dot_cmp (dot_at r 1) e × IsLeBy dot_cmp e (dot_at r greatest_serial)
-        → ((q : Dot) → IsLeBy dot_cmp (dot_at r 1) q × IsLeBy dot_cmp q (dot_at r greatest_serial)
-        → IsSome (map.get F q) → is_lt (dot_cmp e q) ≡ false)
-        → e.serial ≡ last_serial r (map.entries F)
-    greatest_is e held within last =
-        let here : e.region ≡ r = region_of r e within.0 within.1 in
-        let low : last_serial r (map.entries F) ≤ e.serial =
-        at_most F r e.serial (map.entries F) (AllIn-entries F)
-        (λ q b at same. elim (cases_lt 0 q.serial) [
-          | inl some ↦
-              let there : IsSome (map.get F q) = ap is_some at in
-              serial_at_most e q (here ∙ sym same)
-              (last q (in_region r q same some (high q there)) there)
-          | inr none ↦ omega arith
-        ]) in
-        let reached : e.serial ≤ last_serial r (map.entries F) =
-        held_counts (map.get F e) refl held here in
-        omega arith
-      where
-        held_counts : (o : Option X) → map.get F e ≡ o → IsSome (map.get F e) → e.region ≡ r
-            → e.serial ≤ last_serial r (map.entries F)
-        held_counts None at held here = absurd (false≢true (sym (ap is_some at) ∙ held))
-        held_counts (Some b) at held here =
-            at_most_last_serial r (map.entries F) e b here (sym (map.get-entries F e) ∙ at)
-
-    -- a region of which no dot is held has the greatest serial 0
-    pub greatest_none : ((q : Dot)
-        → IsLeBy dot_cmp (dot_at r 1) q × IsLeBy dot_cmp q (dot_at r greatest_serial)
-        → map.get F q ≡ None)
-        → 0 ≡ last_serial r (map.entries F)
-    greatest_none none =
-        let at_zero : last_serial r (map.entries F) ≤ 0 =
-        at_most F r 0 (map.entries F) (AllIn-entries F) (λ q b at same. elim (cases_lt 0 q.serial) [
-          | inl some ↦ absurd
-              (none_is_not_some b
-              (sym (none q (in_region r q same some (high q (ap is_some at)))) ∙ at))
-          | inr low ↦ omega arith
-        ]) in
-        omega arith

@@ -1,13 +1,12 @@
 -- A set with one fact more. Key results:
 --   OneMore                    one set is the other with a body at a free dot
---   more_insert, more_remove   inserting and removing give such sets
+--   more_remove                removing a fact gives such a pair of sets
 --   more_subset                the smaller set is within the larger
---   by_more                    the body at a dot of the larger set
 --   any_fact-more              a test of the larger set is a test of the new fact and of the
 --                              smaller set
-use Rattle.std.proofs.Common.{◌≡◌, ◌≢◌, ◌⊎◌, inl, inr, Bool, true, false, ◌||◌, Option, Some, None}
-use Rattle.std.proofs.Common.{sym, ap, subst, ◌∙◌}
-use Rattle.std.proofs.lemmas.Bool.{true≢false, cases_Bool, cond-true, cond-false, or_cases, or_left}
+use Rattle.std.proofs.Common.{◌≡◌, ◌≢◌, inl, inr, Bool, true, false, ◌||◌, Some, None}
+use Rattle.std.proofs.Common.{sym, ap, ◌∙◌}
+use Rattle.std.proofs.lemmas.Bool.{cases_Bool, cond-true, cond-false, or_cases, or_left}
 use Rattle.std.proofs.lemmas.Bool.{or_right}
 use Rattle.std.proofs.lemmas.Cmp.{tied_itself}
 use Rattle.std.specs.Ordering.{eq_by_cmp, is_eq}
@@ -17,22 +16,14 @@ use Rattle.tk_handle.specs.Dot.{dot_cmp, dot_cmp_total}
 use Rattle.tk_fact.specs.declared.body.Body.{Body}
 use Rattle.tk_store.specs.FactSet.{FactSet, IsSubset, any_fact}
 use Rattle.tk_store.proofs.EntryLaws.{Passing, any_fact-held, any_fact-of}
-use Rattle.tk_store.proofs.FactSetLaws.{tied}
-use Rattle.tk_store.proofs.PutLaws.{get_here}
+use Rattle.tk_handle.proofs.TestLaws.{tied}
+pub use Rattle.tk_dots.proofs.PlaceLaws.{cases_dots}
 use Rattle.std.specs.Cmp.{both_ways as same_tests}
 use Rattle.std.proofs.lemmas.Option.{none-some as none_is_not_some, same_Some as some_injective}
 
-at_itself : (d : Dot) → eq_by_cmp dot_cmp d d ≡ true
+-- a dot equals itself
+pub at_itself : (d : Dot) → eq_by_cmp dot_cmp d d ≡ true
 at_itself d = ap is_eq (tied_itself dot_cmp_total d)
-
--- two dots are equal or not
-pub cases_dots : (a b : Dot) → (a ≡ b) ⊎ (a ≢ b)
-cases_dots a b = elim (cases_Bool (eq_by_cmp dot_cmp a b)) [
-  | inl same ↦ inl (tied a b same)
-  | inr apart ↦ inr
-      (λ is. true≢false
-      (sym (at_itself b) ∙ ap (λ (x : Dot). eq_by_cmp dot_cmp x b) (sym is) ∙ apart))
-]
 
 -- dots that differ do not compare as equal
 pub apart_at : (a b : Dot) → a ≢ b → eq_by_cmp dot_cmp a b ≡ false
@@ -46,16 +37,6 @@ pub record OneMore (F G : FactSet) (d : Dot) (b : Body) : Type 0 where
   pub free : map.get F d ≡ None
   pub here : map.get G d ≡ Some b
   pub there : (q : Dot) → q ≢ d → map.get G q ≡ map.get F q
-
--- a set with a fact inserted at a free dot has one more
-pub more_insert : (F : FactSet) (d : Dot) (b : Body) → map.get F d ≡ None
-    → OneMore F (map.insert F d b) d b
-more_insert F d b free = record {
-  free = free;
-  here = get_here F d b;
-  there = λ q ne. map.get-insert dot_cmp_total F d b q
-      ∙ cond-false (eq_by_cmp dot_cmp q d) (Some b) (map.get F q) (apart_at q d ne);
-}
 
 -- a set has one more than without one of its facts
 pub more_remove : (G : FactSet) (d : Dot) (b : Body) → map.get G d ≡ Some b
@@ -73,16 +54,6 @@ pub more_subset : (F G : FactSet) (d : Dot) (b : Body) → OneMore F G d b → I
 more_subset F G d b m q x h = elim (cases_dots q d) [
   | inl same ↦ absurd (none_is_not_some x (sym m.free ∙ ap (map.get F) (sym same) ∙ h))
   | inr ne ↦ m.there q ne ∙ h
-]
-
--- P holds of what is at a dot of G, if P holds of the new body and of what is there in F
-pub by_more : (P : Dot → Option Body → Type 0) (F G : FactSet) (d : Dot) (b : Body)
-    → OneMore F G d b → (q : Dot) → (q ≡ d → P d (Some b)) → (q ≢ d → P q (map.get F q))
-    → P q (map.get G q)
-by_more P F G d b m q at_it elsewhere = elim (cases_dots q d) [
-  | inl same ↦
-      subst (λ (x : Dot). P x (map.get G x)) (sym same) (subst (P d) (sym m.here) (at_it same))
-  | inr ne ↦ subst (P q) (sym (m.there q ne)) (elsewhere ne)
 ]
 
 -- some fact of G passes a test exactly if the new fact does, or some fact of F

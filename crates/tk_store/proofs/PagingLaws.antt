@@ -1,4 +1,5 @@
--- Paging by cursor loses nothing. Key result: `complete`.
+-- Paging by cursor loses nothing. Key results:
+--   complete   a receiver that takes in each page has all
 use Rattle.std.proofs.Common.{◌≡◌, ℕ, zero, suc, ◌-◌, ◌<◌, ◌≤◌, Bool, true, false, cond, T, List}
 use Rattle.std.proofs.Common.{[], ◌∷◌, map, filter, take, length, slice_get, Option, Some, None}
 use Rattle.std.proofs.Common.{refl, sym, ap, subst, ◌∙◌, arith, ◌⊎◌, inl, inr}
@@ -18,10 +19,11 @@ use Rattle.tk_store.specs.SlotOrder.{SlotBelow}
 use Rattle.tk_store.specs.Slots.{Slot, Slots}
 use Rattle.tk_store.proofs.SlotOrderLaws.{below_trans}
 use Rattle.tk_store.specs.Paging.{page, last_dot, TookPages, PagingCompletes}
-use Rattle.tk_store.proofs.FactSetLaws.{tied}
+use Rattle.tk_handle.proofs.TestLaws.{tied}
 use Rattle.tk_handle.proofs.TestLaws.{and, both}
 use Rattle.std.proofs.lemmas.Option.{none-some as none_is_not_some, same_Some as some_injective}
 
+-- slots with their dots
 abbrev pub Entries : Type 0
 Entries = List (Dot × Slot)
 
@@ -30,6 +32,7 @@ abbrev pub IsIn : Dot → Slot → Entries → Type 0
 IsIn d b [] = ⊥
 IsIn d b (f ∷ fs) = ((f.0 ≡ d) × (f.1 ≡ b)) ⊎ IsIn d b fs
 
+-- an entry that is found in a list is in it
 in_found : (fs : Entries) (d : Dot) (b : Slot) → sets.find dot_cmp d fs ≡ Some b → IsIn d b fs
 in_found [] d b h = absurd (none_is_not_some b h)
 in_found (f ∷ fs) d b h = elim (cases_Bool (eq_by_cmp dot_cmp d f.0)) [
@@ -43,6 +46,7 @@ in_found (f ∷ fs) d b h = elim (cases_Bool (eq_by_cmp dot_cmp d f.0)) [
       (sym (cond-false (eq_by_cmp dot_cmp d f.0) (Some f.1) (sets.find dot_cmp d fs) more) ∙ h))
 ]
 
+-- an entry of a list that passes a test is kept by a filter with that test
 in_kept : (p : Dot × Slot → Bool) (fs : Entries) (d : Dot) (b : Slot) → IsIn d b fs
     → p (d, b) ≡ true → IsIn d b (filter p fs)
 in_kept p [] d b h passes = h
@@ -69,6 +73,7 @@ in_all R (f ∷ fs) d b (inr more) a = in_all R fs d b more a.1
 
 -- ---- a part of a list that rises, rises
 
+-- a dot below all entries of a list is below those that a filter keeps
 below_kept : (p : Dot × Slot → Bool) (x : Dot) (fs : Entries) → T (below_all dot_cmp x fs)
     → T (below_all dot_cmp x (filter p fs))
 below_kept p x [] low = tt
@@ -80,6 +85,7 @@ below_kept p x (f ∷ fs) low =
       | false ↦ below_kept p x fs l.1
     ]
 
+-- a filter keeps a list sorted
 sorted_kept : (p : Dot × Slot → Bool) (fs : Entries) → T (sets.is_sorted dot_cmp fs)
     → T (sets.is_sorted dot_cmp (filter p fs))
 sorted_kept p [] s = tt
@@ -93,6 +99,7 @@ sorted_kept p (f ∷ fs) s =
       | false ↦ sorted_kept p fs l.1
     ]
 
+-- a dot below all entries of a list is below each entry in it
 below_in : (x d : Dot) (b : Slot) (fs : Entries) → T (below_all dot_cmp x fs) → IsIn d b fs
     → is_lt (dot_cmp x d) ≡ true
 below_in x d b [] low h = absurd h
@@ -106,6 +113,7 @@ below_in x d b (f ∷ fs) low (inr more) = below_in x d b fs (both _ _ low).1 mo
 
 -- ---- an entry of a list that rises is among the first ones, or above the last of these
 
+-- the last dot of a list is that of its rest, if the rest isn't empty
 last_after : (f g : Dot × Slot) (fs : Entries) → last_dot (f ∷ g ∷ fs) ≡ last_dot (g ∷ fs)
 last_after f g fs = ap (slice_get (f.0 ∷ g.0 ∷ map dot_of fs)) (step (length fs))
   where
@@ -162,6 +170,7 @@ pub above_any : (after : Option Dot) (d : Dot) (b c : Slot) → is_above after (
 above_any None d b c h = refl
 above_any (Some e) d b c h = h
 
+-- a receiver of all pages past a cursor knows each slot there that the vector doesn't cover
 taken : (limit : ℕ) (v : Vector) (R : Slots) → 0 < limit
     → (later : List Slots) (after : Option Dot) (S : Slots) → TookPages limit v R after S later
     → (d : Dot) (b : Slot) → sets.get S d ≡ Some b → is_beyond v (d, b) ≡ true

@@ -23,24 +23,27 @@ use Rattle.tk_store.specs.Slots.{Slots, Held, Skipped, held_slot, held_in}
 use Rattle.tk_store.specs.Table.{Boxed, KeptMap, Shows, slot_of, slots_of, AreHome, PassesOn}
 use Rattle.tk_store.specs.Walk.{is_above, above}
 use Rattle.tk_store.proofs.EntryLaws.{AllIn-entries}
-use Rattle.tk_store.proofs.FactSetLaws.{tied}
+use Rattle.tk_handle.proofs.TestLaws.{tied}
 use Rattle.tk_store.proofs.WalkLaws.{at_end}
 use Rattle.tk_store.proofs.SlotLaws.{get_held}
 use Rattle.tk_store.proofs.TableLaws.{at}
 use Rattle.tk_store.proofs.TableWalkLaws.{first_in, none_in, up_of, up_is}
 use Rattle.std.proofs.lemmas.Option.{none-some as none_is_not_some, same_Some as some_injective}
 
+-- a count without an entry that another counts is lower, if no higher on the rest
 drops_one : (a b : Bool) (x y n m : ℕ) → a ≡ false → b ≡ true → n ≤ m → x ≡ (if a then n + 1 else n)
     → y ≡ (if b then m + 1 else m) → x < y
 drops_one true b x y n m e f le g h = absurd (false≢true (sym e))
 drops_one false true x y n m e f le g h = omega (arith, le, g, h)
 drops_one false false x y n m e f le g h = absurd (false≢true f)
 
+-- the length of a list behind an entry that a test keeps or drops
 length_step : {X : Type 0} (t : Bool) (e : X) (xs : List X)
     → length (cond t (e ∷ xs) xs) ≡ (if t then length xs + 1 else length xs)
 length_step true e xs = omega arith
 length_step false e xs = refl
 
+-- a count is no higher than one that counts each of its entries, with one entry more
 keeps_less : (a b : Bool) (x y n m : ℕ) → (a ≡ true → b ≡ true) → n ≤ m
     → x ≡ (if a then n + 1 else n) → y ≡ (if b then m + 1 else m) → x ≤ y
 keeps_less true b x y n m more le g h = (let f = more refl in
@@ -49,6 +52,7 @@ keeps_less true b x y n m more le g h = (let f = more refl in
 keeps_less false true x y n m more le g h = omega (arith, le, g, h)
 keeps_less false false x y n m more le g h = omega (arith, le, g, h)
 
+-- a lower count stays lower with an entry more that the higher counts if the lower does
 keeps_lower : (a b : Bool) (x y n m : ℕ) → (a ≡ true → b ≡ true) → n < m
     → x ≡ (if a then n + 1 else n) → y ≡ (if b then m + 1 else m) → x < y
 keeps_lower true b x y n m more le g h = (let f = more refl in
@@ -58,6 +62,7 @@ keeps_lower false true x y n m more le g h = omega (arith, le, g, h)
 keeps_lower false false x y n m more le g h = omega (arith, le, g, h)
 
 module _ {X : Type 0} (p q : Dot × X → Bool) (more : (e : Dot × X) → p e ≡ true → q e ≡ true) where
+  -- a test keeps at most as many entries as one that passes whenever the first does
   filter_most : (es : List (Dot × X)) → length (filter p es) ≤ length (filter q es)
   filter_most [] = omega arith
   filter_most (e ∷ es) = keeps_less (p e) (q e) _ _ (length (filter p es)) (length (filter q es))
@@ -88,6 +93,7 @@ filter_same F p q (e ∷ es) all same =
     ap (λ (t : Bool). cond t (e ∷ filter p es) (filter p es)) (same e.0 e.1 all.0)
     ∙ ap (λ (l : List (Dot × _)). cond (q e) (e ∷ l) l) (filter_same F p q es all.1 same)
 
+-- a dot above one that is past a cursor is past the cursor
 above_trans : (a : Option Dot) (d : Dot) → IsAbove a d → (e : Dot) → is_lt (dot_cmp d e) ≡ true
     → IsAbove a e
 above_trans None d up e h = tt
@@ -97,6 +103,7 @@ above_trans (Some c) d up e h = both_lt c d e up h
         → is_lt (dot_cmp c e) ≡ true
     both_lt c d e h i = grind (arith, nat_tests)
 
+-- no dot is below itself
 not_itself : (d : Dot) → is_lt (dot_cmp d d) ≡ false
 not_itself d = ap is_lt (tied_itself dot_cmp_total d)
 
@@ -122,6 +129,7 @@ module _ (m : KeptMap) (F : Slots) (seen : slots_of m ≡ F) (after : Option Dot
       (let x = fact_kept q c (sets.get-entries (held_in F) q ∙ h) in
       next q x.0 (up_of after q c up) x.1)))
 
+  -- fewer facts are above a known dot than above a cursor below the dot
   fewer : (d : Dot) (k : Option Boxed) → sets.get m d ≡ Some k → IsAbove after d
       → length (above F (Some d)) < length (above F after)
   fewer d k here up = filter_less (is_above (Some d)) (is_above after)

@@ -1,11 +1,9 @@
 -- What a search for facts that a vector does not cover may pass over. Key results:
 --   seeks_one, seeks_past, seeks_none   one step of the search
---   enough, all_of_them                 when the search may stop
-use Rattle.std.proofs.Common.{◌≡◌, ℕ, zero, suc, ◌<◌, ◌≤◌, Bool, true, false, ◌&&◌, not, cond}
-use Rattle.std.proofs.Common.{nat_le, List, [], ◌∷◌, ◌++◌, map, filter, take, length, slice_get}
+--   Found                               what is found and what is still to be found are all
+use Rattle.std.proofs.Common.{◌≡◌, ℕ, ◌<◌, ◌≤◌, Bool, true, false, ◌&&◌, not, cond}
+use Rattle.std.proofs.Common.{nat_le, List, [], ◌∷◌, ◌++◌, map, filter, length, slice_get}
 use Rattle.std.proofs.Common.{Option, Some, None, refl, sym, ap, subst, ◌∙◌, arith}
-use Rattle.std.proofs.Math.Seq.{take-append_seam}
-use Rattle.std.proofs.lemmas.List.{append_assoc, length-append}
 use Rattle.std.proofs.lemmas.Bool.{true≢false}
 use Rattle.std.proofs.lemmas.Bool.Decides.{nat_tests}
 use Rattle.std.specs.Ordering.{is_lt}
@@ -17,7 +15,7 @@ use Rattle.tk_store.specs.FactSet.{dot_of}
 use Rattle.tk_store.specs.Slots.{Slot, Slots}
 use Rattle.tk_store.specs.Beyond.{is_beyond, beyond}
 use Rattle.tk_store.specs.Walk.{is_above, above}
-use Rattle.tk_store.specs.Seeking.{SeeksAt, GoesOn, noted}
+use Rattle.tk_store.specs.Seeking.{SeeksAt, GoesOn}
 use Rattle.tk_store.proofs.WalkLaws.{goes_on, at_end}
 
 -- two tests that agree on the elements that a third test keeps, keep the same of them
@@ -67,26 +65,32 @@ covered_between : (d j x : Dot) (n : ℕ) → j.region ≡ d.region → d.serial
     ≡ (is_lt (dot_cmp j x) && not (nat_le x.serial n))
 covered_between d j x n same le here = grind (arith, nat_tests)
 
+-- a dot above one of a region is above each dot of that region with no greater serial
 above_later : (d j x : Dot) → j.region ≡ d.region → d.serial ≤ j.serial → is_lt (dot_cmp j x) ≡ true
     → is_lt (dot_cmp d x) ≡ true
 above_later d j x same le h = grind (arith, nat_tests)
 
+-- a vector doesn't cover a dot with a serial above its entry for the region
 beyond_serial : (v : Vector) (f : Dot × Slot) → entry v f.0.region < f.0.serial
     → is_beyond v f ≡ true
 beyond_serial v f h = grind (arith, nat_tests)
 
+-- a vector covers a dot with a serial up to its entry for the region
 covered_serial : (v : Vector) (f : Dot × Slot) → f.0.serial ≤ entry v f.0.region
     → is_beyond v f ≡ false
 covered_serial v f h = grind (arith, nat_tests)
 
 module _ (F : Slots) (v : Vector) (after : Option Dot) (f : Dot × Slot)
     (first : slice_get (above F after) 0 ≡ Some f) where
+  -- what is above the cursor is the first fact there and what is above that fact
   went_on : above F after ≡ f ∷ above F (Some f.0)
   went_on = goes_on F after f first
 
+  -- fewer facts are above the first fact than above the cursor
   fewer : length (above F (Some f.0)) < length (above F after)
   fewer = let more = ap length went_on in omega arith
 
+  -- a first fact that the vector doesn't cover is the next of the search
   seeks_one : entry v f.0.region < f.0.serial
       → map dot_of (beyond F v after) ≡ f.0 ∷ map dot_of (beyond F v (Some f.0))
   seeks_one free =
@@ -95,6 +99,7 @@ module _ (F : Slots) (v : Vector) (after : Option Dot) (f : Dot × Slot)
       (beyond_serial v f free)
 
   module _ (j : Dot) (same : j.region ≡ f.0.region) (le : f.0.serial ≤ j.serial) where
+    -- fewer facts are above a dot at or after the first fact than above the cursor
     fewer_past : length (above F (Some j)) < length (above F after)
     fewer_past =
         let less : length (above F (Some j)) ≤ length (above F (Some f.0)) =
@@ -103,6 +108,7 @@ module _ (F : Slots) (v : Vector) (after : Option Dot) (f : Dot × Slot)
         let more = fewer in
         omega arith
 
+    -- facts up to the vector's entry of their region may be passed over
     seeks_past : j.serial ≡ entry v f.0.region
         → map dot_of (beyond F v after) ≡ map dot_of (beyond F v (Some j))
     seeks_past is =
@@ -140,54 +146,3 @@ pub record Found (F : Slots) (v : Vector) (limit : ℕ) (found : List Dot) (plac
     (all : List Dot) : Type 0 where
   pub whole : found ++ map dot_of (beyond F v place) ≡ all
   pub low : length found ≤ limit
-
--- at first nothing is found, and all is left
-pub found_none : (F : Slots) (v : Vector) (limit : ℕ) (found : List Dot) (place : Option Dot)
-    → found ≡ [] → Found F v limit found place (map dot_of (beyond F v place))
-found_none F v limit found place none = record {
-  whole = ap (λ l. l ++ map dot_of (beyond F v place)) none;
-  low = omega (arith, ap length none);
-}
-
--- one more dot was looked at, and noted if it counts
-pub found_more : (F : Slots) (v : Vector) (limit : ℕ) (found more : List Dot) (place : Option Dot)
-    (all : List Dot) (at : Dot) (is : Bool)
-    → Found F v limit found place all → length found < limit
-    → SeeksAt F v place at is → more ≡ noted found at is → Found F v limit more (Some at) all
-found_more F v limit found more place all at true f low seeks is = record {
-  whole = ap (λ l. l ++ map dot_of (beyond F v (Some at))) is
-      ∙ append_assoc found (at ∷ []) (map dot_of (beyond F v (Some at)))
-      ∙ ap (λ l. found ++ l) (sym seeks) ∙ f.whole;
-  low = omega (arith, ap length is, length-append found (at ∷ []));
-}
-found_more F v limit found more place all at false f low seeks is = record {
-  whole = ap (λ l. l ++ map dot_of (beyond F v (Some at))) is ∙ ap (λ l. found ++ l) (sym seeks)
-      ∙ f.whole;
-  low = omega (arith, ap length is);
-}
-
--- ---- the end of the search
-
--- a list that was found up to the limit is the first of all
-pub enough : {X : Type 0} (found rest all : List X) (limit : ℕ) → found ++ rest ≡ all
-    → length found ≤ limit → limit ≤ length found → found ≡ take limit all
-enough found rest all limit is low high =
-    let same : length found ≡ limit = omega arith in
-    sym (take-append_seam found rest) ∙ ap (λ n. take n (found ++ rest)) same ∙ ap (take limit) is
-
-take_past : {X : Type 0} (xs : List X) (n : ℕ) → length xs ≤ n → take n xs ≡ xs
-take_past [] zero h = refl
-take_past [] (suc n) h = refl
-take_past (x ∷ xs) zero h = absurd (omega arith)
-take_past (x ∷ xs) (suc n) h = ap (λ l. x ∷ l) (take_past xs n (omega arith))
-
-append_none : {X : Type 0} (xs : List X) → xs ++ [] ≡ xs
-append_none [] = refl
-append_none (x ∷ xs) = ap (λ l. x ∷ l) (append_none xs)
-
--- a list that was found to its end is the first of all
-pub all_of_them : {X : Type 0} (found rest all : List X) (limit : ℕ) → found ++ rest ≡ all
-    → rest ≡ [] → length found ≤ limit → found ≡ take limit all
-all_of_them found rest all limit is none low =
-    sym (take_past found limit low)
-    ∙ ap (take limit) (sym (append_none found) ∙ ap (λ l. found ++ l) (sym none) ∙ is)

@@ -1,7 +1,7 @@
 -- Joining slots by their entries, one after another. Key results, each a step of a loop:
---   compared_start, compared_more, compared_all, compared_not   whether the slots agree
+--   compared_start, compared_all                                   whether the slots agree
 --   joins_start, joins_fits, joins_passes, joins_next, joins_end   joining each slot
---   sought_start, sought_more, sought_all, sought_not           whether each slot is known
+--   sought_start, sought_all                                       whether each slot is known
 use Rattle.std.proofs.Common.{◌≡◌, inl, inr, List, [], ◌∷◌, Option, Some, None, refl, sym, ap}
 use Rattle.std.proofs.Common.{subst, ◌∙◌}
 use Rattle.std.proofs.lemmas.Bool.{cases_Bool, cond-true, cond-false}
@@ -17,7 +17,7 @@ use Rattle.tk_store.specs.Slots.{with_slots}
 use Rattle.tk_store.specs.SlotOrder.{SlotBelow, SlotsBelow, SlotAgrees, SlotsAgree}
 use Rattle.tk_store.specs.SlotJoining.{Passes, AllFit, AllBelow, Compared, Joins, Sought}
 use Rattle.tk_store.proofs.EntryLaws.{AllIn-entries}
-use Rattle.tk_store.proofs.FactSetLaws.{tied}
+use Rattle.tk_handle.proofs.TestLaws.{tied}
 use Rattle.tk_store.proofs.PutLaws.{by_dot, get_here}
 use Rattle.tk_store.proofs.SlotLaws.{get_held}
 use Rattle.tk_store.proofs.SlotOrderLaws.{below_itself, below_trans, slots_itself, slots_trans}
@@ -45,16 +45,19 @@ found P (e ∷ es) q s a h = elim (cases_Bool (eq_by_cmp dot_cmp q e.0)) [
     moved : q ≡ e.0 → e.1 ≡ s → P e.0 e.1 → P q s
     moved i j k = rw (i, ← j) k
 
+-- slots of a list that fit agree one by one with what is known of their dots
 fit_of : (S : Slots) (es : List (Dot × Slot)) → AllFit S es
     → All-of (λ d s. SlotAgrees (map.get S d) (Some s)) es
 fit_of S [] a = tt
 fit_of S (e ∷ es) a = (a.0, fit_of S es a.1)
 
+-- slots of a list that are below are so one by one
 below_of : (S : Slots) (es : List (Dot × Slot)) → AllBelow S es
     → All-of (λ d s. SlotBelow (Some s) (map.get S d)) es
 below_of S [] a = tt
 below_of S (e ∷ es) a = (a.0, below_of S es a.1)
 
+-- what is known of a dot agrees with nothing known
 agrees_none : (a : Option Slot) → SlotAgrees a None
 agrees_none None = tt
 agrees_none (Some s) = tt
@@ -67,15 +70,6 @@ pub compared_start : (S T : Slots) (rest : List (Dot × Slot)) → rest ≡ map.
 compared_start S T rest e =
     record { left = subst (AllIn T) (sym e) (AllIn-entries T); fit = λ a. subst (AllFit S) e a }
 
--- one more slot agrees and is compared
-pub compared_more : (S T : Slots) (rest : List (Dot × Slot)) (f : Dot × Slot)
-    (more : List (Dot × Slot))
-    → rest ≡ f ∷ more → Compared S T rest → SlotAgrees (map.get S f.0) (Some f.1)
-    → Compared S T more
-compared_more S T rest f more e c h =
-    let left : AllIn T (f ∷ more) = subst (AllIn T) e c.left in
-    record { left = left.1; fit = λ a. c.fit (subst (AllFit S) (sym e) (h, a)) }
-
 -- slots of which all were compared agree
 pub compared_all : (S T : Slots) (rest : List (Dot × Slot)) → rest ≡ [] → Compared S T rest
     → SlotsAgree S T
@@ -86,13 +80,6 @@ compared_all S T rest e c d = by_slot (map.get T d) refl
     by_slot (Some s) at = found (λ d s. SlotAgrees (map.get S d) (Some s)) (map.entries T) d s
         (fit_of S (map.entries T) (c.fit (subst (AllFit S) (sym e) tt)))
         (sym (map.get-entries T d) ∙ at)
-
--- a slot of slots that agree agrees
-pub compared_not : (S T : Slots) (rest : List (Dot × Slot)) (f : Dot × Slot)
-    (more : List (Dot × Slot))
-    → rest ≡ f ∷ more → Compared S T rest → SlotsAgree S T → SlotAgrees (map.get S f.0) (Some f.1)
-compared_not S T rest f more e c agree = (let left : AllIn T (f ∷ more) =
-    subst (AllIn T) e c.left in subst (SlotAgrees (map.get S f.0)) left.0 (agree f.0))
 
 -- ---- joining entries
 
@@ -114,6 +101,7 @@ pub joins_fits : (S T N : Slots) (rest : List (Dot × Slot)) (f : Dot × Slot)
 joins_fits S T N rest f more e j = (let left : AllIn T (f ∷ more) = subst (AllIn T) e j.left in
     subst (SlotAgrees (map.get N f.0)) left.0 (j.agree f.0))
 
+-- a slot passes if the fact that it holds, if any, has no refusal
 passes_of : (s : Slot) → ((b : Body) → held_slot (Some s) ≡ Some b → refusal_of b ≡ None) → Passes s
 passes_of (Held b) h = h b refl
 passes_of Skipped h = tt
@@ -129,9 +117,11 @@ joins_passes S T N rest f more e j sound =
 module _ (S T N M : Slots) (agree : SlotsAgree S T) (rest : List (Dot × Slot)) (f : Dot × Slot)
     (more : List (Dot × Slot)) (e : rest ≡ f ∷ more) (j : Joins S T N rest)
     (is : M ≡ map.insert N f.0 (joined_slot (map.get N f.0) f.1)) where
+  -- the next slot and those behind it are slots of T
   left : AllIn T (f ∷ more)
   left = subst (AllIn T) e j.left
 
+  -- the next slot agrees with what was joined so far
   fits : SlotAgrees (map.get N f.0) (Some f.1)
   fits = joins_fits S T N rest f more e j
 
@@ -143,6 +133,7 @@ module _ (S T N M : Slots) (agree : SlotsAgree S T) (rest : List (Dot × Slot)) 
       (λ same. subst (λ (d : Dot). P d (Some (joined_slot (map.get N f.0) f.1))) (sym same) here)
       (there q))
 
+  -- what was joined so far is below that with the next slot joined
   grows : SlotsBelow N M
   grows = at (λ q o. SlotBelow (map.get N q) o) (join_left (map.get N f.0) f.1 fits)
       (λ q. below_itself (map.get N q))
@@ -190,14 +181,6 @@ pub sought_start : (S T : Slots) (rest : List (Dot × Slot)) → rest ≡ map.en
 sought_start S T rest e =
     record { left = subst (AllIn T) (sym e) (AllIn-entries T); all = λ a. subst (AllBelow S) e a }
 
--- one more slot was found
-pub sought_more : (S T : Slots) (rest : List (Dot × Slot)) (f : Dot × Slot)
-    (more : List (Dot × Slot))
-    → rest ≡ f ∷ more → Sought S T rest → SlotBelow (Some f.1) (map.get S f.0) → Sought S T more
-sought_more S T rest f more e c h =
-    let left : AllIn T (f ∷ more) = subst (AllIn T) e c.left in
-    record { left = left.1; all = λ a. c.all (subst (AllBelow S) (sym e) (h, a)) }
-
 -- slots of which all were found are below the others
 pub sought_all : (S T : Slots) (rest : List (Dot × Slot)) → rest ≡ [] → Sought S T rest
     → SlotsBelow T S
@@ -208,10 +191,3 @@ sought_all S T rest e c d = by_slot (map.get T d) refl
     by_slot (Some s) at = found (λ d s. SlotBelow (Some s) (map.get S d)) (map.entries T) d s
         (below_of S (map.entries T) (c.all (subst (AllBelow S) (sym e) tt)))
         (sym (map.get-entries T d) ∙ at)
-
--- a slot of slots below others is below the other's
-pub sought_not : (S T : Slots) (rest : List (Dot × Slot)) (f : Dot × Slot)
-    (more : List (Dot × Slot))
-    → rest ≡ f ∷ more → Sought S T rest → SlotsBelow T S → SlotBelow (Some f.1) (map.get S f.0)
-sought_not S T rest f more e c within = (let left : AllIn T (f ∷ more) = subst (AllIn T) e c.left in
-    subst (λ (o : Option Slot). SlotBelow o (map.get S f.0)) left.0 (within f.0))

@@ -1,10 +1,9 @@
 -- The facts that slots hold. Key results:
 --   get_held                          what is held at a dot
 --   held_put, held_skip, held_taken   what is held after a slot was put or taken
---   held_most                         no more facts are held than slots are known
---   held_none                         no slots
-use Rattle.std.proofs.Common.{◌≡◌, ◌+◌, ◌-◌, ◌≤◌, Bool, true, false, cond, T, List, [], ◌∷◌, length}
-use Rattle.std.proofs.Common.{Option, Some, None, is_some, refl, sym, ap, subst, ◌∙◌, arith}
+--   held_none, empty_held             no slots, and an empty store
+use Rattle.std.proofs.Common.{◌≡◌, ◌+◌, ◌-◌, Bool, true, false, cond, T, List, [], ◌∷◌}
+use Rattle.std.proofs.Common.{Option, Some, None, is_some, refl, sym, ap, subst, ◌∙◌}
 use Rattle.std.proofs.lemmas.Bool.{true≢false}
 use Rattle.std.proofs.lemmas.Cmp.{tied_itself}
 use Rattle.std.specs.Ordering.{eq_by_cmp, is_eq, is_lt}
@@ -14,13 +13,15 @@ use Rattle.tk_handle.specs.declared.dot.Dot.{Dot}
 use Rattle.tk_handle.specs.Dot.{dot_cmp, dot_cmp_total, dot_cmp-IsAntisymmetric}
 use Rattle.tk_fact.specs.declared.body.Body.{Body}
 use Rattle.tk_store.specs.Slots.{Slot, Slots, Held, Skipped, held_slot, is_skipped_slot, is_skipped}
-use Rattle.tk_store.specs.Slots.{held_entries, held_in, without_fact}
-use Rattle.tk_store.proofs.FactSetLaws.{tied}
+use Rattle.tk_store.specs.Slots.{held_entries, held_in}
+use Rattle.tk_store.specs.StoreFields.{StoreFields, empty_store, held_facts}
+use Rattle.tk_handle.proofs.TestLaws.{tied}
 use Rattle.tk_handle.proofs.TestLaws.{and, both, not_tied as not_equal}
 use Rattle.std.proofs.lemmas.Option.{none-some as none_is_not_some}
 
 -- ---- the list of what is held
 
+-- a dot below all slots of a list is below the facts that they hold
 below_held : (d : Dot) (es : List (Dot × Slot)) → T (below_all dot_cmp d es)
     → T (below_all dot_cmp d (held_entries es))
 below_held d [] low = tt
@@ -79,28 +80,15 @@ get_held S q =
     map.get-entries (held_in S) q ∙ ap (map.find dot_cmp q) (entries_held S)
     ∙ find_held q (map.entries S) (map.entries_sorted S) ∙ ap held_slot (sym (map.get-entries S q))
 
-length_held : (es : List (Dot × Slot)) → length (held_entries es) ≤ length es
-length_held [] = omega arith
-length_held ((e, Held b) ∷ es) = let l = length_held es in omega (arith, l)
-length_held ((e, Skipped) ∷ es) = let l = length_held es in omega (arith, l)
-
--- no more facts are held than there are slots
-pub held_most : (S : Slots) → map.len (held_in S) ≤ map.len S
-held_most S =
-    let l : length (held_entries (map.entries S)) ≤ length (map.entries S) =
-    length_held (map.entries S) in
-    let a : map.len (held_in S) ≡ length (held_entries (map.entries S)) =
-    map.len-entries (held_in S) ∙ ap length (entries_held S) in
-    let b = map.len-entries S in
-    omega (arith, l, a, b)
-
 -- ---- slots put and taken
 
+-- one of two slots, chosen by a test, holds the body that the test chooses of theirs
 slot_if : (t : Bool) (s : Slot) (o : Option Slot)
     → held_slot (cond t (Some s) o) ≡ cond t (held_slot (Some s)) (held_slot o)
 slot_if true s o = refl
 slot_if false s o = refl
 
+-- a slot that a test leaves out holds no body by that test
 none_if : (t : Bool) (o : Option Slot) → held_slot (cond t None o) ≡ cond t None (held_slot o)
 none_if true o = refl
 none_if false o = refl
@@ -173,16 +161,9 @@ held_none S none = map.same_map dot_cmp_total dot_cmp-IsAntisymmetric _ _ (λ q.
     get_held S q ∙ ap held_slot (ap (λ (R : Slots). map.get R q) none ∙ map.get-empty dot_cmp q)
     ∙ sym (map.get-empty dot_cmp q))
 
--- the fact at a dot is taken out
-pub held_without : (S : Slots) (d : Dot)
-    → held_in (without_fact S d (map.get S d)) ≡ map.remove (held_in S) d
-held_without S d = by_slot (map.get S d) refl
-  where
-    by_slot : (o : Option Slot) → map.get S d ≡ o
-        → held_in (without_fact S d o) ≡ map.remove (held_in S) d
-    by_slot None at = held_taken S d
-    by_slot (Some (Held b)) at = held_taken S d
-    by_slot (Some Skipped) at = sym (remove_free (held_in S) d (get_held S d ∙ ap held_slot at))
+-- an empty store holds no facts
+pub empty_held : (P : StoreFields) → P ≡ empty_store → held_facts P ≡ map.empty
+empty_held P is = held_none P.slots (ap (λ (Q : StoreFields). Q.slots) is)
 
 -- ---- marks
 
@@ -192,35 +173,13 @@ marked_is None h = absurd (true≢false (sym h))
 marked_is (Some (Held b)) h = absurd (true≢false (sym h))
 marked_is (Some Skipped) h = refl
 
--- a slot that is no mark is taken out whole
-pub without_unmarked : (S : Slots) (d : Dot) (o : Option Slot) → is_skipped_slot o ≡ false
-    → without_fact S d o ≡ map.remove S d
-without_unmarked S d None h = refl
-without_unmarked S d (Some (Held b)) h = refl
-without_unmarked S d (Some Skipped) h = absurd (true≢false h)
-
 -- ---- slots none of which is a mark
 
-whole_slot : (o : Option Slot) (b : Body) → is_skipped_slot o ≡ false → held_slot o ≡ Some b
-    → o ≡ Some (Held b)
-whole_slot None b h k = absurd (none_is_not_some b k)
-whole_slot (Some (Held c)) b h k =
-    ap (λ (x : Option Body). cond (is_some x) (whole x) (Some Skipped)) k
-  where
-    whole : Option Body → Option Slot
-    whole None = None
-    whole (Some x) = Some (Held x)
-whole_slot (Some Skipped) b h k = absurd (true≢false h)
-
+-- a dot that isn't skipped and holds no body has no slot
 whole_none : (o : Option Slot) → is_skipped_slot o ≡ false → held_slot o ≡ None → o ≡ None
 whole_none None h k = refl
 whole_none (Some (Held c)) h k = absurd (none_is_not_some c (sym k))
 whole_none (Some Skipped) h k = absurd (true≢false h)
-
--- the slot at a dot, among slots without marks
-pub whole_held : (S : Slots) (d : Dot) (b : Body) → is_skipped S d ≡ false
-    → map.get (held_in S) d ≡ Some b → map.get S d ≡ Some (Held b)
-whole_held S d b whole at = whole_slot (map.get S d) b whole (sym (get_held S d) ∙ at)
 
 -- a dot that is no mark and holds no fact is free
 pub whole_free : (S : Slots) (d : Dot) → is_skipped S d ≡ false → map.get (held_in S) d ≡ None

@@ -26,7 +26,7 @@ use Rattle.tk_store.specs.declared.store.AddError.TheVariants.{Conflict, Memory}
 use Rattle.tk_store.specs.SlotOrder.{SlotBelow, SlotsBelow, StoreBelow, SlotAgrees, SlotsAgree}
 use Rattle.tk_store.specs.SlotOrder.{StoresAgree, joined_store}
 use Rattle.tk_store.specs.WholeStores.{WholeAgree}
-use Rattle.tk_store.proofs.FactSetLaws.{tied}
+use Rattle.tk_handle.proofs.TestLaws.{tied}
 use Rattle.tk_store.proofs.PutLaws.{insert_held}
 use Rattle.tk_store.proofs.SlotLaws.{absent_below}
 use Rattle.tk_handle.proofs.TestLaws.{both}
@@ -52,6 +52,7 @@ below_trans (Some (Held u)) (Some Skipped) (Some Skipped) x y = x
 below_trans (Some Skipped) (Some (Held v)) c x y = absurd x
 below_trans (Some Skipped) (Some Skipped) c x y = y
 
+-- slots that are below each other are equal
 below_antisym : (a b : Option Slot) → SlotBelow a b → SlotBelow b a → a ≡ b
 below_antisym None None x y = refl
 below_antisym None (Some s) x y = absurd y
@@ -118,6 +119,7 @@ abbrev pub slot_join : Option Slot → Option Slot → Option Slot
 slot_join a None = a
 slot_join a (Some s) = Some (joined_slot a s)
 
+-- a look-up in slots joined with a sorted list joins a look-up in each
 get_with : (S : Slots) (es : List (Dot × Slot)) → T (map.is_sorted dot_cmp es) → (q : Dot)
     → map.get (with_slots S es) q ≡ slot_join (map.get S q) (map.find dot_cmp q es)
 get_with S [] sorted q = refl
@@ -149,14 +151,17 @@ pub get_joined : (S T : Slots) (q : Dot)
 get_joined S T q = get_with S (map.entries T) (map.entries_sorted T) q
     ∙ ap (slot_join (map.get S q)) (sym (map.get-entries T q))
 
+-- the first of two slots that agree is below their join
 left_of : (a b : Option Slot) → SlotAgrees a b → SlotBelow a (slot_join a b)
 left_of a None g = below_itself a
 left_of a (Some s) g = join_left a s g
 
+-- the second of two slots that agree is below their join
 right_of : (a b : Option Slot) → SlotAgrees a b → SlotBelow b (slot_join a b)
 right_of a None g = tt
 right_of a (Some s) g = join_right a s g
 
+-- the join of two slots is below each slot above both
 least_of : (a b c : Option Slot) → SlotBelow a c → SlotBelow b c → SlotBelow (slot_join a b) c
 least_of a None c x y = x
 least_of a (Some s) c x y = join_least a s c x y
@@ -179,15 +184,18 @@ joined_least S T R a b d = subst (λ (o : Option Slot). SlotBelow o (map.get R d
 
 -- ---- stores
 
+-- a store is below itself
 store_itself : (P : StoreFields) → StoreBelow P P
 store_itself P = record { slots = slots_itself P.slots; horizon = omega arith }
 
+-- a store below one that is below a third is below the third
 store_trans : (P Q R : StoreFields) → StoreBelow P Q → StoreBelow Q R → StoreBelow P R
 store_trans P Q R a b = record {
   slots = slots_trans P.slots Q.slots R.slots a.slots b.slots;
   horizon = omega (arith, a.horizon, b.horizon);
 }
 
+-- stores that are below each other are equal
 store_antisym : (P Q : StoreFields) → StoreBelow P Q → StoreBelow Q P → P ≡ Q
 store_antisym P Q a b =
     let slots : P.slots ≡ Q.slots = slots_antisym P.slots Q.slots a.slots b.slots in
@@ -224,6 +232,7 @@ is_join P Q N agree slots horizon =
     λ i. record { slots = sym slots i; horizon = sym horizon i } in
     subst (IsJoin StoreBelow P Q) same (join_of P Q agree)
 
+-- two slots below one that isn't skipped agree
 whole_slots : (a b c : Option Slot) → is_skipped_slot c ≡ false → SlotBelow a c → SlotBelow b c
     → SlotAgrees a b
 whole_slots None b c whole x y = tt
@@ -272,6 +281,7 @@ added_horizon P Q f (Ok added.Held) adds = ap (λ (X : StoreFields). X.horizon) 
 added_horizon P Q f (Err Conflict) adds = ap (λ (X : StoreFields). X.horizon) adds.1
 added_horizon P Q f (Err Memory) adds = ap (λ (X : StoreFields). X.horizon) adds.1
 
+-- a mark joined to any slot leaves a mark
 skipped_slot : (o : Option Slot) → joined_slot o Skipped ≡ Skipped
 skipped_slot None = refl
 skipped_slot (Some (Held b)) = refl

@@ -2,15 +2,13 @@
 --   subset_with_facts, keeps_with_facts   adding facts of U to a set within U stays within U, and
 --                                         removes nothing
 --   AllIn-take, AllIn-filter, AllIn-subset, AllIn-at   parts of a list that is in a set
---   IsFactSet-subset                      a set within a set of facts that pass their checks is one
---                                         too
 use Rattle.std.proofs.Common.{◌≡◌, ℕ, zero, suc, ◌<◌, Bool, true, false, cond, List, [], ◌∷◌}
 use Rattle.std.proofs.Common.{length, get_or, filter, take, Some, sym, ap, ◌∙◌, arith}
 use Rattle.std.specs.FinMap as map
 use Rattle.tk_handle.specs.declared.dot.Dot.{Dot}
 use Rattle.tk_handle.specs.Dot.{dot_cmp}
 use Rattle.tk_fact.specs.declared.body.Body.{Body}
-use Rattle.tk_store.specs.FactSet.{FactSet, Facts, IsFactSet, AllIn, IsSubset, with_facts}
+use Rattle.tk_store.specs.FactSet.{FactSet, Facts, AllIn, IsSubset, with_facts}
 use Rattle.tk_store.proofs.PutLaws.{by_dot, of_dot}
 
 -- a set is part of itself
@@ -76,7 +74,3 @@ pub AllIn-at : (U : FactSet) (fs : Facts) (i : ℕ) (d : Dot × Body) → AllIn 
 AllIn-at U [] i d a lt = absurd (omega arith)
 AllIn-at U (f ∷ fs) zero d a lt = a.0
 AllIn-at U (f ∷ fs) (suc i) d a lt = AllIn-at U fs i d a.1 (omega arith)
-
--- the facts of a set within a set of facts that pass their checks pass theirs
-pub IsFactSet-subset : (F U : FactSet) → IsSubset F U → IsFactSet U → IsFactSet F
-IsFactSet-subset F U within sound d b h = sound d b (within d b h)

@@ -4,11 +4,10 @@
 --   put_slots, put_home           a slot is put
 --   taken_slots, taken_home       a slot is taken out
 --   table_put, table_marked, table_skipped, table_taken   the table stays one
-use Rattle.std.proofs.Common.{◌≡◌, ℕ, ◌+◌, ◌-◌, ◌<◌, ◌≤◌, Bool, true, false, cond, ◌&&◌, T, List}
-use Rattle.std.proofs.Common.{[], ◌∷◌, map, length, Option, Some, None, IsSome, option_map, refl}
+use Rattle.std.proofs.Common.{◌≡◌, ℕ, ◌+◌, ◌-◌, ◌<◌, Bool, true, false, cond, ◌&&◌, T, List}
+use Rattle.std.proofs.Common.{[], ◌∷◌, map, Option, Some, None, IsSome, option_map, refl}
 use Rattle.std.proofs.Common.{sym, ap, subst, ◌∙◌, inl, inr, arith}
 use Rattle.std.proofs.lemmas.Bool.{false≢true, cases_Bool, cond-true, cond-false}
-use Rattle.std.proofs.lemmas.List.{length-map}
 use Rattle.std.specs.Ordering.{eq_by_cmp, is_lt}
 use Rattle.std.specs.FinMap as sets
 use Rattle.std.specs.FinMap.{find}
@@ -22,28 +21,32 @@ use Rattle.tk_store.specs.declared.slot.SlotRef.TheVariants as ref
 use Rattle.tk_store.specs.SlotShown.{shown_slot, HasDot, IsShown}
 use Rattle.tk_store.specs.Slots.{Slot, Slots, Held, Skipped, held_slot, held_in, without_fact}
 use Rattle.tk_store.specs.Table.{Boxed, KeptMap, Shows, slot_of, slots_of, AreHome, IsTable}
-use Rattle.tk_store.proofs.FactSetLaws.{tied}
+use Rattle.tk_handle.proofs.TestLaws.{tied}
 use Rattle.tk_store.proofs.PutLaws.{len_new}
-use Rattle.tk_store.proofs.SlotLaws.{get_held, held_put, held_skip, held_taken, held_most}
+use Rattle.tk_store.proofs.SlotLaws.{get_held, held_put, held_skip, held_taken}
 use Rattle.tk_store.proofs.SlotLaws.{held_none, remove_free, len_less}
 use Rattle.std.proofs.lemmas.Option.{none-some as none_is_not_some, same_Some as some_injective}
 
 -- ---- the slots of a table
 
+-- an entry of a table as the slot that it is
 abbrev said : Dot × Option Boxed → Dot × Slot
 said e = (e.0, slot_of e.1)
 
+-- a dot is below all entries of a table exactly if it is below their slots
 below_said : (d : Dot) (es : List (Dot × (Option Boxed)))
     → below_all dot_cmp d (map said es) ≡ below_all dot_cmp d es
 below_said d [] = refl
 below_said d (e ∷ es) = ap (λ b. is_lt (dot_cmp d e.0) && b) (below_said d es)
 
+-- the slots of a table's entries are sorted exactly if the entries are
 sorted_said : (es : List (Dot × (Option Boxed)))
     → sets.is_sorted dot_cmp (map said es) ≡ sets.is_sorted dot_cmp es
 sorted_said [] = refl
 sorted_said (e ∷ es) = ap (λ b. b && sets.is_sorted dot_cmp (map said es)) (below_said e.0 es)
     ∙ ap (λ b. below_all dot_cmp e.0 es && b) (sorted_said es)
 
+-- a search in the slots of a table's entries finds the slot of what is found in the entries
 find_said : (q : Dot) (es : List (Dot × (Option Boxed)))
     → find dot_cmp q (map said es) ≡ option_map slot_of (find dot_cmp q es)
 find_said q [] = refl
@@ -55,6 +58,7 @@ find_said q (e ∷ es) =
       | false ↦ find_said q es
     ]
 
+-- the slots of a table have its entries, each as a slot
 entries_said : (m : KeptMap) → sets.entries (slots_of m) ≡ map said (sets.entries m)
 entries_said m = sets.entries-from_sorted dot_cmp _
     (subst T (sym (sorted_said (sets.entries m))) (sets.entries_sorted m))
@@ -72,6 +76,7 @@ slots_none m none = sets.same_map dot_cmp_total dot_cmp-IsAntisymmetric _ _ (λ 
     ∙ ap (option_map slot_of) (ap (λ (x : KeptMap). sets.get x q) none ∙ sets.get-empty dot_cmp q)
     ∙ sym (sets.get-empty dot_cmp q))
 
+-- a value that is there once it is mapped was there
 some_of : {A B : Type 0} (f : A → B) (o : Option A) → IsSome (option_map f o) → IsSome o
 some_of f None h = h
 some_of f (Some a) h = refl
@@ -191,25 +196,6 @@ pub held_known : (o : Option Slot) → IsSome (held_slot o) → IsSome o
 held_known None h = h
 held_known (Some s) h = refl
 
--- a value is written over another
-pub set_over : (m n : KeptMap) (d : Dot) (k : Option Boxed) → IsSome (sets.get m d)
-    → ((q : Dot)
-    → sets.get n q
-    ≡ cond (eq_by_cmp dot_cmp q d) (option_map (λ _. k) (sets.get m q)) (sets.get m q))
-    → (q : Dot) → sets.get n q ≡ cond (eq_by_cmp dot_cmp q d) (Some k) (sets.get m q)
-set_over m n d k there is q =
-    is q ∙ elim (eq_by_cmp dot_cmp q d) as
-    (λ t. eq_by_cmp dot_cmp q d ≡ t
-    → cond t (option_map (λ _. k) (sets.get m q)) (sets.get m q) ≡ cond t (Some k) (sets.get m q)) [
-      | true ↦ λ same. over (sets.get m q)
-          (subst (λ (x : Dot). IsSome (sets.get m x)) (sym (tied q d same)) there)
-      | false ↦ λ _. refl
-    ] refl
-  where
-    over : (o : Option (Option Boxed)) → IsSome o → option_map (λ _. k) o ≡ Some k
-    over None h = absurd (false≢true h)
-    over (Some x) h = refl
-
 -- what a table has after an insert
 pub inserted : (m n : KeptMap) (d : Dot) (k : Option Boxed) → n ≡ sets.insert m d k → (q : Dot)
     → sets.get n q ≡ cond (eq_by_cmp dot_cmp q d) (Some k) (sets.get m q)
@@ -228,17 +214,9 @@ table_none m none = record {
 }
 
 module _ (m : KeptMap) (held : ℕ) (table : IsTable m held) (F : Slots) (seen : slots_of m ≡ F) where
+  -- the table's count is the number of facts held by the slots
   count : held ≡ sets.len (held_in F)
   count = table.counted ∙ ap (λ (s : Slots). sets.len (held_in s)) seen
-
-  -- no more facts are held than slots are kept
-  pub held_within : held ≤ sets.len m
-  held_within =
-      let most = held_most F in
-      let as_many : sets.len F ≡ sets.len m = ap (λ (s : Slots). sets.len s) (sym seen)
-      ∙ sets.len-entries (slots_of m) ∙ ap length (entries_said m)
-      ∙ length-map (sets.entries m) said ∙ sym (sets.len-entries m) in
-      omega (arith, most, as_many, count)
 
   module _ (n : KeptMap) (d : Dot) where
     -- a table with one more fact counts it
@@ -331,6 +309,7 @@ no_value_left m n d None h rest = rest
 no_value_left m n d (Some None) h rest = rest
 no_value_left m n d (Some (Some b)) h rest = absurd (none_is_not_some b (sym h))
 
+-- slots without a dot are the slots with that dot removed
 removed_none : (F : Slots) (d : Dot) → sets.get F d ≡ None → F ≡ sets.remove F d
 removed_none F d none = sets.same_map dot_cmp_total dot_cmp-IsAntisymmetric _ _
     (λ q. at_removed q ∙ sym (sets.get-remove dot_cmp_total F d q))

@@ -21,7 +21,7 @@ use Rattle.tk_store.specs.Slots.{Slot, Slots}
 use Rattle.tk_store.specs.Table.{Boxed, KeptMap, Shows, slot_of, slots_of, AreHome}
 use Rattle.tk_store.specs.Walk.{is_above, above}
 use Rattle.tk_store.proofs.EntryLaws.{AllIn-entries}
-use Rattle.tk_store.proofs.FactSetLaws.{tied}
+use Rattle.tk_handle.proofs.TestLaws.{tied}
 use Rattle.tk_store.proofs.NextDotLaws.{at_most, at_most_last_serial}
 use Rattle.tk_store.proofs.WalkLaws.{goes_on, at_end}
 use Rattle.tk_handle.proofs.TestLaws.{both, is_true}
@@ -120,9 +120,11 @@ up_is None q c h = refl
 up_is (Some d) q c h = h
 
 module _ (m : KeptMap) (F : Slots) (seen : slots_of m ≡ F) (after : Option Dot) where
+  -- a dot with a slot has something in the table
   there : (q : Dot) (c : Slot) → find dot_cmp q (sets.entries F) ≡ Some c → IsSome (sets.get m q)
   there q c h = held_there m F seen q (ap is_some (sets.get-entries F q ∙ h))
 
+  -- the next in the table is the first slot above the cursor
   first : (d : Dot) (k : Option Boxed) → IsNext m after (Some (d, k))
       → slice_get (above F after) 0 ≡ Some (d, slot_of k)
   first d k next =

@@ -1,7 +1,7 @@
 -- A walk by dots: what is above the first fact above a dot is the rest of what is above that dot.
 --   above_next   a walk that goes on from its last fact sees each fact once, and ends
 --   steps_on     one call of the walk
-use Rattle.std.proofs.Common.{◌≡◌, Bool, true, false, cond, T, List, [], ◌∷◌, filter, slice_get}
+use Rattle.std.proofs.Common.{◌≡◌, true, false, cond, T, List, [], ◌∷◌, filter, slice_get}
 use Rattle.std.proofs.Common.{Option, Some, None, refl, sym, ap, subst, ◌∙◌}
 use Rattle.std.specs.Ordering.{is_lt, ordering_reverse}
 use Rattle.std.specs.FinMap as map
@@ -12,11 +12,9 @@ use Rattle.tk_handle.specs.Dot.{dot_cmp, dot_cmp_total}
 use Rattle.tk_fact.specs.declared.body.Body.{Body}
 use Rattle.tk_store.specs.declared.slot.SlotRef.{SlotRef}
 use Rattle.tk_store.specs.declared.slot.SlotRef.TheVariants as ref
-use Rattle.tk_store.specs.Slots.{Slot, Slots, Held, Skipped, held_entries, held_in}
+use Rattle.tk_store.specs.Slots.{Slots, Held, Skipped, held_in}
 use Rattle.tk_store.specs.Table.{IsStep}
 use Rattle.tk_store.specs.Walk.{is_above, above}
-use Rattle.std.proofs.lemmas.Bool.{true≢false}
-use Rattle.tk_store.proofs.SlotLaws.{entries_held}
 use Rattle.tk_handle.proofs.TestLaws.{both, is_true, lesser as less}
 
 module _ {X : Type 0} where
@@ -57,6 +55,7 @@ module _ {X : Type 0} where
       heads : {y z : Dot × X} {ys zs : List (Dot × X)} → y ∷ ys ≡ z ∷ zs → y ≡ z
       heads k = cc
 
+  -- what is above the first entry above a dot is the rest of what is above that dot
   walk : (a : Option Dot) (es : List (Dot × X)) (f : Dot × X) (rest : List (Dot × X))
       → T (map.is_sorted dot_cmp es) → filter (is_above a) es ≡ f ∷ rest
       → filter (is_above (Some f.0)) es ≡ rest
@@ -109,6 +108,7 @@ module _ {X : Type 0} where
       all [] = refl
       all (e ∷ es) = ap (λ l. e ∷ l) (all es)
 
+  -- a list with a first entry is that entry and a rest
   first_is : (es : List (Dot × X)) (f : Dot × X) → slice_get es 0 ≡ Some f
       → (rest : List (Dot × X)) × (es ≡ f ∷ rest)
   first_is [] f h = absurd (nothing h)
@@ -127,6 +127,7 @@ module _ {X : Type 0} where
       let r : (rest : List (Dot × X)) × (above F a ≡ f ∷ rest) = first_is (above F a) f h in
       r.1 ∙ ap (λ l. f ∷ l) (sym (above_next F a f r.0 r.1))
 
+  -- a list without a first entry is empty
   none_left : (es : List (Dot × X)) → slice_get es 0 ≡ None → es ≡ []
   none_left [] h = refl
   none_left (e ∷ es) h = absurd (nothing h)
@@ -154,37 +155,6 @@ module _ {X : Type 0} where
   none_on F a now old h = sym old ∙ at_end F a h
 
 -- ---- walking the facts among slots
-
-above_held : (a : Option Dot) (es : List (Dot × Slot))
-    → filter (is_above a) (held_entries es) ≡ held_entries (filter (is_above a) es)
-above_held a [] = refl
-above_held a ((d, Held b) ∷ es) =
-    by_test (is_above a (d, b)) (is_above a (d, Held b)) (same a) (above_held a es)
-  where
-    same : (a : Option Dot) → is_above a (d, b) ≡ is_above a (d, Held b)
-    same None = refl
-    same (Some x) = refl
-
-    by_test : (t u : Bool) → t ≡ u
-        → filter (is_above a) (held_entries es) ≡ held_entries (filter (is_above a) es)
-        → cond t ((d, b) ∷ filter (is_above a) (held_entries es))
-        (filter (is_above a) (held_entries es))
-        ≡ held_entries (cond u ((d, Held b) ∷ filter (is_above a) es) (filter (is_above a) es))
-    by_test true true i h = ap (λ (l : List (Dot × Body)). (d, b) ∷ l) h
-    by_test false false i h = h
-    by_test true false i h = absurd (true≢false i)
-    by_test false true i h = absurd (true≢false (sym i))
-above_held a ((d, Skipped) ∷ es) =
-    elim (is_above a (d, Skipped)) as
-    (λ t. filter (is_above a) (held_entries es)
-    ≡ held_entries (cond t ((d, Skipped) ∷ filter (is_above a) es) (filter (is_above a) es))) [
-      | true ↦ above_held a es
-      | false ↦ above_held a es
-    ]
-
--- the facts above a dot are those of the slots above it
-pub held_above : (S : Slots) (a : Option Dot) → above (held_in S) a ≡ held_entries (above S a)
-held_above S a = ap (filter (is_above a)) (entries_held S) ∙ above_held a (map.entries S)
 
 -- the fact that a step of the walk returns is the first above
 abbrev pub IsFirstHeld : SlotRef → Option (Dot × Body) → Type 0

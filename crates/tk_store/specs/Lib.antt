@@ -6,7 +6,6 @@
 --   SlotOrder      StoreBelow, the order of stores; StoresAgree
 --   WholeStores    WholeAgree, whole_store, stores in which nothing is skipped
 --   Joining        JoinsFacts, the set that results from joining facts to a set; SameFacts
---   JoiningSteps   Compared, Joins, Sought, the loops over the entries of another set
 --   SlotJoining    Compared, Joins, Sought over the slots of another store
 --   Adding         Adds and AddsTo, the outcomes of adding a fact to a set and to a store
 --   Skipping       Skips, the outcomes of skipping a dot
@@ -22,7 +21,6 @@ pub mod Beyond
 pub mod FactSet
 pub mod Front
 pub mod Joining
-pub mod JoiningSteps
 pub mod NextDot
 pub mod Paging
 pub mod Seeking

@@ -20,7 +20,7 @@ fn run_end(table: &Table, dot: Dot) -> u64
     ensures next { sets.get table.now (dot_at dot.region (result + 1)) ≡ None }
 {
     table.known();
-    for serial in dot.serial()..Serial::GREATEST {
+    for serial in dot.serial()..Serial::MAX {
         match Dot::new(dot.region(), serial + 1) {
             Some(next) => {
                 if !table.knows(next) {
@@ -30,7 +30,7 @@ fn run_end(table: &Table, dot: Dot) -> u64
             None => unreachable!("the next serial is in range"),
         }
     }
-    Serial::GREATEST
+    Serial::MAX
 }
 
 // Makes the front of the slots the front of these with one more, at a dot that is unknown.

@@ -3,8 +3,8 @@
 ghost use Rattle.std.specs.Prelude.{◌≡◌, ◌↔◌, Some, None, OnOk, OnErr, IsTrue};
 ghost use Rattle.std.specs.FinMap as map;
 ghost use Rattle.std.specs.Option.{option_map};
-ghost use Rattle.tk_fact.specs.Check.{refusal_of};
 ghost use Rattle.tk_vector.specs.Join.{JoinLaws};
+ghost use Rattle.tk_fact.specs.Check.{refusal_of};
 ghost use Rattle.tk_store.specs.SlotJoining.{Passes};
 ghost use Rattle.tk_store.specs.SlotOrder.{
   SlotAgrees,

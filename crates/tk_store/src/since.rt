@@ -1,8 +1,8 @@
 //! The dots that a vector does not cover, found without looking at those that it covers.
 
 ghost use Rattle.std.specs.Prelude.{◌≡◌, [], IfOk, OnOk, take, map};
-ghost use Rattle.tk_store.specs.FactSet.{dot_of};
 ghost use Rattle.tk_store.specs.Beyond.{beyond};
+ghost use Rattle.tk_store.specs.FactSet.{dot_of};
 ghost use Rattle.tk_store.specs.Seeking.{Seeks, GoesOn, noted};
 
 use crate::table::Table;

@@ -68,10 +68,10 @@ ghost use Rattle.std.specs.Prelude.{
   map,
   slice_get,
 };
-ghost use Rattle.std.specs.Option.{SomeIff, option_map, option_copied};
 ghost use Rattle.std.specs.FinMap as sets;
-ghost use Rattle.tk_fact.specs.Check.{refusal_of};
+ghost use Rattle.std.specs.Option.{SomeIff, option_map, option_copied};
 ghost use Rattle.tk_handle.specs.Ranges.{greatest_serial};
+ghost use Rattle.tk_fact.specs.Check.{refusal_of};
 ghost use Rattle.tk_store.specs.Adding.{AddsTo, HasFact, RefusesFact};
 ghost use Rattle.tk_store.specs.Beyond.{beyond};
 ghost use Rattle.tk_store.specs.FactSet.{IsFactSet, dot_of};
@@ -126,7 +126,7 @@ impl FactStore {
         let _facts = &self.facts;
     }
 
-    /// Adds a fact that passes its check.
+    /// Adds a fact that passes its check (`Fact::check`).
     ///
     /// A fact whose dot is skipped is dropped if it may be skipped, and refused if it lasts.
     /// Returns `Conflict` if the fact lasts and its dot is skipped, or if the dot has another fact,

@@ -31,10 +31,12 @@ impl Model for Table {
 }
 
 ghost use Rattle.std.specs.Prelude.{◌≡◌, ◌≤◌, OnOk, OnErr, IsSome, None, Some, is_some};
-ghost use Rattle.std.specs.Option.{option_map, option_copied};
 ghost use Rattle.std.specs.FinMap as sets;
-ghost use Rattle.tk_handle.specs.declared.dot.Dot.{Dot as the_dot};
+ghost use Rattle.std.specs.Option.{option_map, option_copied};
 ghost use Rattle.tk_handle.specs.Ranges.{greatest_serial};
+ghost use Rattle.tk_handle.specs.declared.dot.Dot.{Dot as the_dot};
+ghost use Rattle.tk_store.specs.NextDot as next;
+ghost use Rattle.tk_store.specs.SlotShown.{IsShown, WalksOn};
 ghost use Rattle.tk_store.specs.Slots.{
   Held,
   Skipped,
@@ -43,9 +45,7 @@ ghost use Rattle.tk_store.specs.Slots.{
   is_skipped_slot,
   without_fact,
 };
-ghost use Rattle.tk_store.specs.SlotShown.{IsShown, WalksOn};
 ghost use Rattle.tk_store.specs.Table.{PassesOn, Shows};
-ghost use Rattle.tk_store.specs.NextDot as next;
 
 use crate::slot::SlotRef;
 use tk_handle::RegionNumber;

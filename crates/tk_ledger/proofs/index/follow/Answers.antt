@@ -2,7 +2,9 @@ use Rattle.std.proofs.Common.{ap, ◌∙◌, Some}
 use Rattle.std.specs.FinMap as map
 use Rattle.tk_store.specs.StoreFields.{held_facts}
 use Rattle.tk_ledger.specs.declared.change.Change.{Change}
-use Rattle.tk_ledger.proofs.ChangeLaws.{on_ok, on_ok2, on_err}
+use Rattle.tk_ledger.proofs.ChangeLaws.{on_ok2}
+use Rattle.tk_handle.proofs.TestLaws.{err_then as on_err}
+use Rattle.tk_handle.proofs.TestLaws.{ok_then as on_ok}
 use Rattle.tk_ledger.proofs.IndexLaws.{index_add, index_retire, index_give, index_withdraw}
 use Rattle.tk_ledger.proofs.IndexLaws.{index_nothing}
 use Rattle.tk_ledger.proofs.SecretIndexLaws.{index_secret, index_secrets}

@@ -3,7 +3,7 @@ use Rattle.std.specs.FinMap as map
 use Rattle.tk_store.specs.StoreFields.{held_facts}
 use Rattle.tk_ledger.specs.declared.change.Change.TheVariants as change
 use Rattle.tk_ledger.proofs.ChangeLaws.{change_link}
-use Rattle.tk_ledger.proofs.IndexLaws.{index_issue, index_back}
+use Rattle.tk_ledger.proofs.ForestIndexLaws.{index_issue, index_back}
 use Rattle.tk_ledger.proofs.LoginTableLaws.{login_row, login_dropped, logins_alike}
 use Rattle.tk_ledger.proofs.TableChangeLaws.{code_row, codes_same, same_revocations, same_outs}
 use Rattle.tk_ledger.proofs.TableChangeLaws.{same_reuses}

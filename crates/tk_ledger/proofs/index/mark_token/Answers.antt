@@ -3,7 +3,7 @@ use Rattle.tk_store.specs.StoreFields.{held_facts}
 use Rattle.tk_ledger.specs.declared.change.Change.TheVariants as change
 use Rattle.tk_ledger.proofs.ChangeLaws.{links_before, mark_ties}
 use Rattle.tk_ledger.proofs.TableChangeLaws.{reuse_row, reuses_same, same_revocations, same_outs}
-use Rattle.tk_ledger.proofs.IndexLaws.{index_mark, index_back}
+use Rattle.tk_ledger.proofs.ForestIndexLaws.{index_mark, index_back}
 use Rattle.tk_ledger.proofs.index.mark_token.Goals as goal
 
 pub wake-requires-clause-revocations : goal.wake-requires-clause-revocations

@@ -3,7 +3,7 @@ use Rattle.tk_store.specs.StoreFields.{held_facts}
 use Rattle.tk_ledger.specs.declared.change.Change.TheVariants as change
 use Rattle.tk_ledger.proofs.ChangeLaws.{revoke_ties, links_before}
 use Rattle.tk_ledger.proofs.TableChangeLaws.{revoke_row, revocations_same, same_outs, same_reuses}
-use Rattle.tk_ledger.proofs.IndexLaws.{index_revoke, index_back}
+use Rattle.tk_ledger.proofs.ForestIndexLaws.{index_revoke, index_back}
 use Rattle.tk_ledger.proofs.index.revoke_token.Goals as goal
 
 pub wake-requires-clause-revocations : goal.wake-requires-clause-revocations

@@ -9,7 +9,7 @@ use Rattle.tk_ledger.specs.declared.change.Change.TheVariants as change
 use Rattle.tk_ledger.proofs.ChangeLaws.{links_before, out_ties}
 use Rattle.tk_ledger.proofs.TableChangeLaws.{out_row, outs_same, same_revocations, same_codes}
 use Rattle.tk_ledger.proofs.TableChangeLaws.{same_reuses}
-use Rattle.tk_ledger.proofs.IndexLaws.{index_out, index_back}
+use Rattle.tk_ledger.proofs.ForestIndexLaws.{index_out, index_back}
 use Rattle.tk_ledger.proofs.index.sign_out.Goals as goal
 
 pub wake_started-requires-clause-revocations : goal.wake_started-requires-clause-revocations

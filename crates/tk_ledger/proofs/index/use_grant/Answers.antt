@@ -1,9 +1,10 @@
 use Rattle.std.proofs.Common.{refl}
 use Rattle.tk_store.specs.StoreFields.{held_facts}
 use Rattle.tk_ledger.specs.declared.change.Change.TheVariants as change
-use Rattle.tk_ledger.proofs.ChangeLaws.{on_ok, change_link}
+use Rattle.tk_ledger.proofs.ChangeLaws.{change_link}
+use Rattle.tk_handle.proofs.TestLaws.{ok_then as on_ok}
 use Rattle.tk_ledger.proofs.TableChangeLaws.{same_revocations, same_outs, same_reuses}
-use Rattle.tk_ledger.proofs.IndexLaws.{index_put}
+use Rattle.tk_ledger.proofs.ForestIndexLaws.{index_put}
 use Rattle.tk_ledger.proofs.index.use_grant.Goals as goal
 
 pub put_link-requires-clause-link : goal.put_link-requires-clause-link

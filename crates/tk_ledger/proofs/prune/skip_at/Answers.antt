@@ -12,9 +12,11 @@ use Rattle.tk_ledger.proofs.SkipLaws.{skipped_passes, was_indexed, free_skipped}
 use Rattle.tk_ledger.proofs.TopLaws.{found_body}
 use Rattle.tk_ledger.proofs.prune.skip_at.Goals as goal
 
+-- a body with its dot
 abbrev at_dot : Dot → Body → Dot × Body
 at_dot d b = (d, b)
 
+-- if no body with its dot is there, no body is
 none_there : (d : Dot) (o : Option Body) → option_map (at_dot d) o ≡ None → o ≡ None
 none_there d None h = refl
 none_there d (Some b) h = absurd (none_is_not_some (at_dot d b) (sym h))

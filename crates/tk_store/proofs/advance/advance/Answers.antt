@@ -1,13 +1,10 @@
-use Rattle.std.proofs.Common.{ap, arith, Result, Ok, Err, OnOk, subst, sym, ◌∙◌}
+use Rattle.std.proofs.Common.{ap, arith, subst, sym, ◌∙◌}
 use Rattle.std.specs.FinMap as sets
 use Rattle.tk_vector.specs.VersionVector.{entry, raised}
 use Rattle.tk_store.specs.Front.{IsFront}
 use Rattle.tk_store.proofs.FrontLaws.{past_put, past_advanced}
+use Rattle.tk_handle.proofs.TestLaws.{on_ok}
 use Rattle.tk_store.proofs.advance.advance.Goals as goal
-
-on_ok : {A E : Type 0} {P Q : Type 0} (r : Result A E) → OnOk r P → (P → Q) → OnOk r Q
-on_ok (Ok a) h f = f h
-on_ok (Err e) h f = h
 
 pub returns-then-serial-get-clause-ok : goal.returns-then-serial-get-clause-ok
 returns-then-serial-get-clause-ok c =

@@ -1,6 +1,6 @@
 use Rattle.std.proofs.Common.{sym, subst}
 use Rattle.tk_store.specs.FactSet.{FactSet}
-use Rattle.tk_store.proofs.WholeLaws.{empty_held}
+use Rattle.tk_store.proofs.SlotLaws.{empty_held}
 use Rattle.tk_ledger.specs.Index.{IsIndexed}
 use Rattle.tk_ledger.proofs.ledger.Ledger.new.Goals as goal
 

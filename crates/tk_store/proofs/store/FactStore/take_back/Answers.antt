@@ -10,11 +10,13 @@ use Rattle.tk_store.proofs.FrontLaws.{kept_without, without_none}
 use Rattle.tk_store.proofs.SlotLaws.{get_held}
 use Rattle.tk_store.proofs.store.FactStore.take_back.Goals as goal
 
+-- a body with its dot is there exactly if the body is
 some_of : (o : Option Body) (d : Dot)
     → is_some {T = Dot × Body} (option_map (λ (b : Body). (d, b)) o) ≡ is_some o
 some_of None d = refl
 some_of (Some b) d = refl
 
+-- an option that is not Some is None
 none_of : (o : Option Body) → is_some o ≡ false → o ≡ None
 none_of None h = refl
 none_of (Some b) h = absurd (true≢false h)
