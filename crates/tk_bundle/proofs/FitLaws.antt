@@ -11,7 +11,7 @@ use Rattle.std.proofs.Common.{Some, None, refl, sym, ap, subst, ◌∙◌, arith
 use Rattle.std.specs.Int.{w16}
 use Rattle.std.specs.List.{AllByRecursion, flat_map, list_any}
 use Rattle.std.proofs.lemmas.Bool.Decides.{nat_tests}
-use Rattle.std.proofs.lemmas.Bool.{and_parts as both_true, and_from}
+use Rattle.std.proofs.lemmas.Bool.{and_parts as both_true, and_from, le-leb}
 use Rattle.std.proofs.lemmas.Option.{cond_some}
 use borrow.Author.Tests.{leb-true}
 use Rattle.tk_format.specs.Format.{number}
@@ -86,9 +86,11 @@ spelled_items b fits =
 pub items_rise : (b : BundleFields) → bundle.Fits b → ascends None b.items ≡ true
 items_rise b fits = fits.1
 
+-- the greatest number of items fits in two bytes
 small : (n : ℕ) → n ≤ max_items → n < 256 ^ 2
 small n h = omega arith
 
+-- a number up to a limit passes the test for it
 few : (n limit : ℕ) → n ≤ limit → nat_le n limit ≡ true
 few n limit h = grind (arith, nat_tests)
 
@@ -99,6 +101,7 @@ plain_fits items low fits = ((small (length items) low, few (length items) max_i
 
 -- ---- pieces that fit
 
+-- a number above 0, up to one that is in a range, is in that range
 later : (m n g : ℕ) → (nat_lt 0 n && nat_le n g) ≡ true → 0 < m → m ≤ n
     → (nat_lt 0 m && nat_le m g) ≡ true
 later m n g h some le = grind (arith, nat_tests)
@@ -120,6 +123,7 @@ marks_fit d (suc (suc n)) last fits end low = (
       (fits.0, serial_below (d.serial + 1) last end (omega arith) (omega arith)) end (omega arith),
 )
 
+-- the marks from a dot to a serial that isn't before it end at that serial
 stretched : (d : Dot) (last : ℕ) → nat_le d.serial last ≡ true
     → d.serial + suc (last - d.serial) ≤ suc last
 stretched d last h = let low : d.serial ≤ last = leb-true d.serial last h in omega arith
@@ -130,11 +134,13 @@ piece_fits (Fact f) fits = (fits, tt)
 piece_fits (Marks d last) fits =
     marks_fit d (suc (last - d.serial)) last fits.0.0 fits.0.1 (stretched d last fits.0.2)
 
-all_append : (fs gs : Items) → AllByRecursion item.Fits fs → AllByRecursion item.Fits gs
+-- if the items of two lists have a spelling, those of both lists together do
+pub all_append : (fs gs : Items) → AllByRecursion item.Fits fs → AllByRecursion item.Fits gs
     → AllByRecursion item.Fits (fs ++ gs)
 all_append [] gs a b = b
 all_append (f ∷ fs) gs a b = (a.0, all_append fs gs a.1 b)
 
+-- the items of pieces that have a spelling have one
 expanded_fit : (ps : List Piece) → AllByRecursion piece.Fits ps
     → AllByRecursion item.Fits (expanded ps)
 expanded_fit [] fits = tt
@@ -151,17 +157,17 @@ marks_piece d last fits = (fits, by_last (eqb d.serial last))
     by_last false =
         (omega (arith, run_length (d, last)), ap (λ n. nat_le n max_bytes) (run_length (d, last)))
 
-itself : (n : ℕ) → nat_le n n ≡ true
-itself n = grind (arith, nat_tests)
-
+-- a number up to another is up to the next one
 next_le : (m n k : ℕ) → nat_le m n ≡ true → n + 1 ≡ k → nat_le m k ≡ true
 next_le m n k h s = grind (arith, nat_tests)
 
+-- the piece of one item that has a spelling has one
 begun_fits : (i : Dot × Slot) → item.Fits i → piece.Fits (begun i)
 begun_fits (d, Held b) fits = fits
 begun_fits (d, Skipped) fits =
-    marks_piece d d.serial (fits.0, fits.0.1, itself d.serial)
+    marks_piece d d.serial (fits.0, fits.0.1, le-leb d.serial d.serial (omega arith))
 
+-- a piece that has a spelling has one with a mark behind it that continues it
 extended_fits : (p : Piece) (i : Dot × Slot) → continues (last_mark p) i ≡ true → piece.Fits p
     → item.Fits i → piece.Fits (extended p i.0)
 extended_fits (Fact f) i on p fits = absurd cc
@@ -170,6 +176,7 @@ extended_fits (Marks d last) (e, Skipped) on p fits =
     marks_piece d e.serial
     (p.0.0, fits.0.1, next_le d.serial last e.serial p.0.2 (goes_on d last e on).serial)
 
+-- a piece and items grouped behind it have a spelling if the piece and the items do
 from_fits : (p : Piece) (items : Items) → piece.Fits p → AllByRecursion item.Fits items
     → AllByRecursion piece.Fits (pieces_from p items)
 from_fits p [] fits all = (fits, tt)
@@ -182,6 +189,7 @@ from_fits p (i ∷ more) fits all =
     by_test next true on = next (extended p i.0) (extended_fits p i on fits all.0)
     by_test next false off = (fits, next (begun i) (begun_fits i all.0))
 
+-- the pieces of items that have a spelling have one
 grouped_fit : (items : Items) → AllByRecursion item.Fits items
     → AllByRecursion piece.Fits (grouped items)
 grouped_fit [] all = tt
@@ -249,6 +257,7 @@ items_few b fits = by_runs b.runs (spelled_items b fits)
 
 -- ---- a run has marks
 
+-- items without a mark, grouped behind a piece, are one piece each
 unmarked_from : (p : Piece) (items : Items) → list_any is_mark items ≡ false
     → length (pieces_from p items) ≡ suc (length items)
 unmarked_from p [] none = refl
@@ -257,12 +266,14 @@ unmarked_from (Fact f) ((d, Held b) ∷ more) none = ap suc (unmarked_from (Fact
 unmarked_from (Marks e last) ((d, Held b) ∷ more) none =
     ap suc (unmarked_from (Fact (d, b)) more none)
 
+-- items without a mark are grouped as one piece each
 unmarked : (items : Items) → list_any is_mark items ≡ false
     → length (grouped items) ≡ length items
 unmarked [] none = refl
 unmarked ((d, Skipped) ∷ more) none = absurd cc
 unmarked ((d, Held b) ∷ more) none = unmarked_from (Fact (d, b)) more none
 
+-- equal numbers aren't one below the other
 not_less : (m n : ℕ) → nat_lt m n ≡ true → m ≡ n → ⊥
 not_less m n h k = grind (arith, nat_tests)
 

@@ -51,6 +51,7 @@ times_kept S runs items =
     horizon_told runs (filter (counts S) items) ∙ ap (λ t. runs || t) (marks_kept S items)
     ∙ sym (horizon_told runs items)
 
+-- a horizon fits the version of the items that aren't dropped if it fits that of all items
 horizon_kept : (S : Slots) (runs : Bool) (items : Items) (horizon : Option ℕ)
     → HorizonFits (version_of runs items) horizon
     → HorizonFits (version_of runs (filter (counts S) items)) horizon
@@ -77,6 +78,7 @@ version_kept S b fits =
     ap (λ t. version_with (newest_kind 0 (filter (counts S) b.items)) t b.runs)
     (horizon_shows S b fits)
 
+-- a filter makes no list longer
 no_longer : {A : Type 0} (p : A → Bool) (xs : List A) → length (filter p xs) ≤ length xs
 no_longer p [] = omega arith
 no_longer p (x ∷ xs) =
@@ -85,6 +87,7 @@ no_longer p (x ∷ xs) =
       | false ↦ omega (arith, no_longer p xs)
     ]
 
+-- the items that a filter keeps have a spelling if all items do
 all_kept : (p : Dot × Slot → Bool) (items : Items) → AllByRecursion item.Fits items
     → AllByRecursion item.Fits (filter p items)
 all_kept p [] all = tt
@@ -103,6 +106,7 @@ above_lower d e (i ∷ more) low rise =
     joined (is_lt (dot_cmp d i.0)) (ascends (Some i.0) more)
     (ap is_lt (dot_cmp_total.trans d e i.0 (less (dot_cmp d e) low) (less (dot_cmp e i.0) r.0))) r.1
 
+-- what a filter keeps of items that rise above a dot rises above it
 rise_above : (p : Dot × Slot → Bool) (d : Dot) (items : Items) → ascends (Some d) items ≡ true
     → ascends (Some d) (filter p items) ≡ true
 rise_above p d [] rise = refl
@@ -114,10 +118,12 @@ rise_above p d (i ∷ more) rise =
       | false ↦ rise_above p d more (above_lower d i.0 more r.0 r.1)
     ]
 
+-- items that rise above a dot rise
 above_none : (d : Dot) (items : Items) → ascends (Some d) items ≡ true → ascends None items ≡ true
 above_none d [] rise = refl
 above_none d (i ∷ more) rise = (both_true (is_lt (dot_cmp d i.0)) (ascends (Some i.0) more) rise).1
 
+-- what a filter keeps of items that rise rises
 rise_kept : (p : Dot × Slot → Bool) (items : Items) → ascends None items ≡ true
     → ascends None (filter p items) ≡ true
 rise_kept p [] rise = refl
@@ -129,6 +135,7 @@ rise_kept p (i ∷ more) rise =
 
 -- ---- pieces
 
+-- a dot without a mark continues no mark
 no_mark : (last : Option Dot) (d : Dot) → continues_at last d false ≡ false
 no_mark None d = refl
 no_mark (Some e) d = refl
@@ -197,9 +204,11 @@ runs_kept S items are =
     (true-ltb (length (grouped kept)) (length kept) (omega (arith, less, a, b, some)))
     (all_kept (counts S) items are.fits)
 
+-- a number up to one that fits in 16 bits fits in them
 small : (n m : ℕ) → n ≤ m → m < 2 ^ 16 → n < 2 ^ 16
 small n m h k = omega (arith, h, k)
 
+-- a number up to one within the limit of items is within it
 few : (n m : ℕ) → n ≤ m → nat_le m max_items ≡ true → nat_le n max_items ≡ true
 few n m h k = grind (arith, nat_tests)
 

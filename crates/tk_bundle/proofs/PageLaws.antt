@@ -45,6 +45,7 @@ use Rattle.tk_bundle.proofs.FitLaws.{plain_bytes, fits_with, plain_fits}
 use Rattle.tk_bundle.specs.Page.{item_at, items_at, last_of, horizon_if, horizon_with, page_within}
 use Rattle.tk_bundle.specs.Page.{IsPageAt, IsPageOf}
 use Rattle.tk_handle.proofs.TestLaws.{and as pair, both, is_true}
+use Rattle.tk_bundle.proofs.FitLaws.{all_append}
 
 -- ---- what slots have at given dots
 
@@ -107,12 +108,6 @@ more_written S dots i dot old before after within is so_far one =
     (sym (flat_map-append item.spell (items_at S (take i dots)) (items_at S (dot ∷ [])))
     ∙ ap (flat_map item.spell) (items_at-more S dots i dot within is))
 
--- items of two lists that each have a spelling
-all_append : (fs gs : Items) → AllByRecursion item.Fits fs → AllByRecursion item.Fits gs
-    → AllByRecursion item.Fits (fs ++ gs)
-all_append [] gs a b = b
-all_append (f ∷ fs) gs a b = (a.0, all_append fs gs a.1 b)
-
 -- the item at one dot more has a spelling
 pub more_fits : (S : Slots) (dots : List Dot) (i : ℕ) (dot : Dot) → i < length dots
     → dot ≡ get_or dots i dot
@@ -154,12 +149,14 @@ page_more fs limit = ap (nat_lt limit)
 
 -- ---- the dots of a page rise
 
+-- a dot below all items of a list is below the first of them, however many
 below-take : (d : Dot) (n : ℕ) (es : Items) → T (below_all dot_cmp d es)
     → T (below_all dot_cmp d (take n es))
 below-take d zero es h = tt
 below-take d (suc n) [] h = tt
 below-take d (suc n) (e ∷ es) h = let p = both _ _ h in pair _ _ p.0 (below-take d n es p.1)
 
+-- a dot below all items of a list is below those that a filter keeps
 below-filter : (p : Dot × Slot → Bool) (d : Dot) (es : Items) → T (below_all dot_cmp d es)
     → T (below_all dot_cmp d (filter p es))
 below-filter p d [] h = tt
@@ -171,6 +168,7 @@ below-filter p d (e ∷ es) h =
       | false ↦ below-filter p d es l.1
     ]
 
+-- the first items of a sorted list are sorted
 sorted-take : (n : ℕ) (es : Items) → T (sets.is_sorted dot_cmp es)
     → T (sets.is_sorted dot_cmp (take n es))
 sorted-take zero es h = tt
@@ -178,6 +176,7 @@ sorted-take (suc n) [] h = tt
 sorted-take (suc n) (e ∷ es) h = let p = both _ _ h in
     pair _ _ (below-take e.0 n es p.0) (sorted-take n es p.1)
 
+-- what a filter keeps of a sorted list is sorted
 sorted-filter : (p : Dot × Slot → Bool) (es : Items) → T (sets.is_sorted dot_cmp es)
     → T (sets.is_sorted dot_cmp (filter p es))
 sorted-filter p [] h = tt
@@ -189,6 +188,7 @@ sorted-filter p (e ∷ es) h =
       | false ↦ sorted-filter p es l.1
     ]
 
+-- sorted items that are all above a dot ascend from it
 ascends_above : (d : Dot) (es : Items) → T (below_all dot_cmp d es) → T (sets.is_sorted dot_cmp es)
     → ascends (Some d) es ≡ true
 ascends_above d [] low sorted = refl
@@ -197,6 +197,7 @@ ascends_above d (e ∷ es) low sorted =
     let s = both _ _ sorted in
     ap (λ t. t && ascends (Some e.0) es) (is_true _ l.0) ∙ ascends_above e.0 es s.0 s.1
 
+-- sorted items ascend
 ascends_sorted : (es : Items) → T (sets.is_sorted dot_cmp es) → ascends None es ≡ true
 ascends_sorted [] sorted = refl
 ascends_sorted (e ∷ es) sorted = let s = both _ _ sorted in ascends_above e.0 es s.0 s.1

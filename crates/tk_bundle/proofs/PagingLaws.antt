@@ -1,9 +1,9 @@
--- Paging by the flag `more` loses nothing, without runs and with them. Key result: complete.
-use Rattle.std.proofs.Common.{◌≡◌, ℕ, zero, suc, ◌<◌, ◌≤◌, Bool, true, false, nat_lt, List, [], ◌∷◌}
+-- Paging by the flag `more` loses nothing, without runs and with them. Key results:
+--   complete   a receiver that takes in each page has all
+use Rattle.std.proofs.Common.{◌≡◌, ℕ, zero, suc, ◌<◌, Bool, true, false, nat_lt, List, [], ◌∷◌}
 use Rattle.std.proofs.Common.{length, take, Option, Some, None, refl, sym, ap, subst, ◌∙◌, arith}
 use Rattle.std.proofs.Common.{inl, inr}
-use Rattle.std.proofs.lemmas.Bool.{cases_Bool}
-use Rattle.std.proofs.lemmas.Bool.Decides.{nat_tests}
+use Rattle.std.proofs.lemmas.Bool.{cases_Bool, ltb-false}
 use Rattle.std.specs.FinMap as sets
 use Rattle.tk_handle.specs.declared.dot.Dot.{Dot}
 use Rattle.tk_vector.specs.VersionVector.{Vector}
@@ -42,6 +42,7 @@ pieces_some [] n some low = absurd (omega arith)
 pieces_some (i ∷ items) zero some low = absurd (omega arith)
 pieces_some (i ∷ items) (suc n) some low = omega arith
 
+-- the first pieces of some items have some items
 run_some : (items : Items) → 0 < length items → 0 < length (first_pieces max_pieces items)
 run_some [] some = absurd (omega arith)
 run_some (i ∷ items) some = omega (arith, fitting_is max_pieces (i ∷ items))
@@ -68,14 +69,12 @@ first true P v after =
           (pieces_some (beyond P.slots v after) max_run_items some (omega arith));
     }
 
-ended : (limit n : ℕ) → nat_lt limit n ≡ false → n ≤ limit
-ended limit n h = grind (arith, nat_tests)
-
 -- an entry of a list shows that there are some
 some_in : (items : Items) (d : Dot) (b : Slot) → store.IsIn d b items → 0 < length items
 some_in [] d b h = absurd h
 some_in (i ∷ items) d b h = omega arith
 
+-- a receiver of all pages past a cursor knows each slot there that the vector doesn't cover
 taken : (runs : Bool) (v : Vector) (R : Slots) (later : List StoreFields) (after : Option Dot)
     (P : StoreFields) → HasPages runs v R after P later
     → (d : Dot) (b : Slot) → sets.get P.slots d ≡ Some b → is_beyond v (d, b) ≡ true
@@ -85,7 +84,7 @@ taken runs v R [] after P has d b known free past =
     store.in_all R (beyond P.slots v after) d b
     (store.in_beyond P.slots v after d b known free past)
     (subst (AllBelow R) (p.items
-    ∙ store.take_whole p.size (beyond P.slots v after) (ended _ _ (sym p.more ∙ has.1))) has.0)
+    ∙ store.take_whole p.size (beyond P.slots v after) (ltb-false _ _ (sym p.more ∙ has.1))) has.0)
 taken runs v R (Q ∷ later) after P has d b known free past =
     let p = first runs P v after in
     let here = store.in_beyond P.slots v after d b known free past in

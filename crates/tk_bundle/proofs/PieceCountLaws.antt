@@ -39,6 +39,7 @@ ends_extended (Marks d last) (e, Skipped) on =
     let g = goes_on d last e on in
     ap (λ (r : ℕ). Some (record { region = r; serial = e.serial })) g.region
 
+-- a piece and items grouped behind it are one piece more than the items' dots begin
 counted_from : (p : Piece) (items : Items)
     → length (pieces_from p items) ≡ suc (piece_count (last_mark p) (map marked_item items))
 counted_from p [] = refl
@@ -67,10 +68,12 @@ counted (i ∷ more) =
 
 -- ---- the items of the first pieces
 
+-- the first pieces of no pieces are no pieces
 take_none : (n : ℕ) → take {A = Piece} n [] ≡ []
 take_none zero = refl
 take_none (suc n) = refl
 
+-- the first pieces have the items of the first one, and the dots that fit behind it
 fits_from : (p : Piece) (room : ℕ) (items : Items) → is_stretch p ≡ true
     → length (expanded (take (suc room) (pieces_from p items)))
     ≡ length (piece_items p) + fitting room (last_mark p) (map marked_item items)

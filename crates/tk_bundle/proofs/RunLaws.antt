@@ -10,6 +10,7 @@ use Rattle.tk_bundle.specs.declared.piece.Piece.TheVariants.{Marks}
 use Rattle.tk_bundle.specs.PieceBytes.{run_kind, piece}
 use Rattle.tk_bundle.specs.PiecedLaws.{run_length}
 
+-- numbers that differ fail the test for equal ones
 differ : (m n : ℕ) → m ≢ n → eqb m n ≡ false
 differ m n h = grind (arith, nat_tests)
 

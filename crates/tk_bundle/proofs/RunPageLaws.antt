@@ -10,6 +10,7 @@ use Rattle.std.specs.Option.{option_map}
 use Rattle.std.specs.FinMap as sets
 use Rattle.std.specs.Int.{w16}
 use Rattle.tk_format.specs.Format.{number}
+use Rattle.std.proofs.lemmas.Bool.{ltb-false}
 use Rattle.std.proofs.lemmas.Bool.Decides.{nat_tests}
 use Rattle.std.proofs.lemmas.List.{length-map, length-take, take-take, take-map}
 use Rattle.std.proofs.lemmas.List.Elements.{filter_map-append}
@@ -166,14 +167,13 @@ page_of_dots made P v after dots more same follows at =
 
 -- ---- bytes
 
+-- equal numbers aren't one below the other, by the test
 no_more : (m n : ℕ) → m ≡ n → nat_lt m n ≡ false
 no_more m n h = grind (arith, nat_tests)
 
+-- a number up to another that it doesn't equal is below it, by the test
 fewer : (m n : ℕ) → m ≤ n → m ≢ n → nat_lt m n ≡ true
 fewer m n h k = grind (arith, nat_tests)
-
-at_most : (m n : ℕ) → nat_lt m n ≡ false → n ≤ m
-at_most m n h = grind (arith, nat_tests)
 
 -- the bundle of items, with runs or not
 bundle_if : (horizon : ℕ) (items : Items) (runs : Bool) → has_run items ≡ runs
@@ -246,7 +246,7 @@ run_page_fits P v after time fits = by_run (has_run R) refl
         (horizon_fits P.horizon false R time refl)
         (plain_fits R (omega (
           arith,
-          at_most (length (grouped R)) (length R) is,
+          ltb-false (length (grouped R)) (length R) is,
           first_few max_pieces (found P v after),
         )) fits) rise
 

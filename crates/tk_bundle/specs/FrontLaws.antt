@@ -66,6 +66,7 @@ walk_done count i now total le so_far =
 
 -- ---- what the walk leaves is the end of the bytes
 
+-- two steps in a row that succeed each succeed
 bind_ok : {A B : Type 0} (r : Result A FrontError) (f : A → Result B FrontError) (y : B)
     → (r >>= f) ≡ Ok y → (x : A) × (r ≡ Ok x) × (f x ≡ Ok y)
 bind_ok (Ok x) f y e = (x, refl, e)
@@ -79,10 +80,12 @@ walked x = Ok x
 pub ok_is : {A : Type 0} (x y : A) → walked x ≡ walked y → x ≡ y
 ok_is x y e = cc
 
+-- if a failed read counts as a cut, a success has what was read
 cut_ok : {A : Type 0} (o : Option A) (x : A) → or_cut o ≡ Ok x → o ≡ Some x
 cut_ok None x e = absurd cc
 cut_ok (Some y) x e = ap (λ z. Some z) (ok_is y x e)
 
+-- a success behind a test for a fault is that of the next step, and the test doesn't hold
 test_ok : {A : Type 0} (b : Bool) (e : FrontError) (r : Result A FrontError) (y : A)
     → cond b (Err e) r ≡ Ok y → (b ≡ false) × (r ≡ Ok y)
 test_ok true e r y h = absurd cc
@@ -92,9 +95,11 @@ test_ok false e r y h = (refl, h)
 abbrev Ends : List ℕ → List ℕ → Type 0
 Ends bytes rest = (front : List ℕ) × Takes bytes front rest
 
+-- the end of an end of bytes is an end of the bytes
 Ends-then : (a x b : List ℕ) (c : List ℕ) → Takes a x b → Ends b c → Ends a c
 Ends-then a x b c p q = (x ++ q.0, Takes-then a x b q.0 c p q.1)
 
+-- what is left behind a length and its bytes is the end of the bytes
 skipped_ends : (bytes rest : List ℕ) → IsBytes bytes → skipped bytes ≡ Ok rest → Ends bytes rest
 skipped_ends bytes rest fits e =
     let a = bind_ok (or_cut ((number w16).read bytes)) (λ n.
@@ -111,6 +116,7 @@ skipped_ends bytes rest fits e =
           (ok_is b.0.1 rest b.2) both,
     )
 
+-- what is left behind many lengths and their bytes is the end of the bytes
 many_end : (n : ℕ) (bytes rest : List ℕ) → IsBytes bytes → skipped_many n bytes ≡ Ok rest
     → Ends bytes rest
 unfolding skipped_many
@@ -133,9 +139,11 @@ abbrev pub opened : (List ℕ × ℕ) × List ℕ → Result (List ℕ) FrontErr
 opened f = malformed_if (not (bytes_eq f.0.0 magic)) (malformed_if (not (is_version f.0.1))
     (or_cut ((header f.0.1).read f.1) >>= counted_rest))
 
+-- the magic and the digit of a version have one spelling
 opening_exact : IsExact opening
 opening_exact = both_exact _ _ (bytes_exact (length magic)) byte_exact
 
+-- a horizon, if the version has one, and a count have one spelling
 header_exact : (digit : ℕ) → IsExact (header digit)
 header_exact digit = both_exact _ _ (bytes_exact (horizon_size digit)) u16_exact
 
@@ -177,6 +185,7 @@ skipped_text s rest fits few =
 
 module _ {A : Type 0} (bytes_of : A → List ℕ) (HasAll : A → Type 0)
     (value_in : List ℕ → Option A) where
+  -- the format of a value behind its length
   abbrev framed : Format A
   framed = behind_length bytes_of HasAll value_in
 
@@ -223,6 +232,7 @@ items_walked true items rest fits = record {
   walked = many_framed piece_bytes PieceFits piece_in (grouped items) rest fits.0.1;
 }
 
+-- a horizon has as many bytes as its version gives it
 horizon_length : (digit : ℕ) (o : Option ℕ) → HorizonFits digit o
     → length (horizon_bytes o) ≡ horizon_size digit
 horizon_length digit None fits = rw fits refl

@@ -5,7 +5,7 @@
 --   mark_fits      the mark of a dot has a spelling
 use Rattle.std.proofs.Common.{◌≡◌, ℕ, ◌+◌, ◌<◌, Bool, true, false, cond, eqb, nat_le, List}
 use Rattle.std.proofs.Common.{◌++◌}
-use Rattle.std.proofs.Common.{length, Option, Some, None, refl, ap, subst, ◌∙◌, append_assoc}
+use Rattle.std.proofs.Common.{length, Option, Some, None, refl, sym, ap, subst, ◌∙◌, append_assoc}
 use Rattle.std.proofs.Common.{arith}
 use Rattle.std.specs.Int.{w16, w64}
 use Rattle.std.specs.Option.{option_map}
@@ -20,11 +20,9 @@ use Rattle.tk_handle.specs.declared.dot.Dot.{Dot}
 use Rattle.tk_handle.specs.DotBytes.{dot_field}
 use Rattle.tk_handle.proofs.FormatLaws.{dot_field_exact}
 use Rattle.tk_fact.specs.declared.body.Body.{Body}
-use Rattle.tk_fact.specs.declared.body.Body.TheVariants as bodies
-use Rattle.tk_fact.specs.declared.client_lives.ClientLives.{ClientLives}
-use Rattle.tk_fact.specs.Kinds.{Terms, terms_of, client_on}
-use Rattle.tk_fact.specs.FactBytes.{kinds, body, fact, max_bytes}
+use Rattle.tk_fact.specs.FactBytes.{body, fact, max_bytes}
 use Rattle.tk_fact.specs.FactLaws.{fact_exact}
+use Rattle.tk_fact.proofs.BodyLaws.{body_begins}
 use Rattle.tk_store.specs.Slots.{Slot, Held, Skipped}
 use Rattle.tk_store.specs.WholeStores.{as_slot}
 use Rattle.tk_bundle.specs.Items.{dot_size, item_bytes, HasBytes, mark_at, item_in, behind_length}
@@ -32,28 +30,11 @@ use Rattle.tk_bundle.specs.Items.{item}
 
 -- ---- a fact is longer than a dot
 
--- the body of a client has a byte
-client_long : (t : Terms) (o : Option ClientLives)
-    → 0 < length (body.spell (bodies.ClientAdded (client_on t o)))
-unfolding kinds
-client_long t None = omega arith
-client_long t (Some lives) = omega arith
-
 -- a body has a byte
 body_long : (b : Body) → 0 < length (body.spell b)
-unfolding kinds
-body_long (bodies.ClientAdded f) = client_long (terms_of f) f.lives
-body_long (bodies.ClientRetired f) = omega arith
-body_long (bodies.ConsentGiven f) = omega arith
-body_long (bodies.ConsentWithdrawn f) = omega arith
-body_long (bodies.CodeIssued f) = omega arith
-body_long (bodies.CodeRedeemed f) = omega arith
-body_long (bodies.RefreshRotated f) = omega arith
-body_long (bodies.TokenRevoked f) = omega arith
-body_long (bodies.ReuseSeen f) = omega arith
-body_long (bodies.SubjectOut f) = omega arith
-body_long (bodies.AccessRefreshed f) = omega arith
-body_long (bodies.SecretSet f) = omega arith
+body_long b =
+    let begun = body_begins b in
+    subst (λ (s : List ℕ). 0 < length s) (sym begun.1) (omega arith)
 
 -- a dot has ten bytes
 pub dot_length : (d : Dot) → length (dot_field.spell d) ≡ dot_size
@@ -108,9 +89,11 @@ in_again (d, Skipped) fits =
 
 -- ---- behind its length
 
+-- a text of limited length has one spelling
 short_exact : IsExact (only (λ t. nat_le (length t) max_bytes) text)
 short_exact = only_exact (λ t. nat_le (length t) max_bytes) text text_exact
 
+-- a text that is read from bytes consists of bytes
 IsBytes-text : (bytes s rest : List ℕ) → IsBytes bytes → Takes bytes (text.spell s) rest → IsBytes s
 unfolding text_spelling
 IsBytes-text bytes s rest fits t =
@@ -124,9 +107,11 @@ IsBytes-text bytes s rest fits t =
 module _ {A : Type 0} (bytes_of : A → List ℕ) (HasAll : A → Type 0) (value_in : List ℕ → Option A)
     (taken : (bytes : List ℕ) (a : A) → IsBytes bytes → value_in bytes ≡ Some a
     → HasAll a × (bytes ≡ bytes_of a)) where
+  -- the format of a value behind its length
   abbrev framed : Format A
   framed = behind_length bytes_of HasAll value_in
 
+  -- a value that is read behind its length has its spelling there, and fits
   framed_takes : (bytes : List ℕ) (x : A × List ℕ) → IsBytes bytes → framed.read bytes ≡ Some x
       → Takes bytes (framed.spell x.0) x.1 × framed.Fits x.0
   framed_takes bytes x fits e =

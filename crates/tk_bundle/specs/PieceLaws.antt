@@ -59,6 +59,7 @@ goes_on d last e h =
     let p = both_true (eqb d.region e.region) (eqb (last + 1) e.serial) h in
     record { region = eqb-true _ _ p.0; serial = eqb-true _ _ p.1 }
 
+-- a number that isn't above another, by the test, isn't above it
 le_of : (m n : ℕ) → nat_le m n ≡ true → m ≤ n
 le_of m n h = leb-true m n h
 
@@ -105,16 +106,19 @@ begun_items (d, Skipped) = ap (λ (n : ℕ). marks_from d (suc n)) (none d.seria
     none : (n : ℕ) → n - n ≡ 0
     none n = omega arith
 
+-- the first item of a piece of one item is that item
 first_begun : (i : Dot × Slot) → first_item (begun i) ≡ i
 first_begun (d, Held b) = refl
 first_begun (d, Skipped) = refl
 
+-- a mark at the end of a piece leaves the first item as it is
 first_extended : (p : Piece) (e : Dot) → first_item (extended p e) ≡ first_item p
 first_extended (Fact f) e = refl
 first_extended (Marks d last) e = refl
 
 -- ---- the pieces of items have these items
 
+-- a piece and items grouped behind it have the items of the piece, then these
 from_items : (p : Piece) (items : Items) → is_stretch p ≡ true
     → expanded (pieces_from p items) ≡ piece_items p ++ items
 from_items p [] low = refl
@@ -142,6 +146,7 @@ grouped_items (i ∷ more) =
 
 -- ---- the pieces of items are proper
 
+-- of a piece and items grouped behind it, no piece continues the one before
 from_proper : (last : Option Dot) (p : Piece) (items : Items) → is_stretch p ≡ true
     → continues last (first_item p) ≡ false → is_proper_behind last (pieces_from p items) ≡ true
 from_proper last p [] low apart = rw (apart, low) refl
@@ -169,6 +174,7 @@ abbrev tail_items : Piece → Items
 tail_items (Fact f) = []
 tail_items (Marks d last) = marks_from (behind d 1) (last - d.serial)
 
+-- the items of a piece are its first item and the items behind the first
 first_of_all : (p : Piece) → piece_items p ≡ first_item p ∷ tail_items p
 unfolding marks_from
 first_of_all (Fact f) = refl
@@ -211,6 +217,7 @@ is_next last p ps h = of (continues last (first_item p)) (is_stretch p) refl ref
     of false false a l k = absurd cc
     of false true a l k = record { apart = a; low = l; more = k }
 
+-- pieces of which none continues the one before are their own items, grouped again
 from_again : (p : Piece) (ps : List Piece) → is_proper_behind (last_mark p) ps ≡ true
     → pieces_from p (expanded ps) ≡ p ∷ ps
 from_again p [] h = refl

@@ -7,7 +7,7 @@ use Rattle.std.proofs.Common.{nat_lt, List, [], ◌∷◌, ◌++◌, length, sli
 use Rattle.std.proofs.Common.{refl, sym, ap, subst, ◌∙◌, arith}
 use Rattle.std.specs.Int.{w64}
 use Rattle.std.specs.Option.{option_map, option_map_or}
-use Rattle.std.proofs.lemmas.Bool.{eq-eqb}
+use Rattle.std.proofs.lemmas.Bool.{eq-eqb, le-leb}
 use Rattle.std.proofs.lemmas.Bool.{and_parts as both_true}
 use Rattle.std.proofs.lemmas.Bool.Decides.{nat_tests}
 use Rattle.std.proofs.lemmas.List.{length-append}
@@ -23,10 +23,10 @@ use Rattle.tk_handle.specs.DotBytes.{dot_field, serial_field}
 use Rattle.tk_handle.proofs.FormatLaws.{dot_field_exact}
 use Rattle.tk_fact.specs.declared.body.Body.{Body}
 use Rattle.tk_fact.specs.declared.body.Body.TheVariants as bodies
-use Rattle.tk_fact.specs.declared.client_lives.ClientLives.{ClientLives}
-use Rattle.tk_fact.specs.Kinds.{Terms, terms_of, client_on}
-use Rattle.tk_fact.specs.FactBytes.{kinds, body, fact}
+use Rattle.tk_fact.specs.FactBytes.{number_of, body, fact}
 use Rattle.tk_fact.specs.FactLaws.{fact_exact}
+use Rattle.tk_fact.specs.Followed.{number_by}
+use Rattle.tk_fact.proofs.BodyLaws.{body_begins}
 use Rattle.tk_bundle.specs.BundleFields.{Items}
 use Rattle.tk_bundle.specs.declared.piece.Piece.{Piece}
 use Rattle.tk_bundle.specs.declared.piece.Piece.TheVariants.{Fact, Marks}
@@ -55,32 +55,38 @@ behind_dot d rest = at_length (dot_field.spell d) rest dot_size (dot_length d)
     at_length (x ∷ front) rest zero h = absurd cc
     at_length (x ∷ front) rest (suc n) h = at_length front rest n (omega arith)
 
--- the number of a client isn't that of a run
-client_kind : (t : Terms) (o : Option ClientLives)
-    → begins_run (body.spell (bodies.ClientAdded (client_on t o))) ≡ false
-unfolding kinds
-client_kind t None = refl
-client_kind t (Some lives) = refl
+-- neither of two numbers is that of a run
+no_run : {B : Type 0} (o : Option B) (bare named : ℕ) → eqb bare run_kind ≡ false
+    → eqb named run_kind ≡ false → eqb (number_by o bare named) run_kind ≡ false
+no_run None bare named h k = h
+no_run (Some more) bare named h k = k
 
 -- no kind of fact has the number of a run
-body_kind : (b : Body) → begins_run (body.spell b) ≡ false
-unfolding kinds
-body_kind (bodies.ClientAdded f) = client_kind (terms_of f) f.lives
-body_kind (bodies.ClientRetired f) = refl
-body_kind (bodies.ConsentGiven f) = refl
-body_kind (bodies.ConsentWithdrawn f) = refl
-body_kind (bodies.CodeIssued f) = refl
-body_kind (bodies.CodeRedeemed f) = refl
-body_kind (bodies.RefreshRotated f) = refl
-body_kind (bodies.TokenRevoked f) = refl
-body_kind (bodies.ReuseSeen f) = refl
-body_kind (bodies.SubjectOut f) = refl
-body_kind (bodies.AccessRefreshed f) = refl
-body_kind (bodies.SecretSet f) = refl
+number_no_run : (b : Body) → eqb (number_of b) run_kind ≡ false
+number_no_run (bodies.ClientAdded f) =
+    no_run f.lives (number_by f.by 1 16) (number_by f.by 13 17) (no_run f.by 1 16 refl refl)
+    (no_run f.by 13 17 refl refl)
+number_no_run (bodies.ClientRetired f) = no_run f.by 2 18 refl refl
+number_no_run (bodies.ConsentGiven f) = no_run f.by 3 19 refl refl
+number_no_run (bodies.ConsentWithdrawn f) = no_run f.by 4 20 refl refl
+number_no_run (bodies.CodeIssued f) = refl
+number_no_run (bodies.CodeRedeemed f) = refl
+number_no_run (bodies.RefreshRotated f) = refl
+number_no_run (bodies.TokenRevoked f) = no_run f.by 8 21 refl refl
+number_no_run (bodies.ReuseSeen f) = refl
+number_no_run (bodies.SubjectOut f) = no_run f.by 10 22 refl refl
+number_no_run (bodies.AccessRefreshed f) = refl
+number_no_run (bodies.SecretSet f) = no_run f.by 15 23 refl refl
 
+-- no body begins with the number of a run
+body_kind : (b : Body) → begins_run (body.spell b) ≡ false
+body_kind b = ap begins_run (body_begins b).1 ∙ number_no_run b
+
+-- the spelling of a fact doesn't begin as that of a run
 fact_begins : (f : Dot × Body) → has_run_kind (fact.spell f) ≡ false
 fact_begins f = behind_dot f.0 (body.spell f.1) ∙ body_kind f.1
 
+-- the spelling of a run begins as that of a run
 run_begins : (r : Dot × ℕ) → has_run_kind (run.spell r) ≡ true
 run_begins r = behind_dot r.0 (run_kind ∷ serial_field.spell r.1)
 
@@ -93,23 +99,25 @@ run_length r =
     ∙ ap (λ n. n + suc (length (number_spelling w64 r.1))) (dot_length r.0)
     ∙ ap (λ n. dot_size + suc n) (number_length w64 r.1)
 
+-- a run has one spelling
 run_exact : IsExact run
 run_exact = only_exact (λ r. nat_lt r.0.serial r.1) _
     (both_exact _ _ dot_field_exact
     (after_exact (run_kind ∷ []) serial_field (only_exact is_serial _ u64_exact)))
 
+-- a run whose last serial is above its first isn't a lone mark
 not_lone : (m n : ℕ) → nat_lt m n ≡ true → eqb m n ≡ false
 not_lone m n h = grind (arith, nat_tests)
 
+-- the first serial of a run isn't above the last
 no_later : (m n : ℕ) → nat_lt m n ≡ true → nat_le m n ≡ true
 no_later m n h = grind (arith, nat_tests)
 
+-- marks from a serial to a later one are a run
 is_run : (m n : ℕ) → nat_le m n ≡ true → eqb m n ≡ false → nat_lt m n ≡ true
 is_run m n h k = grind (arith, nat_tests)
 
-itself : (n : ℕ) → nat_le n n ≡ true
-itself n = grind (arith, nat_tests)
-
+-- numbers that pass the test for equal ones are equal
 same : (m n : ℕ) → eqb m n ≡ true → m ≡ n
 same m n h = grind (arith, nat_tests)
 
@@ -143,7 +151,7 @@ piece_takes bytes p fits e = by_length (eqb (length bytes) dot_size) (has_run_ki
     by_length true u h =
         let r = read_as dot_field dot_field_exact lone bytes p fits h in
         subst (Spells bytes) r.3 (
-          (r.1, r.1.1, itself r.0.serial),
+          (r.1, r.1.1, le-leb r.0.serial r.0.serial (omega arith)),
           r.2 ∙ ap (λ t. cond t (dot_field.spell r.0) (run.spell (r.0, r.0.serial)))
               (sym (eq-eqb r.0.serial r.0.serial refl)),
         )
@@ -183,6 +191,7 @@ piece_exact = framed_exact piece_bytes PieceFits piece_in piece_takes piece_agai
 
 -- ---- items by pieces
 
+-- a count and the pieces that it counts have one spelling
 counted_pieces_exact : IsExact counted_pieces
 counted_pieces_exact =
     counted_exact _ piece (only_exact (λ n. nat_le n max_pieces) _ u16_exact) piece_exact

@@ -32,6 +32,7 @@ GoesOn more (Err Malformed) longer = longer ≡ Err Malformed
 GoesOn more (Err Cut) longer = Unit {0}
 GoesOn more (Err Memory) longer = ⊥
 
+-- a walk that begins with a read goes on with more bytes if the read and the rest of the walk do
 read_on : {A : Type 0} (more : List ℕ) (o longer : Option (A × List ℕ)) (f : A × List ℕ
     → Result (List ℕ) FrontError) → ((x : A × List ℕ) → o ≡ Some x
     → longer ≡ Some (x.0, x.1 ++ more))
@@ -40,6 +41,7 @@ read_on : {A : Type 0} (more : List ℕ) (o longer : Option (A × List ℕ)) (f 
 read_on more None longer f reads next = tt
 read_on more (Some x) longer f reads next = rw (reads x refl) (next x)
 
+-- a walk after a walk goes on with more bytes if both do
 walk_on : (more : List ℕ) (r longer : Result (List ℕ) FrontError) (f : List ℕ
     → Result (List ℕ) FrontError) → GoesOn more r longer
     → ((rest : List ℕ) → GoesOn more (f rest) (f (rest ++ more)))
@@ -49,11 +51,13 @@ walk_on more (Err Malformed) longer f so_far next = rw so_far refl
 walk_on more (Err Cut) longer f so_far next = tt
 walk_on more (Err Memory) longer f so_far next = absurd so_far
 
+-- a walk behind a test for malformed bytes goes on with more bytes if the walk does
 unless : (more : List ℕ) (b : Bool) (r longer : Result (List ℕ) FrontError) → GoesOn more r longer
     → GoesOn more (cond b (Err Malformed) r) (cond b (Err Malformed) longer)
 unless more true r longer h = refl
 unless more false r longer h = h
 
+-- n bytes are read as the same bytes if more follow
 bytes_on : (n : ℕ) (bytes more : List ℕ) (x : List ℕ × List ℕ) → (bytes_of n).read bytes ≡ Some x
     → (bytes_of n).read (bytes ++ more) ≡ Some (x.0, x.1 ++ more)
 unfolding bytes_at
@@ -65,6 +69,7 @@ bytes_on n bytes more x e =
     rw (long, take-append-le n bytes more within, drop-append-le n bytes more within)
     (ap (λ (y : List ℕ × List ℕ). Some (y.0, y.1 ++ more)) g.1)
 
+-- a number of two bytes is read as the same number if more bytes follow
 number_on : (bytes more : List ℕ) (x : ℕ × List ℕ) → (number w16).read bytes ≡ Some x
     → (number w16).read (bytes ++ more) ≡ Some (x.0, x.1 ++ more)
 unfolding number_at
@@ -77,12 +82,14 @@ number_on bytes more x e =
     rw (long, take-append-le 2 bytes more within, drop-append-le 2 bytes more within)
     (ap (λ (y : ℕ × List ℕ). Some (y.0, y.1 ++ more)) g.1)
 
+-- the walk over one length and its bytes goes on with more bytes
 skipped_on : (bytes more : List ℕ) → GoesOn more (skipped bytes) (skipped (bytes ++ more))
 skipped_on bytes more =
     read_on more _ _ _ (number_on bytes more) (λ n.
     unless more (ltb max_bytes n.0) _ _ (read_on more _ _ (λ b. Ok b.1) (bytes_on n.0 n.1 more)
     (λ b. refl)))
 
+-- the walk over many lengths and their bytes goes on with more bytes
 many_on : (n : ℕ) (bytes more : List ℕ)
     → GoesOn more (skipped_many n bytes) (skipped_many n (bytes ++ more))
 unfolding skipped_many
@@ -91,12 +98,14 @@ many_on (suc n) bytes more =
     walk_on more (skipped bytes) (skipped (bytes ++ more)) (λ rest. skipped_many n rest)
     (skipped_on bytes more) (λ rest. many_on n rest more)
 
+-- a byte is read as the same byte if more follow
 byte_on : (bytes more : List ℕ) (x : ℕ × List ℕ) → byte.read bytes ≡ Some x
     → byte.read (bytes ++ more) ≡ Some (x.0, x.1 ++ more)
 byte_on [] more x e = absurd cc
 byte_on (b ∷ bytes) more x e =
     ap (λ (y : ℕ × List ℕ). Some (y.0, y.1 ++ more)) (some_is (b, bytes) x e)
 
+-- the magic and the digit are read as the same if more bytes follow
 opening_on : (bytes more : List ℕ) (x : (List ℕ × ℕ) × List ℕ) → opening.read bytes ≡ Some x
     → opening.read (bytes ++ more) ≡ Some (x.0, x.1 ++ more)
 opening_on bytes more x e =
@@ -105,6 +114,7 @@ opening_on bytes more x e =
     rw (bytes_on 3 bytes more m.0 m.1, byte_on m.0.1 more v.0 v.1)
     (ap (λ (y : (List ℕ × ℕ) × List ℕ). Some (y.0, y.1 ++ more)) (some_is _ x v.2))
 
+-- the horizon and the count are read as the same if more bytes follow
 header_on : (digit : ℕ) (bytes more : List ℕ) (x : (List ℕ × ℕ) × List ℕ)
     → (header digit).read bytes ≡ Some x
     → (header digit).read (bytes ++ more) ≡ Some (x.0, x.1 ++ more)
@@ -122,6 +132,7 @@ short_on more true still r longer h on = tt
 short_on more false true r longer h on = let e = h refl in absurd cc
 short_on more false false r longer h on = on
 
+-- the walk over a bundle goes on with more bytes
 walk_goes_on : (bytes more : List ℕ) → GoesOn more (walk bytes) (walk (bytes ++ more))
 walk_goes_on bytes more =
     short_on more (ltb (length bytes) least_header) (ltb (length (bytes ++ more)) least_header) _ _

@@ -13,6 +13,8 @@ use Rattle.std.specs.List.{list_any}
 use Rattle.std.proofs.lemmas.Bool.Decides.{nat_tests}
 use Rattle.std.proofs.Math.Bool.{and-true}
 use Rattle.tk_handle.specs.declared.dot.Dot.{Dot}
+use Rattle.tk_fact.specs.Administered.{by_of}
+use Rattle.tk_fact.specs.declared.by.By.{By}
 use Rattle.tk_fact.specs.declared.client_kind.ClientKind.{ClientKind}
 use Rattle.tk_fact.specs.declared.client_kind.ClientKind.TheVariants.{
   Public,
@@ -29,15 +31,17 @@ use Rattle.tk_store.specs.WholeStores.{as_slot}
 use Rattle.tk_bundle.specs.BundleFields.{Items, is_mark}
 use Rattle.tk_bundle.specs.Bundle.{digit_told}
 use Rattle.tk_bundle.specs.Versions.{kind_of_client, is_newer_client, kind_of, kind_in, newest_kind}
-use Rattle.tk_bundle.specs.Versions.{version_with}
+use Rattle.tk_bundle.specs.Versions.{version_with, bare_kind_of, kind_by, is_newer_bare}
+use Rattle.tk_bundle.specs.Versions.{is_newer_by}
 use Rattle.tk_bundle.specs.Versions.{version_of, is_version, has_horizon, has_runs, is_newer}
 use Rattle.tk_bundle.specs.Versions.{is_sign_out}
 
 -- All kinds are in the table; the kinds up to 10 are those of facts without a client that keeps its
--- refresh token or has lives, and without a change of a secret; the kinds up to 9, those of these
--- without sign-outs
+-- refresh token or has lives, without a change of a secret, and without an operator; the kinds up
+-- to
+-- 9, those of these without sign-outs
 record KindTold (kind : ℕ) (newer out : Bool) : Type 0 where
-  known : kind ≤ 15
+  known : kind ≤ 23
   up_to_10 : nat_le kind 10 ≡ not newer
   up_to_9 : nat_le kind 9 ≡ (not newer && not out)
 
@@ -58,44 +62,61 @@ plain kind low = record {
   up_to_9 = grind (arith, nat_tests);
 }
 
-fact_kind : (d : Dot) (b : Body)
-    → KindTold (kind_of b) (is_newer (d, Held b)) (is_sign_out (d, Held b))
-fact_kind d (bodies.ClientAdded f) = registered f.client_kind f.lives
-fact_kind d (bodies.ClientRetired f) = plain 2 (omega arith)
-fact_kind d (bodies.ConsentGiven f) = plain 3 (omega arith)
-fact_kind d (bodies.ConsentWithdrawn f) = plain 4 (omega arith)
-fact_kind d (bodies.CodeIssued f) = plain 5 (omega arith)
-fact_kind d (bodies.CodeRedeemed f) = plain 6 (omega arith)
-fact_kind d (bodies.RefreshRotated f) = plain 7 (omega arith)
-fact_kind d (bodies.TokenRevoked f) = plain 8 (omega arith)
-fact_kind d (bodies.ReuseSeen f) = plain 9 (omega arith)
-fact_kind d (bodies.SubjectOut f) =
+-- the kind of a fact, its operator aside, shows whether it is newer and whether a sign-out
+bare_kind : (d : Dot) (b : Body)
+    → KindTold (bare_kind_of b) (is_newer_bare b) (is_sign_out (d, Held b))
+bare_kind d (bodies.ClientAdded f) = registered f.client_kind f.lives
+bare_kind d (bodies.ClientRetired f) = plain 2 (omega arith)
+bare_kind d (bodies.ConsentGiven f) = plain 3 (omega arith)
+bare_kind d (bodies.ConsentWithdrawn f) = plain 4 (omega arith)
+bare_kind d (bodies.CodeIssued f) = plain 5 (omega arith)
+bare_kind d (bodies.CodeRedeemed f) = plain 6 (omega arith)
+bare_kind d (bodies.RefreshRotated f) = plain 7 (omega arith)
+bare_kind d (bodies.TokenRevoked f) = plain 8 (omega arith)
+bare_kind d (bodies.ReuseSeen f) = plain 9 (omega arith)
+bare_kind d (bodies.SubjectOut f) =
     record { known = omega arith; up_to_10 = refl; up_to_9 = refl }
-fact_kind d (bodies.AccessRefreshed f) =
+bare_kind d (bodies.AccessRefreshed f) =
     record { known = omega arith; up_to_10 = refl; up_to_9 = refl }
-fact_kind d (bodies.SecretSet f) =
+bare_kind d (bodies.SecretSet f) =
     record { known = omega arith; up_to_10 = refl; up_to_9 = refl }
 
+-- a kind, or the newest if an operator is named
+named_kind : (kind : ℕ) (newer out : Bool) (o : Option By) → KindTold kind newer out
+    → KindTold (kind_by kind o) (is_newer_by newer o) out
+named_kind kind newer out None h = h
+named_kind kind newer out (Some by) h =
+    record { known = omega arith; up_to_10 = refl; up_to_9 = refl }
+
+-- the kind of a fact shows whether it is newer and whether a sign-out
+fact_kind : (d : Dot) (b : Body)
+    → KindTold (kind_of b) (is_newer (d, Held b)) (is_sign_out (d, Held b))
+fact_kind d b = named_kind (bare_kind_of b) (is_newer_bare b) (is_sign_out (d, Held b)) (by_of b)
+    (bare_kind d b)
+
+-- the kind of an item shows whether it is newer and whether a sign-out
 kind_told : (i : Dot × Slot) → KindTold (kind_in i.1) (is_newer i) (is_sign_out i)
 kind_told (d, Held b) = fact_kind d b
 kind_told (d, Skipped) = plain 0 (omega arith)
 
+-- the greater of two numbers is within a limit exactly if both are
 greater : (limit m n : ℕ) → nat_le (max m n) limit ≡ (nat_le m limit && nat_le n limit)
 greater limit m n = grind (arith, nat_tests)
 
+-- without one and without another is without either of the two
 either : (low a b : Bool) → ((low && not a) && not b) ≡ (low && not (a || b))
 either true true b = refl
 either true false b = refl
 either false a b = refl
 
 -- the newest kind is in the table
-newest_known : (last : ℕ) (items : Items) → last ≤ 15 → newest_kind last items ≤ 15
+newest_known : (last : ℕ) (items : Items) → last ≤ 23 → newest_kind last items ≤ 23
 newest_known last [] low = low
 newest_known last (i ∷ more) low =
     newest_known (max last (kind_in i.1)) more (omega (arith, (kind_told i).known))
 
 -- the newest kind is at most 10 exactly if no item is of a client that keeps its refresh token or
--- has lives, or a change of a secret
+-- has lives, or a change of a secret, or names an operator
 newest_newer : (last : ℕ) (items : Items)
     → nat_le (newest_kind last items) 10 ≡ (nat_le last 10 && not (list_any is_newer items))
 newest_newer last [] = sym (and-true (nat_le last 10))
@@ -127,7 +148,7 @@ newest_told last (i ∷ more) =
     sorted false a o b p = refl
 
 -- the digit by the newest kind, and by whether there are marks and runs
-by_kind : (kind : ℕ) (runs newer marked out : Bool) → kind ≤ 15 → nat_le kind 10 ≡ not newer
+by_kind : (kind : ℕ) (runs newer marked out : Bool) → kind ≤ 23 → nat_le kind 10 ≡ not newer
     → nat_le kind 9 ≡ (not newer && not out)
     → version_with kind marked runs ≡ digit_told runs newer marked out
 by_kind kind true newer true out low k o = grind (arith, nat_tests)

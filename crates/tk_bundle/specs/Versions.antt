@@ -10,14 +10,16 @@
 --   has_runs       a version has runs of marks
 --   is_sign_out    an item is a sign-out
 --   is_newer       an item is of a client that keeps its refresh token or has lives, or is a change
---                  of a secret
+--                  of a secret, or a fact in which an operator is named
 use Rattle.std.specs.Prelude.{ℕ, max, Bool, true, false, ◌&&◌, ◌||◌, not, nat_le, ◌==◌}
 use Rattle.std.specs.Prelude.{List, [], ◌∷◌, Option, Some, None, if◌then◌else◌}
 use Rattle.std.specs.List.{list_any}
 use Rattle.tk_handle.specs.declared.dot.Dot.{Dot}
 use Rattle.tk_fact.specs.declared.client_kind.ClientKind.{ClientKind}
 use Rattle.tk_fact.specs.declared.client_lives.ClientLives.{ClientLives}
+use Rattle.tk_fact.specs.Administered.{by_of}
 use Rattle.tk_fact.specs.ClientKinds.{keeps_refresh}
+use Rattle.tk_fact.specs.declared.by.By.{By}
 use Rattle.tk_fact.specs.declared.body.Body.{Body}
 use Rattle.tk_fact.specs.declared.body.Body.TheVariants as bodies
 use Rattle.tk_store.specs.Slots.{Slot, Held, Skipped}
@@ -34,9 +36,9 @@ versions =
     record { digit = 49; kinds = 9; marks = false; runs = false }
     ∷ record { digit = 50; kinds = 10; marks = false; runs = false }
     ∷ record { digit = 51; kinds = 10; marks = true; runs = false }
-    ∷ record { digit = 52; kinds = 15; marks = false; runs = false }
-    ∷ record { digit = 53; kinds = 15; marks = true; runs = false }
-    ∷ record { digit = 54; kinds = 15; marks = true; runs = true }
+    ∷ record { digit = 52; kinds = 23; marks = false; runs = false }
+    ∷ record { digit = 53; kinds = 23; marks = true; runs = false }
+    ∷ record { digit = 54; kinds = 23; marks = true; runs = true }
     ∷ []
 
 -- The number of the kind that a version must have for a client: that of clients with lives; that of
@@ -46,21 +48,30 @@ abbrev pub kind_of_client : ClientKind → Option ClientLives → ℕ
 kind_of_client client_kind (Some lives) = 13
 kind_of_client client_kind None = if keeps_refresh client_kind then 12 else 1
 
--- the number of the kind that a version must have for a body: that of the client that it adds, or
--- else the body's own
+-- the number of the kind that a version must have for a body in which no operator is named: that of
+-- the client that it adds, or else the body's own
+abbrev pub bare_kind_of : Body → ℕ
+bare_kind_of (bodies.ClientAdded f) = kind_of_client f.client_kind f.lives
+bare_kind_of (bodies.ClientRetired f) = 2
+bare_kind_of (bodies.ConsentGiven f) = 3
+bare_kind_of (bodies.ConsentWithdrawn f) = 4
+bare_kind_of (bodies.CodeIssued f) = 5
+bare_kind_of (bodies.CodeRedeemed f) = 6
+bare_kind_of (bodies.RefreshRotated f) = 7
+bare_kind_of (bodies.TokenRevoked f) = 8
+bare_kind_of (bodies.ReuseSeen f) = 9
+bare_kind_of (bodies.SubjectOut f) = 10
+bare_kind_of (bodies.AccessRefreshed f) = 12
+bare_kind_of (bodies.SecretSet f) = 15
+
+-- the number of a kind, or the newest if an operator is named
+abbrev pub kind_by : ℕ → Option By → ℕ
+kind_by kind None = kind
+kind_by kind (Some by) = 23
+
+-- the number of the kind that a version must have for a body
 abbrev pub kind_of : Body → ℕ
-kind_of (bodies.ClientAdded f) = kind_of_client f.client_kind f.lives
-kind_of (bodies.ClientRetired f) = 2
-kind_of (bodies.ConsentGiven f) = 3
-kind_of (bodies.ConsentWithdrawn f) = 4
-kind_of (bodies.CodeIssued f) = 5
-kind_of (bodies.CodeRedeemed f) = 6
-kind_of (bodies.RefreshRotated f) = 7
-kind_of (bodies.TokenRevoked f) = 8
-kind_of (bodies.ReuseSeen f) = 9
-kind_of (bodies.SubjectOut f) = 10
-kind_of (bodies.AccessRefreshed f) = 12
-kind_of (bodies.SecretSet f) = 15
+kind_of b = kind_by (bare_kind_of b) (by_of b)
 
 -- the number of the kind that a version must have for a fact; 0 for a mark, which needs no kind
 abbrev pub kind_in : Slot → ℕ
@@ -117,11 +128,21 @@ abbrev pub is_newer_client : ClientKind → Option ClientLives → Bool
 is_newer_client client_kind (Some lives) = true
 is_newer_client client_kind None = keeps_refresh client_kind
 
--- the item is of a client that keeps its refresh token, or has lives: its registration, or an
+-- the body is of a client that keeps its refresh token, or has lives: its registration, or an
 -- access token that it refreshed; or it is a change of a client's secret
+abbrev pub is_newer_bare : Body → Bool
+is_newer_bare (bodies.ClientAdded f) = is_newer_client f.client_kind f.lives
+is_newer_bare (bodies.AccessRefreshed f) = true
+is_newer_bare (bodies.SecretSet f) = true
+is_newer_bare b = false
+
+-- the body is one of these, or an operator is named in it
+abbrev pub is_newer_by : Bool → Option By → Bool
+is_newer_by newer None = newer
+is_newer_by newer (Some by) = true
+
+-- the item is of a client that keeps its refresh token or has lives, or is a change of a secret, or
+-- a fact in which an operator is named
 abbrev pub is_newer : Dot × Slot → Bool
-is_newer (d, Held (bodies.ClientAdded f)) = is_newer_client f.client_kind f.lives
-is_newer (d, Held (bodies.AccessRefreshed f)) = true
-is_newer (d, Held (bodies.SecretSet f)) = true
-is_newer (d, Held b) = false
+is_newer (d, Held b) = is_newer_by (is_newer_bare b) (by_of b)
 is_newer (d, Skipped) = false

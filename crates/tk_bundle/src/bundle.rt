@@ -32,9 +32,9 @@ impl Model for Bundle {
 
 ghost use Rattle.std.specs.Prelude.{◌≡◌, ◌≢◌, ◌++◌, [], List, ℕ, IfOk, IsErrOf};
 ghost use Rattle.tk_format.specs.Reading.{Gets, GetsAll};
-ghost use Rattle.tk_bundle.specs.BundleFields.{BundleFields};
 ghost use Rattle.tk_bundle.specs.Bundle.{counted_items, versioned, listed, bundle, bundle_bytes};
 ghost use Rattle.tk_bundle.specs.Bundle.{contents, horizon_field, items_by, VersionsTold};
+ghost use Rattle.tk_bundle.specs.BundleFields.{BundleFields};
 
 use crate::order::is_ascending;
 use crate::pieces::read_pieced;

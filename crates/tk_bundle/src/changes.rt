@@ -2,9 +2,9 @@
 
 ghost use Rattle.std.specs.Prelude.{◌≡◌, ◌≤◌, ◌++◌, ◌∷◌, filter, length, IfOk, OnOk};
 ghost use Rattle.std.specs.FinMap as map;
+ghost use Rattle.std.specs.Int.{w16};
 ghost use Rattle.std.specs.List.{AllByRecursion, flat_map};
 ghost use Rattle.std.specs.Option.{option_map};
-ghost use Rattle.std.specs.Int.{w16};
 ghost use Rattle.tk_format.specs.Format.{number};
 ghost use Rattle.tk_bundle.specs.Bundle.{bundle, bundle_bytes, horizon_bytes, magic, max_items};
 ghost use Rattle.tk_bundle.specs.Items.{item};
@@ -28,6 +28,8 @@ use tk_store::{FactStore, SlotRef};
 /// bundle without the facts at skipped dots, which the store drops. Returns `None` if the bundle
 /// changes nothing: it raises no horizon, has no unknown dot, and no mark of a fact that is held.
 /// Returns an error, and no part of a record, if memory runs out.
+///
+/// Each bundle that [`Bundle::read`] or `read_front` returned has the spelling that is required.
 pub fn news(alloc: Global, store: &FactStore, sent: &Bundle) -> Result<Option<Vec<u8>>, AllocError>
     requires { bundle.Fits sent.now }
     ensures news { IfOk result (λ news. option_map (λ bytes. bytes.items) news

@@ -2,8 +2,8 @@
 
 ghost use Rattle.std.specs.Prelude.{◌≡◌, ◌≢◌, ◌≤◌, ◌++◌, [], List, ℕ, length, take, IfOk, IsErrOf};
 ghost use Rattle.std.specs.Prelude.{Err};
-ghost use Rattle.tk_bundle.specs.BundleFields.{BundleFields};
 ghost use Rattle.tk_bundle.specs.Bundle.{bundle, bundle_bytes};
+ghost use Rattle.tk_bundle.specs.BundleFields.{BundleFields};
 ghost use Rattle.tk_bundle.specs.Front as spec;
 ghost use Rattle.tk_bundle.specs.Front.{Walks, IsCut, skipped, skipped_many, walk, IsFrontOf};
 ghost use Rattle.tk_bundle.specs.declared.error.FrontError.{FrontError as AnyError};
@@ -16,7 +16,7 @@ use tk_fact::Fact;
 use tk_format::{ReadError, Reader};
 
 // The least number of bytes before the items: the magic, a digit, and a count.
-const LEAST_HEADER: usize = 6;
+const MIN_HEADER: usize = 6;
 
 // The number of bytes of a horizon.
 const HORIZON_BYTES: usize = 8;
@@ -67,7 +67,7 @@ fn unread(error: ReadError) -> FrontError
 fn walk(reader: &mut Reader<'_>) -> Result<(), FrontError>
     ensures { Walks result (walk reader.old) reader.new }
 {
-    if reader.len() < LEAST_HEADER {
+    if reader.len() < MIN_HEADER {
         return Err(FrontError::Cut);
     }
     let front = reader.take_bytes(MAGIC.len()).ok_or(FrontError::Cut)?;

@@ -28,12 +28,12 @@ impl Model for Item {
 }
 
 ghost use Rattle.std.specs.Prelude.{◌≡◌};
+ghost use Rattle.tk_format.specs.Format.{whole};
+ghost use Rattle.tk_handle.specs.DotBytes.{dot_field};
 ghost use Rattle.tk_store.specs.SlotShown.{HasDot, shown_slot};
 ghost use Rattle.tk_store.specs.WholeStores.{as_slot};
 ghost use Rattle.tk_bundle.specs.BundleFields.{fact_of, is_mark};
 ghost use Rattle.tk_bundle.specs.Items.{GetsItem, mark_at};
-ghost use Rattle.tk_format.specs.Format.{whole};
-ghost use Rattle.tk_handle.specs.DotBytes.{dot_field};
 
 use std::alloc::Global;
 use tk_format::{FromBytes, ReadError, Reader};

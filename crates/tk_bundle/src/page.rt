@@ -22,11 +22,11 @@ ghost use Rattle.tk_format.specs.Format.{number};
 ghost use Rattle.tk_handle.specs.Moment.{moment};
 ghost use Rattle.tk_fact.specs.Check.{refusal_of};
 ghost use Rattle.tk_store.specs.Slots.{is_skipped};
+ghost use Rattle.tk_bundle.specs.Bundle.{magic, max_items, bundle, bundle_bytes, horizon_bytes};
 ghost use Rattle.tk_bundle.specs.BundleFields.{is_mark, of_facts};
 ghost use Rattle.tk_bundle.specs.Items.{item, mark_at};
-ghost use Rattle.tk_bundle.specs.Versions.{newest_kind};
-ghost use Rattle.tk_bundle.specs.Bundle.{magic, max_items, bundle, bundle_bytes, horizon_bytes};
 ghost use Rattle.tk_bundle.specs.Page as spec;
+ghost use Rattle.tk_bundle.specs.Versions.{newest_kind};
 
 use crate::bundle::{MAGIC, MAX_ITEMS};
 use crate::item::DOT_BYTES;
@@ -233,8 +233,8 @@ pub(crate) fn write_mark(dot: Dot, writer: &mut Writer) -> Result<(), AllocError
     dot.write(writer)
 }
 
-/// Writes the bundle of one fact that passes its check: a record of a log. Returns an error, and no
-/// part of a record, if memory runs out.
+/// Writes the bundle of one fact that passes its check (`Fact::check`): a record of a log. Returns
+/// an error, and no part of a record, if memory runs out.
 pub fn single(alloc: Global, fact: &Fact) -> Result<Vec<u8>, AllocError>
     requires { refusal_of fact.now.1 ≡ None }
     ensures spelled { IfOk result (λ bytes. bytes.items ≡ bundle_bytes (of_facts

@@ -4,8 +4,8 @@ ghost use Rattle.std.specs.Prelude.{◌≡◌, ◌≤◌, ◌++◌, ◌∷◌, [
 ghost use Rattle.std.specs.List.{AllByRecursion};
 ghost use Rattle.tk_handle.specs.Moment.{moment};
 ghost use Rattle.tk_store.specs.FactSet.{dot_of};
-ghost use Rattle.tk_bundle.specs.BundleFields.{Items};
 ghost use Rattle.tk_bundle.specs.Bundle.{bundle};
+ghost use Rattle.tk_bundle.specs.BundleFields.{Items};
 ghost use Rattle.tk_bundle.specs.Items.{item};
 ghost use Rattle.tk_bundle.specs.Page.{IsPageOf, items_at};
 ghost use Rattle.tk_bundle.specs.PieceBytes.{max_pieces, max_run_items};

@@ -37,19 +37,19 @@ const VERSIONS: [Version; 6] = [
     },
     Version {
         digit: b'4',
-        kinds: 15,
+        kinds: 23,
         marks: false,
         runs: false,
     },
     Version {
         digit: b'5',
-        kinds: 15,
+        kinds: 23,
         marks: true,
         runs: false,
     },
     Version {
         digit: b'6',
-        kinds: 15,
+        kinds: 23,
         marks: true,
         runs: true,
     },
@@ -81,10 +81,10 @@ fn kind_of_client(client: &ClientAdded) -> u8
     }
 }
 
-// Returns the number of the kind that a version must have for a body: that of the client that it
-// adds, or else the body's own.
-pub(crate) fn kind_of(body: &Body) -> u8
-    ensures { result ≡ spec.kind_of body.now }
+// Returns the number of the kind that a version must have for a body in which no operator is named:
+// that of the client that it adds, or else the body's own.
+fn bare_kind_of(body: &Body) -> u8
+    ensures { result ≡ spec.bare_kind_of body.now }
 {
     match body {
         Body::ClientAdded(client) => kind_of_client(client),
@@ -99,6 +99,17 @@ pub(crate) fn kind_of(body: &Body) -> u8
         Body::SubjectOut(_) => 10,
         Body::AccessRefreshed(_) => 12,
         Body::SecretSet(_) => 15,
+    }
+}
+
+// Returns the number of the kind that a version must have for a body: the newest if an operator is
+// named in it.
+pub(crate) fn kind_of(body: &Body) -> u8
+    ensures { result ≡ spec.kind_of body.now }
+{
+    match body.by() {
+        None => bare_kind_of(body),
+        Some(_) => 23,
     }
 }
 

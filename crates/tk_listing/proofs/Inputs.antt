@@ -4,10 +4,9 @@
 --   goes_on       reading goes on
 --   stops         a fault of what was read ends the printing
 --   stopped       a fault of the input, or of memory, ends the printing
---   at_end        the input ends
---   more_goes, more_stops, read_stops, read_ends   these, by what the parts of a turn ensure
+--   more_goes, more_stops, read_stops   these, by what the parts of a turn ensure
 use Rattle.std.proofs.Common.{◌≡◌, ℕ, ◌+◌, List, [], ◌++◌, length, length-append, length-drop, drop}
-use Rattle.std.proofs.Common.{Option, Some, None, Result, Ok, Err, Bool, false, inl, inr, refl, sym}
+use Rattle.std.proofs.Common.{Option, Some, None, Result, Ok, Err, Bool, inl, inr, refl, sym}
 use Rattle.std.proofs.Common.{ap, subst, ◌∙◌, append-nil, arith}
 use Rattle.std.specs.Prelude.{IfSome}
 use Rattle.std.proofs.KnownBytes.{Appends-nil, Appends-trans, Consumes-nil, Consumes-trans}
@@ -54,6 +53,7 @@ pub record Went (known left : Option (List ℕ)) (grown : List ℕ) (offset used
   pub place : (offset + used) + length (drop used grown) ≡ length seen
   pub ends : EndsAt end (drop used grown) lines old now
 
+-- an end with some lines is, with the lines that were printed before, an end too
 ends_later : (end : End) (rest before lines : List ℕ) (old mid new : Option (List ℕ))
     → Appends old mid before → EndsAt end rest lines mid new
     → EndsAt end rest (before ++ lines) old new
@@ -106,6 +106,7 @@ goes_on known left grown offset used old now went = record {
   place = went.place;
 }
 
+-- the bytes that were consumed of an input are a beginning of that input
 is_seen : (known left : Option (List ℕ)) (seen : List ℕ) → Consumes known left seen
     → IsSeen known seen
 is_seen None left seen h = tt
@@ -176,20 +177,6 @@ whole (Some x) (Some y) None seen one two end = absurd two
 whole (Some x) (Some y) (Some z) seen one two end =
     one ∙ ap (λ (l : List ℕ). seen ++ l) (two ∙ end) ∙ append-nil seen
 
--- an input that has ended is listed, but for what is left
-pub at_end : (known left last : Option (List ℕ)) (buffer : List ℕ) (offset : ℕ)
-    (old now : Option (List ℕ))
-    → Going known left buffer offset old now → Consumes left last [] → IsAtEnd last
-    → PrintsInput known (Ok (length buffer)) old now
-at_end known left last buffer offset old now going reads end = record {
-  seen = going.seen;
-  rest = buffer;
-  lines = going.lines;
-  begins = is_seen known left going.seen going.sees;
-  shows = going.shows;
-  ends = (whole known left last going.seen going.sees reads end, going.over, refl, going.printed);
-}
-
 -- printing a buffer that was read goes on from what was read and printed before
 went : (known left left2 : Option (List ℕ)) (buffer grown : List ℕ) (offset : ℕ)
     (result : Result (List ℕ × ℕ) PrintFault) (old now new : Option (List ℕ)) (more : Bool)
@@ -219,6 +206,7 @@ goes known left grown offset used ends.Malformed None p old now went at is = abs
 goes known left grown offset used ends.Memory place p old now went at is = absurd (cc)
 goes known left grown offset used ends.Output place p old now went at is = absurd (cc)
 
+-- the rest of the bytes and the offset after success
 abbrev ok_of : Result (List ℕ × ℕ) PrintFault → List ℕ × ℕ
 ok_of (Ok x) = x
 ok_of (Err e) = ([], 0)
@@ -245,6 +233,7 @@ more_goes known left left2 buffer grown rest offset p old now new more going rea
         (goes known left2 grown offset prints.used prints.end prints.place q old new made prints.at
         is)
 
+-- the fault after an error
 abbrev err_of : Result (List ℕ × ℕ) PrintFault → PrintFault
 err_of (Ok x) = Read
 err_of (Err e) = e
@@ -286,16 +275,3 @@ read_stops known left buffer offset fault old now going (inl e) =
 read_stops known left buffer offset fault old now going (inr e) =
     subst (λ (f : PrintFault). PrintsInput known (Err f) old now) (sym e)
     (stopped known left buffer offset old now Memory going (λ s r l h. h))
-
--- the input ends
-pub read_ends : (known left left2 : Option (List ℕ)) (buffer grown : List ℕ) (offset : ℕ)
-    (old now : Option (List ℕ))
-    → Going known left buffer offset old now → ReadsMore false left left2 buffer grown
-    → PrintsInput known (Ok (length grown)) old now
-read_ends known left left2 buffer grown offset old now going reads =
-    let none = reads.3 refl in
-    let same : grown ≡ buffer =
-    reads.2 ∙ ap (λ (l : List ℕ). buffer ++ l) none.0 ∙ append-nil buffer in
-    subst (λ (l : List ℕ). PrintsInput known (Ok (length l)) old now) (sym same)
-    (at_end known left left2 buffer offset old now going
-    (subst (Consumes left left2) none.0 reads.1) none.1)

@@ -38,6 +38,7 @@ shows_one bytes piece n front = record {
   shown = sym (append-nil (piece_lines piece));
 }
 
+-- pieces, and more pieces behind them, are pieces
 are_more : (some more : List Piece) → ArePieces some → ArePieces more → ArePieces (some ++ more)
 are_more [] more all others = others
 are_more (p ∷ some) more all others = (all.0, are_more some more all.1 others)
@@ -93,6 +94,7 @@ abbrev pub Printed : List ℕ → ℕ → Option (List ℕ) → Option (List ℕ
 Printed bytes used old now = (used ≤ length bytes)
     × ((lines : List ℕ) × Shows bytes (drop used bytes) lines × Appends old now lines)
 
+-- an offset within the rest of some bytes is within the bytes
 within : (bytes : List ℕ) (used n : ℕ) → used ≤ length bytes → n ≤ length (drop used bytes)
     → used + n ≤ length bytes
 within bytes used n low more = omega (arith, length-drop used bytes, low, more)

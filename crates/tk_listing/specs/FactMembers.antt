@@ -1,13 +1,15 @@
 -- The members of a fact's fields in its line (own), in the order of its bytes. Each begins with a
 -- comma.
 --   client_fields    those of a client that is added; so for each kind of fact with several fields
---   fields_of        those of any fact
+--   by_members       by whom and when a fact was administered
+--   fields_of        those of any fact, without these
 use Rattle.std.specs.Prelude.{ℕ, Bool, List, [], ◌++◌, codes, Option, Some, None}
 use Rattle.std.specs.Prelude.{if◌then◌else◌}
 use Rattle.tk_handle.specs.declared.kind.Kind.{Kind}
 use Rattle.tk_handle.specs.declared.kind.Kind.TheVariants.{Code, Access, Refresh}
 use Rattle.tk_handle.specs.declared.token_id.TokenId.{TokenId}
 use Rattle.tk_match.specs.Challenge.{ChallengeFields}
+use Rattle.tk_fact.specs.declared.by.By.{By}
 use Rattle.tk_fact.specs.declared.client_kind.ClientKind.{ClientKind}
 use Rattle.tk_fact.specs.declared.client_kind.ClientKind.TheVariants.{
   Public,
@@ -29,7 +31,7 @@ use Rattle.tk_fact.specs.declared.minted_token.MintedToken.{MintedToken}
 use Rattle.tk_fact.specs.declared.body.Body.{Body}
 use Rattle.tk_fact.specs.declared.body.Body.TheVariants as bodies
 use Rattle.tk_listing.specs.Members.{named, plain_member, text_member, texts_member, number_member}
-use Rattle.tk_listing.specs.Members.{flag_member, dot_member, moment_member, hex_text}
+use Rattle.tk_listing.specs.Members.{flag_member, dot_member, moment_member, hex_text, quoted}
 
 -- the client kind, and the digest of the client's secret
 unfoldable pub secret_members : List ℕ → List ℕ → List ℕ
@@ -181,6 +183,21 @@ set_fields f =
     ++ (number_member (codes "turn") f.turn
     ++ (plain_member (codes "secret_digest") (hex_text f.digest)
     ++ moment_member (codes "moment") f.moment))
+
+-- the beginning of an object with an operator
+unfoldable pub begun_by : List ℕ → List ℕ
+begun_by operator = codes "{\"operator\":" ++ quoted operator
+
+-- by whom and when, as an object
+unfoldable pub by_member : By → List ℕ
+by_member by =
+    named (codes "by")
+    ++ (begun_by by.operator ++ (moment_member (codes "moment") by.moment ++ codes "}"))
+
+-- by whom and when, if an operator was named
+unfoldable pub by_members : Option By → List ℕ
+by_members None = []
+by_members (Some by) = by_member by
 
 -- the members of a fact's fields, in the order of its bytes
 unfoldable pub fields_of : Body → List ℕ

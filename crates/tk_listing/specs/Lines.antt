@@ -13,6 +13,7 @@ use Rattle.std.specs.Prelude.{if◌then◌else◌}
 use Rattle.std.specs.List.{flat_map}
 use Rattle.tk_handle.specs.declared.dot.Dot.{Dot}
 use Rattle.tk_handle.specs.DotText.{dot_text}
+use Rattle.tk_fact.specs.Administered.{by_of}
 use Rattle.tk_fact.specs.declared.body.Body.{Body}
 use Rattle.tk_fact.specs.declared.body.Body.TheVariants as bodies
 use Rattle.tk_store.specs.Slots.{Slot, Held, Skipped}
@@ -21,7 +22,7 @@ use Rattle.tk_handle.specs.Ranges.{greatest_region}
 use Rattle.tk_vector.specs.VersionVector.{Vector, entry}
 use Rattle.tk_listing.specs.Members.{plain_member, number_member}
 use Rattle.tk_listing.specs.Members.{moment_member}
-use Rattle.tk_listing.specs.FactMembers.{fields_of}
+use Rattle.tk_listing.specs.FactMembers.{by_members, fields_of}
 
 -- the name of a fact's kind
 unfoldable pub kind_name : Body → List ℕ
@@ -43,9 +44,11 @@ unfoldable pub begun_line : Dot → List ℕ → List ℕ
 begun_line d kind =
     codes "{\"dot\":\"" ++ (dot_text d ++ (codes "\"" ++ plain_member (codes "kind") kind))
 
--- the line of a fact
+-- the line of a fact: its dot, its kind, its fields, and by whom and when
 unfoldable pub fact_line : Dot → Body → List ℕ
-fact_line d body = begun_line d (kind_name body) ++ (fields_of body ++ codes "}\n")
+fact_line d body =
+    begun_line d (kind_name body)
+    ++ (fields_of body ++ (by_members (by_of body) ++ codes "}\n"))
 
 -- the horizon of a bundle, if it has one
 unfoldable pub horizon_members : Option ℕ → List ℕ

@@ -1,15 +1,16 @@
 //! Writes the members of a fact's fields, in the order of its bytes.
 
 ghost use Rattle.std.specs.Prelude.{◌≡◌, ◌++◌, OnOk};
+ghost use Rattle.std.specs.Option.{option_copied};
 ghost use Rattle.tk_listing.specs.FactMembers as spec;
 
 use crate::members::{
-    put_digits, put_dot, put_flag, put_hex, put_name, put_number, put_plain, put_text, put_time,
-    put_uris,
+    put_digits, put_dot, put_flag, put_hex, put_name, put_number, put_plain, put_quoted, put_text,
+    put_time, put_uris,
 };
 use std::alloc::AllocError;
 use tk_fact::{
-    AccessRefreshed, Body, ClientAdded, ClientKind, ClientLives, CodeIssued, CodeRedeemed,
+    AccessRefreshed, Body, By, ClientAdded, ClientKind, ClientLives, CodeIssued, CodeRedeemed,
     ConsentGiven, MintedToken, RefreshRotated, SecretSet, SubjectOut, TokenRevoked,
 };
 use tk_format::Writer;
@@ -35,6 +36,37 @@ pub(crate) fn put_fields(writer: &mut Writer, body: &Body) -> Result<(), AllocEr
         Body::AccessRefreshed(fields) => put_refreshed(writer, fields),
         Body::SecretSet(fields) => put_secret_set(writer, fields),
     }
+}
+
+/// Writes by whom and when a fact was administered, if an operator was named.
+#[tactic(auto, unfolding(crate::specs::FactMembers::by_members))]
+pub(crate) fn put_by(writer: &mut Writer, by: Option<&By>) -> Result<(), AllocError>
+    ensures { OnOk result (writer.new ≡ writer.old ++ spec.by_members (option_copied by.entry)) }
+{
+    match by {
+        Some(by) => put_named_by(writer, by),
+        None => Ok(()),
+    }
+}
+
+// Writes by whom and when a fact was administered, as an object.
+#[tactic(auto, unfolding(crate::specs::FactMembers::by_member))]
+fn put_named_by(writer: &mut Writer, by: &By) -> Result<(), AllocError>
+    ensures { OnOk result (writer.new ≡ writer.old ++ spec.by_member by.now) }
+{
+    put_name(writer, b"by")?;
+    begin_by(writer, by.operator.as_bytes())?;
+    put_time(writer, b"moment", by.moment)?;
+    writer.put_bytes(b"}")
+}
+
+// Writes the beginning of an object with an operator.
+#[tactic(auto, unfolding(crate::specs::FactMembers::begun_by))]
+fn begin_by(writer: &mut Writer, operator: &[u8]) -> Result<(), AllocError>
+    ensures { OnOk result (writer.new ≡ writer.old ++ spec.begun_by operator.now) }
+{
+    writer.put_bytes(b"{\"operator\":")?;
+    put_quoted(writer, operator)
 }
 
 // Writes the members of a client that is added.

@@ -4,7 +4,7 @@ ghost use Rattle.std.specs.Prelude.{◌≡◌, ◌++◌, OnOk};
 ghost use Rattle.tk_handle.specs.Ranges.{IsRegion};
 ghost use Rattle.tk_listing.specs.Lines as spec;
 
-use crate::fields::put_fields;
+use crate::fields::{put_by, put_fields};
 use crate::members::{put_dot_text, put_number, put_plain, put_time};
 use std::alloc::AllocError;
 use tk_bundle::Item;
@@ -45,6 +45,7 @@ pub(crate) fn put_fact(writer: &mut Writer, dot: Dot, body: &Body) -> Result<(),
 {
     begin(writer, dot, kind_name(body))?;
     put_fields(writer, body)?;
+    put_by(writer, body.by())?;
     writer.put_bytes(b"}\n")
 }
 

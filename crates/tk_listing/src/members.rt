@@ -43,9 +43,9 @@ pub(crate) fn put_text(writer: &mut Writer, name: &[u8], text: &[u8]) -> Result<
     put_quoted(writer, text)
 }
 
-// Writes a text in quotation marks.
+/// Writes a text in quotation marks.
 #[tactic(auto, unfolding(crate::specs::Members::quoted))]
-fn put_quoted(writer: &mut Writer, text: &[u8]) -> Result<(), AllocError>
+pub(crate) fn put_quoted(writer: &mut Writer, text: &[u8]) -> Result<(), AllocError>
     ensures { OnOk result (writer.new ≡ writer.old ++ spec.quoted text.now) }
 {
     writer.put_bytes(b"\"")?;
