@@ -1,7 +1,7 @@
 -- A login whose code was redeemed is not dead. Key results:
 --   used_lives   the family of a login that is used is not dead
 --   used_ends    its judgement is by the revocation that ends it
-use Rattle.std.proofs.Common.{◌≡◌, ℕ, Bool, true, false, ◌&&◌, not, cond, Option, None, Some, refl}
+use Rattle.std.proofs.Common.{◌≡◌, ℕ, Bool, true, false, cond, Option, None, Some, refl}
 use Rattle.std.proofs.Common.{sym, ap, ◌∙◌}
 use Rattle.std.specs.FinMap as map
 use Rattle.std.specs.Prelude.{nat_le}
@@ -25,10 +25,12 @@ first_is : (dead : Bool) (s : State) → cond dead state.Dead s ≡ state.Used �
 first_is true s is = absurd (cc)
 first_is false s is = refl
 
+-- the family of a token whose state is Used is not dead
 used_in : (F : FactSet) (now : ℕ) (k : TokenId) (minted : MintedFields) (root : Root)
     → state_in F now k minted root ≡ state.Used → is_dead F root.code ≡ false
 used_in F now k minted root is = first_is (is_dead F root.code) _ is
 
+-- for `used_lives`: by the code that was issued at the dot, if there is one
 by_code : (F : FactSet) (now : ℕ) (d : Dot) (o : Option issued.CodeIssued) (l : LoginFields)
     → login_by_code F now d o ≡ Some l → l.state ≡ state.Used → is_dead F d ≡ false
 by_code F now d None l is used = absurd (cc)

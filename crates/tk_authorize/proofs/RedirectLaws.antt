@@ -1,4 +1,4 @@
--- The URI that the reply to an authorisation request leads to. Key result:
+-- The URI that the reply to an authorization request leads to. Key result:
 --   decision_leads   the reply leads to a URI that matches one of the client's, or to no URI
 use Rattle.std.proofs.Common.{◌≡◌, ℕ, Bool, true, false, if◌then◌else◌, List, [], ◌∷◌, codes}
 use Rattle.std.proofs.Common.{Option, Some, None, Ok, Err, IfOk, refl, ap, sym, subst}
@@ -35,11 +35,13 @@ LeadsTo F params (Refused why) = Unit {0}
 LeadsTo F params (Denied target why) = IsRegistered F params target.uri
 LeadsTo F params (Approved target approval) = IsRegistered F params target.uri
 
+-- a judgement at a registered URI leads to that URI
 at_target : (F : FactSet) (params : Pairs) (target : Target) (approval : Result Approval Denial)
     → IsRegistered F params target.uri → LeadsTo F params (judged_at target approval)
 at_target F params target (Ok approval) known = known
 at_target F params target (Err why) known = known
 
+-- for `by_live`: by the redirect URI that is picked
 by_redirect : (F : FactSet) (rules : ChallengeRules) (params : Pairs) (subject : Option (List ℕ))
     (client : Dot) (view : ClientFields)
     → option_and_then client_in (value_of (codes "client_id") params) ≡ Some client
@@ -59,6 +61,7 @@ by_redirect F rules params subject client view named added live (Uri uri) is =
       registered = picked_matches view.redirects (value_of (codes "redirect_uri") params) uri is;
     })
 
+-- for `by_view`: by whether the client is live
 by_live : (F : FactSet) (rules : ChallengeRules) (params : Pairs) (subject : Option (List ℕ))
     (client : Dot) (view : ClientFields)
     → option_and_then client_in (value_of (codes "client_id") params) ≡ Some client
@@ -71,6 +74,7 @@ by_live F rules params subject client view named added true live =
     by_redirect F rules params subject client view named added live _ refl
 by_live F rules params subject client view named added false live = tt
 
+-- for `by_client`: by whether the client was added
 by_view : (F : FactSet) (rules : ChallengeRules) (params : Pairs) (subject : Option (List ℕ))
     (client : Dot)
     → option_and_then client_in (value_of (codes "client_id") params) ≡ Some client
@@ -80,6 +84,7 @@ by_view F rules params subject client named None added = tt
 by_view F rules params subject client named (Some view) added =
     by_live F rules params subject client view named added view.live refl
 
+-- for `by_id`: by the client that the id names, if it names one
 by_client : (F : FactSet) (rules : ChallengeRules) (params : Pairs) (subject : Option (List ℕ))
     (d : Option Dot)
     → option_and_then client_in (value_of (codes "client_id") params) ≡ d
@@ -88,6 +93,7 @@ by_client F rules params subject None named = tt
 by_client F rules params subject (Some client) named =
     by_view F rules params subject client named (client_view F client) refl
 
+-- for `by_duplicate`: by the client id that was sent, if one was
 by_id : (F : FactSet) (rules : ChallengeRules) (params : Pairs) (subject : Option (List ℕ))
     (id : Option (List ℕ))
     → value_of (codes "client_id") params ≡ id
@@ -96,6 +102,7 @@ by_id F rules params subject None is = tt
 by_id F rules params subject (Some id) is =
     by_client F rules params subject (client_in id) (ap (option_and_then client_in) is)
 
+-- for `leads`: by whether the client id or the redirect URI was sent twice
 by_duplicate : (F : FactSet) (rules : ChallengeRules) (params : Pairs) (subject : Option (List ℕ))
     (b : Bool)
     → LeadsTo F params
@@ -128,7 +135,7 @@ decided_leads F params place now words state (Denied target why) known =
 decided_leads F params place now words state (Approved target approval) known =
     redirect_leads F params target.uri _ _ state known
 
--- the reply to an authorisation request leads to a URI that matches a registered one, or to no URI
+-- the reply to an authorization request leads to a URI that matches a registered one, or to no URI
 leads : (F : FactSet) (place : Place) (now : ℕ) (words : List ℕ) (request : RequestFields)
     → LeadsToClient F request.params (authorization_of F place now words request).reply
 leads F place now words request =

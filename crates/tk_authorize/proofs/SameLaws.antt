@@ -1,6 +1,6 @@
--- Authorisation and administration requests are decided alike by two sets that say the same of
+-- Authorization and administration requests are decided alike by two sets that say the same of
 -- clients and their secrets, consents, sign-outs and logins. Key results:
---   authorizations_same    the decisions of authorisation requests
+--   authorizations_same    the decisions of authorization requests
 --   administrations_same   the decisions of administration requests
 --   listings_same          the pages of clients
 --   subjects_same          the pages of what subjects have
@@ -14,6 +14,7 @@ use Rattle.tk_handle.specs.LoginId.{login_in}
 use Rattle.tk_handle.specs.declared.dot.Dot.{Dot}
 use Rattle.tk_handle.specs.Dot.{dot_cmp}
 use Rattle.tk_fact.specs.Subject.{is_subject}
+use Rattle.tk_fact.specs.declared.by.By.{By}
 use Rattle.tk_fact.specs.declared.consent_given.ConsentGiven as given
 use Rattle.tk_match.specs.Pick.{Picked, Uri, Missing, Unknown, picked}
 use Rattle.tk_store.specs.FactSet.{FactSet}
@@ -47,12 +48,14 @@ use Rattle.tk_authorize.specs.Administered.{client_named, consented_at, consente
 use Rattle.tk_authorize.specs.Administered.{consent_names, withdrawn_at, withdrawn_to, withdrawn_by}
 use Rattle.tk_authorize.specs.Administered.{withdrawal_names, signed_out_by, sign_out_names}
 use Rattle.tk_authorize.specs.Administered.{administered_at, administered_of}
-use Rattle.tk_authorize.specs.Administration.{administered_by, administration_of}
+use Rattle.tk_authorize.specs.Administration.{administered_by, decided_alone, decided_as}
+use Rattle.tk_authorize.specs.Administration.{administration_of}
 use Rattle.tk_authorize.specs.ClientParams.{client_asked, digest_asked}
 use Rattle.tk_authorize.specs.Chosen.{chosen, consented_again, held_or_given}
 use Rattle.tk_authorize.specs.Approval.{approval_by_consent, approval_of}
 use Rattle.tk_authorize.specs.Asked.{asked_of}
 use Rattle.tk_authorize.specs.Authorization.{decided_by, authorization_of, kept_state}
+use Rattle.tk_authorize.specs.Operators.{by_asked, with_operator}
 use Rattle.tk_authorize.specs.Listing.{after_named, listed_by, listing_of}
 use Rattle.tk_authorize.specs.Logouts.{ended_at, logged_out_to, logged_out_by, logout_names}
 use Rattle.tk_authorize.specs.SecretChanges.{first_secret, set_at, changed_once, ended_if}
@@ -77,11 +80,12 @@ use Rattle.tk_authorize.specs.declared.judged.Judged.{Judged}
 use Rattle.tk_authorize.specs.declared.judged.Judged.TheVariants.{Refused}
 use Rattle.tk_authorize.specs.declared.refusal.Refusal.TheVariants as refusal
 
--- ---- authorisation requests
+-- ---- authorization requests
 
 module _ (F G : FactSet) (views : (d : Dot) → client_view F d ≡ client_view G d)
     (grants : (client : Dot) (subject scope : List ℕ)
     → consent_for F client subject scope ≡ consent_for G client subject scope) where
+  -- the approval of an authorization request is the same by both sets
   approval_same : (client : Dot) (subject : Option (List ℕ)) (r : Result Asked Denial)
       → approval_of F client subject r ≡ approval_of G client subject r
   approval_same client subject (Err why) = refl
@@ -91,6 +95,7 @@ module _ (F G : FactSet) (views : (d : Dot) → client_view F d ≡ client_view 
       cond (is_subject subject) (approval_by_consent subject asked o) (Err denial.MalformedSubject))
       (grants client subject asked.scope)
 
+  -- a request is judged alike by both sets, whatever redirect URI was picked
   redirect_same : (rules : ChallengeRules) (params : Pairs) (subject : Option (List ℕ))
       (client : Dot) (view : ClientFields) (x : Picked)
       → judged_by_redirect F rules params subject client view x
@@ -101,6 +106,7 @@ module _ (F G : FactSet) (views : (d : Dot) → client_view F d ≡ client_view 
       ap (judged_at (target_of client view.lives uri params))
       (approval_same client subject (asked_of rules view.client_kind view.scope params))
 
+  -- a request is judged alike by both sets with the same view of its client
   view_same : (rules : ChallengeRules) (params : Pairs) (subject : Option (List ℕ)) (client : Dot)
       (o : Option ClientFields)
       → judged_by_view F rules params subject client o
@@ -111,6 +117,7 @@ module _ (F G : FactSet) (views : (d : Dot) → client_view F d ≡ client_view 
       (redirect_same rules params subject client view
       (picked view.redirects (value_of (codes "redirect_uri") params)))
 
+  -- a request is judged alike by both sets, with a client or without
   client_same : (rules : ChallengeRules) (params : Pairs) (subject : Option (List ℕ))
       (o : Option Dot)
       → judged_by_client F rules params subject o ≡ judged_by_client G rules params subject o
@@ -119,13 +126,14 @@ module _ (F G : FactSet) (views : (d : Dot) → client_view F d ≡ client_view 
       ap (judged_by_view F rules params subject client) (views client)
       ∙ view_same rules params subject client (client_view G client)
 
+  -- a request is judged alike by both sets, with a client identifier or without
   id_same : (rules : ChallengeRules) (params : Pairs) (subject : Option (List ℕ))
       (o : Option (List ℕ))
       → judged_by_id F rules params subject o ≡ judged_by_id G rules params subject o
   id_same rules params subject None = refl
   id_same rules params subject (Some id) = client_same rules params subject (client_in id)
 
--- two sets of facts with the same clients and consents decide an authorisation request alike
+-- two sets of facts with the same clients and consents decide an authorization request alike
 pub authorizations_same : (F G : FactSet) (place : Place) (now : ℕ) (words : List ℕ)
     (request : RequestFields)
     → ((d : Dot) → client_view F d ≡ client_view G d)
@@ -185,7 +193,7 @@ module _ (F G : FactSet) (now : ℕ) (views : (d : Dot) → client_view F d ≡ 
     signed_out_same (Some subject) =
         ap (λ t. cond (is_subject subject)
         (cond t (administered.AlreadyOut subject)
-        (administered.SignsOut (record { subject = subject; moment = now })))
+        (administered.SignsOut (record { subject = subject; moment = now; by = None })))
         (administered.Refused MalformedSubject)) (outs subject now)
 
     logged_out_to_same : (o : Option Dot) → logged_out_to F now o ≡ logged_out_to G now o
@@ -283,12 +291,14 @@ module _ (F G : FactSet) (now : ℕ) (views : (d : Dot) → client_view F d ≡ 
 module _ (F G : FactSet)
     (grants : (client : Dot) (subject scope : List ℕ)
     → consent_for F client subject scope ≡ consent_for G client subject scope) where
+  -- whether a consent is given again is the same by both sets, with either choice
   again_same : (choice : ConsentReuse) (consent : given.ConsentGiven)
       → consented_again F choice consent ≡ consented_again G choice consent
   again_same New consent = refl
   again_same Held consent = ap (λ (o : Option Dot). held_or_given o consent)
       (grants consent.client consent.subject consent.scope)
 
+  -- an administration decision is the same by both sets, by the choices
   chosen_same : (choices : Choices) (a : Administered) → chosen F choices a ≡ chosen G choices a
   chosen_same choices (administered.Consents consent) = again_same choices.consent consent
   chosen_same choices (administered.Refused why) = refl
@@ -318,11 +328,20 @@ pub administrations_same : (F G : FactSet) (place : Place) (now : ℕ) (request 
     → consent_for F client subject scope ≡ consent_for G client subject scope)
     → administration_of F place now request ≡ administration_of G place now request
 administrations_same F G place now request views consents outs logouts turns secrets grants =
-    ap (λ (a : Administered). administered_by place (chosen F place.choices a))
-    (administered_same F G now views consents outs logouts turns secrets request.endpoint
-    request.params)
-    ∙ ap (administered_by place)
-    (chosen_same F G grants place.choices (administered_of G now request))
+    by_operator (by_asked now request.operator)
+  where
+    alone_same : decided_alone F place now request ≡ decided_alone G place now request
+    alone_same =
+        ap (λ (a : Administered). administered_by place (chosen F place.choices a))
+        (administered_same F G now views consents outs logouts turns secrets request.endpoint
+        request.params)
+        ∙ ap (administered_by place)
+        (chosen_same F G grants place.choices (administered_of G now request))
+
+    by_operator : (r : Result (Option By) AdminRefusal)
+        → decided_as F place now request r ≡ decided_as G place now request r
+    by_operator (Err why) = refl
+    by_operator (Ok by) = ap (with_operator by) alone_same
 
 -- ---- pages of clients
 

@@ -148,6 +148,7 @@ registered_to client_kind lives scope (Some uris) = Registers (record {
   scope = scope;
   redirects = uris;
   lives = lives;
+  by = None;
 })
 
 -- the judgement of a new client by its scope, which must be readable (RFC 6749, 3.3)
@@ -249,7 +250,7 @@ retired_of F params = retired_by F (client_named params)
 abbrev pub consented_for : Dot → List ℕ → Option (List ℕ) → Administered
 consented_for client subject None = Refused WrongScope
 consented_for client subject (Some scope) =
-    Consents (record { client = client; subject = subject; scope = scope })
+    Consents (record { client = client; subject = subject; scope = scope; by = None })
 
 -- the judgement of a new consent by its subject, which must be the name of one (own)
 abbrev pub consented_as : Dot → List ℕ → List ℕ → List ℕ → Administered
@@ -321,7 +322,7 @@ withdrawn_of F params =
 abbrev pub signed_out_at : FactSet → ℕ → List ℕ → Administered
 signed_out_at F now subject =
     if is_signed_out F subject now then AlreadyOut subject
-    else SignsOut (record { subject = subject; moment = now })
+    else SignsOut (record { subject = subject; moment = now; by = None })
 
 -- the judgement of a sign-out by its subject, which must be the name of one (own)
 abbrev pub signed_out_as : FactSet → ℕ → List ℕ → Administered

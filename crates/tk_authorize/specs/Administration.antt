@@ -2,9 +2,9 @@
 --   code_of             the error code of a refusal
 --   decided_..          the decision by a judgement of one kind
 --   administered_by     the decision by a judgement
---   administration_of   the decision of a request: the judgement of specs/Administered
---                       and specs/Chosen, carried out
-use Rattle.std.specs.Prelude.{ℕ, Bool, Some, None, if◌then◌else◌}
+--   decided_alone       the judgement of specs/Administered and specs/Chosen, carried out
+--   administration_of   the decision of a request, with the operator that it names
+use Rattle.std.specs.Prelude.{ℕ, Bool, Option, Some, None, Result, Ok, Err, if◌then◌else◌}
 use Rattle.tk_handle.specs.declared.dot.Dot.{Dot}
 use Rattle.tk_fact.specs.declared.body.Body.TheVariants.{
   ClientAdded,
@@ -15,6 +15,7 @@ use Rattle.tk_fact.specs.declared.body.Body.TheVariants.{
   TokenRevoked,
   SecretSet,
 }
+use Rattle.tk_fact.specs.declared.by.By.{By}
 use Rattle.tk_fact.specs.declared.client_added.ClientAdded as added
 use Rattle.tk_fact.specs.declared.consent_given.ConsentGiven as given
 use Rattle.tk_fact.specs.declared.secret_set.SecretSet as set
@@ -57,9 +58,11 @@ use Rattle.tk_authorize.specs.declared.administered.Administered.TheVariants.{
 }
 use Rattle.tk_authorize.specs.Administered.{administered_of}
 use Rattle.tk_authorize.specs.Chosen.{chosen}
+use Rattle.tk_authorize.specs.Operators.{by_asked, with_operator}
 
 -- the error code of a refusal (own)
 abbrev pub code_of : AdminRefusal → ErrorCode
+code_of refusal.MalformedOperator = InvalidRequest
 code_of refusal.DuplicateParameter = InvalidRequest
 code_of refusal.MissingParameter = InvalidRequest
 code_of refusal.UnknownKind = InvalidRequest
@@ -97,7 +100,7 @@ decided_shown client = answered
 abbrev pub decided_retired : Dot → Bool → Decision
 decided_retired client live = record {
   reply = json_reply status.Ok (client_body client);
-  made = if live then Some (ClientRetired (record { client = client })) else None;
+  made = if live then Some (ClientRetired (record { client = client; by = None })) else None;
 }
 
 -- a consent is given, and gets the id of the next dot (own)
@@ -116,7 +119,7 @@ decided_held consent = answered (json_reply status.Ok (consent_body consent))
 abbrev pub decided_withdrawn : Dot → Bool → Decision
 decided_withdrawn consent live = record {
   reply = json_reply status.Ok (consent_body consent);
-  made = if live then Some (ConsentWithdrawn (record { consent = consent })) else None;
+  made = if live then Some (ConsentWithdrawn (record { consent = consent; by = None })) else None;
 }
 
 -- a subject is signed out (own)
@@ -157,7 +160,18 @@ administered_by place (AlreadyEnded login) = answered (json_reply status.Ok (log
 administered_by place (SetsSecret secret) = decided_set secret
 administered_by place (HasSecret client) = answered (json_reply status.Ok (client_body client))
 
+-- the decision of an administration request in which no operator is named (own)
+abbrev pub decided_alone : FactSet → Place → ℕ → RequestFields → Decision
+decided_alone F place now request =
+    administered_by place (chosen F place.choices (administered_of F now request))
+
+-- the decision by the operator that the request names, if it names one (own)
+abbrev pub decided_as : FactSet → Place → ℕ → RequestFields → Result (Option By) AdminRefusal
+    → Decision
+decided_as F place now request (Err why) = refused (code_of why)
+decided_as F place now request (Ok by) = with_operator by (decided_alone F place now request)
+
 -- the decision of an administration request (own)
 abbrev pub administration_of : FactSet → Place → ℕ → RequestFields → Decision
 administration_of F place now request =
-    administered_by place (chosen F place.choices (administered_of F now request))
+    decided_as F place now request (by_asked now request.operator)

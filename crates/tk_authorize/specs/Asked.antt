@@ -1,4 +1,4 @@
--- What is requested by the parameters of an authorisation request (RFC 6749, 4.1.1 and 4.1.2.1).
+-- What is requested by the parameters of an authorization request (RFC 6749, 4.1.1 and 4.1.2.1).
 --   asked_of       the scope and the challenge, or the first denial that holds
 --   is_state       a state, if there is one, may be sent back
 --   is_printable   a byte may be in a state

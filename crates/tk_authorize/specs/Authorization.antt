@@ -1,4 +1,4 @@
--- The decision of an authorisation request (RFC 6749, 4.1.2 and 4.1.2.1).
+-- The decision of an authorization request (RFC 6749, 4.1.2 and 4.1.2.1).
 --   authorization_of   the decision of a request
 --   kept_state         the state that is sent back
 --   code_handle        the handle of a code
@@ -88,7 +88,7 @@ decided_by place now words state (Approved target approval) = record {
       approval));
 }
 
--- the decision of an authorisation request (RFC 6749, 4.1.2 and 4.1.2.1)
+-- the decision of an authorization request (RFC 6749, 4.1.2 and 4.1.2.1)
 abbrev pub authorization_of : FactSet → Place → ℕ → List ℕ → RequestFields → Decision
 authorization_of F place now words request =
     decided_by place now words (kept_state (value_of (codes "state") request.params))

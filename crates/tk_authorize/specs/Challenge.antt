@@ -1,4 +1,4 @@
--- The challenge that an authorisation request sends (RFC 7636, 4.3 and 4.4.1; RFC 9700, 2.1.1).
+-- The challenge that an authorization request sends (RFC 7636, 4.3 and 4.4.1; RFC 9700, 2.1.1).
 --   is_required      a client must send a challenge
 --   challenge_sent   the challenge, `None` if the client may do without, or the first denial
 use Rattle.std.specs.Prelude.{

@@ -1,4 +1,4 @@
--- The judgement of an authorisation request: its cases in their order (RFC 6749, 3.1.2.3, 3.1.2.4,
+-- The judgement of an authorization request: its cases in their order (RFC 6749, 3.1.2.3, 3.1.2.4,
 -- 4.1.1 and 4.1.2.1).
 --   judged_of   the first case that holds: refused in place, denied at the URI, or approved
 use Rattle.std.specs.Prelude.{

@@ -1,4 +1,4 @@
--- The definitions of this crate, by file. For authorisation requests:
+-- The definitions of this crate, by file. For authorization requests:
 --   Refusal         refusal_code, the code of an error in place
 --   Denial          denial_code, the code of an error at the client's URI
 --   Challenge       challenge_sent, the challenge that a request sends
@@ -14,6 +14,7 @@
 --   ClientParams        client_asked, digest_asked, the client and the secret that are named
 --   SecretChanges       changed_of, the cases of the change of a secret
 --   Chosen              chosen, a judgement by the region's choices
+--   Operators           by_asked, the operator that a request names
 --   Administration      administration_of, the decision of a request
 --   Listing             listing_of, the decision of a request for a page of clients
 --   SubjectListing      subject_of, the decision of a request for what a subject has
@@ -31,6 +32,7 @@ pub mod Judged
 pub mod Listing
 pub mod Lives
 pub mod Logouts
+pub mod Operators
 pub mod Refusal
 pub mod Registered
 pub mod SecretChanges

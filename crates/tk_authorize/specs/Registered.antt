@@ -1,4 +1,4 @@
--- The URIs that the reply to an authorisation request may lead to (RFC 6749, 3.1.2.3, 3.1.2.4 and
+-- The URIs that the reply to an authorization request may lead to (RFC 6749, 3.1.2.3, 3.1.2.4 and
 -- 10.15; RFC 8252, 7.3).
 --   IsMeant          a URI is the one that was sent, or the only one of the client
 --   IsRegistered     a URI matches a registered one of the live client that the parameters name

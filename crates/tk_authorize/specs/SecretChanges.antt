@@ -70,6 +70,7 @@ set_at now client digest last turns =
       turn = last + turns;
       digest = digest;
       moment = now;
+      by = None;
     })
 
 -- the judgement that sets a secret of the next turn, unless the client has the secret at its last

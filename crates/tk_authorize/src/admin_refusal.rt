@@ -6,10 +6,12 @@ ghost use Rattle.tk_authorize.specs.Administration.{code_of};
 use tk_message::ErrorCode;
 
 /// The reason why an administration request is refused (own): the first that holds, in the order
-/// that `specs/Administered.antt`, `Logouts.antt`, `SecretChanges.antt` or a listing has for the
-/// endpoint.
+/// that `specs/Operators.antt`, and then `specs/Administered.antt`, `Logouts.antt`,
+/// `SecretChanges.antt` or a listing has for the endpoint.
 #[derive(Clone, Copy)]
 pub(crate) enum AdminRefusal {
+    /// The operator is not 1 to 128 visible ASCII bytes.
+    MalformedOperator,
     /// A parameter that the endpoint knows occurs twice.
     DuplicateParameter,
     /// A required parameter is absent.
@@ -57,7 +59,8 @@ impl AdminRefusal {
         ensures { result ≡ code_of self }
     {
         match self {
-            AdminRefusal::DuplicateParameter
+            AdminRefusal::MalformedOperator
+            | AdminRefusal::DuplicateParameter
             | AdminRefusal::MissingParameter
             | AdminRefusal::UnknownKind
             | AdminRefusal::WrongRefresh

@@ -2,14 +2,15 @@
 
 ghost use Rattle.std.specs.Prelude.{◌≡◌, IfOk};
 ghost use Rattle.tk_store.specs.StoreFields.{held_facts};
-ghost use Rattle.tk_message.specs.Decision.{answered, Passes};
 ghost use Rattle.tk_message.specs.Bodies.{client_body, login_body, subject_body};
+ghost use Rattle.tk_message.specs.Decision.{answered, Passes};
 ghost use Rattle.tk_message.specs.Reply.{json_reply};
 ghost use Rattle.tk_authorize.specs.Administration as spec;
 ghost use Rattle.tk_authorize.specs.SoundAdministered.{IsSoundAdministered};
 
 use crate::administered::{Administered, ShownClient, administer};
 use crate::chosen::choose;
+use crate::operators::{by_asked, with_operator};
 use std::alloc::{AllocError, Global};
 use tk_fact::{
     Body, ClientAdded, ClientRetired, ConsentGiven, ConsentWithdrawn, SecretSet, Subject,
@@ -26,7 +27,8 @@ use tk_message::{Decision, JsonReply, Place, Request, StatusCode};
 /// sign subjects out everywhere, and end logins. The region's choices say which redirection URIs a
 /// new client may have, and whether a consent is given again if one that is held is good. A request
 /// for another endpoint is `not_found`. Whether the sender may administer is not examined: the
-/// front end must see to that. Returns an error if memory runs out.
+/// front end must see to that. If the request names an operator, the fact has by whom and when it
+/// was administered. Returns an error if memory runs out.
 pub fn decide_admin(
     alloc: Global,
     ledger: &Ledger,
@@ -38,6 +40,27 @@ pub fn decide_admin(
         now request.now) }
 
     // The fact that the request makes, if any, passes its check.
+    ensures passes { IfOk result (λ d. Passes d.made) }
+{
+    match by_asked(alloc, now, request.operator())? {
+        Ok(by) => {
+            let decision = decide_alone(alloc, ledger, place, now, request)?;
+            Ok(with_operator(decision, by))
+        }
+        Err(why) => Decision::refuse(alloc, why.code()),
+    }
+}
+
+// Decides a request in which no operator is named.
+fn decide_alone(
+    alloc: Global,
+    ledger: &Ledger,
+    place: &Place,
+    now: Moment,
+    request: &Request,
+) -> Result<Decision, AllocError>
+    ensures value { IfOk result (λ d. d ≡ spec.decided_alone (held_facts ledger.now) place.now
+        now request.now) }
     ensures passes { IfOk result (λ d. Passes d.made) }
 {
     let administered = administer(alloc, ledger, now, request)?;
@@ -111,7 +134,7 @@ fn decide_retired(alloc: Global, client: Dot, live: bool) -> Result<Decision, Al
 {
     let reply = JsonReply::Client(StatusCode::Ok, client).reply(alloc)?;
     let made = if live {
-        Some(Body::ClientRetired(ClientRetired { client }))
+        Some(Body::ClientRetired(ClientRetired { client, by: None }))
     } else {
         None
     };
@@ -150,7 +173,7 @@ fn decide_withdrawn(alloc: Global, consent: Dot, live: bool) -> Result<Decision,
 {
     let reply = JsonReply::Consent(StatusCode::Ok, consent).reply(alloc)?;
     let made = if live {
-        Some(Body::ConsentWithdrawn(ConsentWithdrawn { consent }))
+        Some(Body::ConsentWithdrawn(ConsentWithdrawn { consent, by: None }))
     } else {
         None
     };

@@ -1,4 +1,4 @@
-//! The scope and challenge that are requested by the parameters of an authorisation request.
+//! The scope and challenge that are requested by the parameters of an authorization request.
 
 ghost use Rattle.std.specs.Prelude.{◌≡◌, IfOk};
 ghost use Rattle.std.specs.List.{list_all};

@@ -1,4 +1,4 @@
-//! Decisions of authorisation requests.
+//! Decisions of authorization requests.
 
 ghost use Rattle.std.specs.Prelude.{◌≡◌, ◌≤◌, IfOk, None};
 ghost use Rattle.std.specs.Option.{option_copied};
@@ -19,7 +19,7 @@ use tk_ledger::Ledger;
 use tk_match::Uri;
 use tk_message::{Decision, Place, Reply, Request, handle_string, redirect_reply};
 
-/// Decides an authorisation request at a moment (RFC 6749, 4.1.1 to 4.1.2.1; RFC 7636, 4.3 and
+/// Decides an authorization request at a moment (RFC 6749, 4.1.1 to 4.1.2.1; RFC 7636, 4.3 and
 /// 4.4). Returns the reply, and the fact that a code was issued, if one is.
 ///
 /// The handle of the code is made of the first three random words. If the client or the redirection

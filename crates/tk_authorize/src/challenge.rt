@@ -1,4 +1,4 @@
-//! The challenge that an authorisation request sends (RFC 7636, 4.3 and 4.4.1; RFC 9700, 2.1.1).
+//! The challenge that an authorization request sends (RFC 7636, 4.3 and 4.4.1; RFC 9700, 2.1.1).
 
 ghost use Rattle.std.specs.Prelude.{◌≡◌, IfOk};
 ghost use Rattle.std.specs.Option.{option_copied};

@@ -1,8 +1,8 @@
 //! Judgements of requests that show or retire a client.
 
 ghost use Rattle.std.specs.Prelude.{◌≡◌, IfOk, Ok as Found};
-ghost use Rattle.tk_store.specs.StoreFields.{held_facts};
 ghost use Rattle.tk_params.specs.Params.{has_twice};
+ghost use Rattle.tk_store.specs.StoreFields.{held_facts};
 ghost use Rattle.tk_authorize.specs.Administered as spec;
 ghost use Rattle.tk_authorize.specs.SoundAdministered.{IsSoundAdministered};
 

@@ -2,8 +2,8 @@
 
 ghost use Rattle.std.specs.Prelude.{◌≡◌, IfOk, Some};
 ghost use Rattle.std.specs.Option.{option_copied};
-ghost use Rattle.tk_store.specs.StoreFields.{held_facts};
 ghost use Rattle.tk_params.specs.Params.{has_twice};
+ghost use Rattle.tk_store.specs.StoreFields.{held_facts};
 ghost use Rattle.tk_authorize.specs.Administered as spec;
 ghost use Rattle.tk_authorize.specs.SoundAdministered.{IsSoundAdministered};
 
@@ -127,6 +127,7 @@ fn consent_for(client: Dot, subject: Subject, scope: Option<Scope>) -> Administe
         client,
         subject,
         scope,
+        by: None,
     })
 }
 

@@ -1,4 +1,4 @@
-//! Judgements of authorisation requests: the client, where the reply goes, and whether a code is
+//! Judgements of authorization requests: the client, where the reply goes, and whether a code is
 //! issued (RFC 6749, 3.1.2, 4.1.1 and 4.1.2.1; RFC 7636, 4.3).
 
 ghost use Rattle.std.specs.Prelude.{◌≡◌, IfOk, Some, true};
@@ -29,7 +29,7 @@ pub(crate) struct Target {
     pub(crate) sent: bool,
 }
 
-// The judgement of an authorisation request.
+// The judgement of an authorization request.
 #[derive(Drop)]
 pub(crate) enum Judged {
     Refused(Refusal),

@@ -1,4 +1,4 @@
-//! Decisions of authorisation and administration requests: the replies, and the facts made.
+//! Decisions of authorization and administration requests: the replies, and the facts made.
 //!
 //! `decide_authorize` (RFC 6749, 4.1.1 to 4.1.2.1; RFC 7636, 4.3 and 4.4) decides a request to
 //! `/authorize`. First it judges the request, by the facts and the parameters alone: a `Refusal` is
@@ -10,13 +10,13 @@
 //! out everywhere, logins are ended. An `AdminRefusal` is the first case of the endpoint that held;
 //! `decide_clients` lists clients, and `decide_subject` what a subject has.
 //!
-//! Who has signed in, and what the subject consents to, is reported by the front end. Who may send
-//! requests to `/admin/` is left to the deployment.
+//! Who has signed in, what the subject consents to, and which operator administers, is reported by
+//! the front end. Who may send requests to `/admin/` is left to the deployment.
 //!
 //! In reading order: `Refusal`, `Denial`, `challenge`, `Asked`, `Approval`, `Judged`,
-//! `decide_authorize`; then `AdminRefusal`, `client_params`, `lives`, `registration`, `clients`,
-//! `secrets`, `consents`, `sign_outs`, `logins`, `Administered`, `chosen`, `decide_admin`,
-//! `decide_clients`, `decide_subject`. `specs/Lib.antt` lists the definitions.
+//! `decide_authorize`; then `AdminRefusal`, `operators`, `client_params`, `lives`, `registration`,
+//! `clients`, `secrets`, `consents`, `sign_outs`, `logins`, `Administered`, `chosen`,
+//! `decide_admin`, `decide_clients`, `decide_subject`. `specs/Lib.antt` lists the definitions.
 #![tactic(auto)]
 
 mod admin_refusal;
@@ -35,6 +35,7 @@ mod judged;
 mod listing;
 mod lives;
 mod logins;
+mod operators;
 mod refusal;
 mod registration;
 mod secrets;

@@ -2,9 +2,9 @@
 
 ghost use Rattle.std.specs.Prelude.{◌≡◌, IfSome, Some};
 ghost use Rattle.std.specs.Option.{option_copied};
+ghost use Rattle.tk_params.specs.Params.{has_twice};
 ghost use Rattle.tk_handle.specs.declared.kind.Kind.TheVariants as kind;
 ghost use Rattle.tk_store.specs.StoreFields.{held_facts};
-ghost use Rattle.tk_params.specs.Params.{has_twice};
 ghost use Rattle.tk_authorize.specs.Logouts as spec;
 ghost use Rattle.tk_authorize.specs.SoundAdministered.{IsSoundAdministered};
 

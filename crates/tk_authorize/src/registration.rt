@@ -3,8 +3,8 @@
 ghost use Rattle.std.specs.Prelude.{◌≡◌, IfOk, IsTrue, Ok as Found, Some, map};
 ghost use Rattle.std.specs.List.{slice_split};
 ghost use Rattle.std.specs.Option.{option_copied};
-ghost use Rattle.tk_fact.specs.Check.{are_lives};
 ghost use Rattle.tk_params.specs.Params.{has_twice};
+ghost use Rattle.tk_fact.specs.Check.{are_lives};
 ghost use Rattle.tk_authorize.specs.Administered as spec;
 ghost use Rattle.tk_authorize.specs.SoundAdministered.{IsSoundAdministered};
 
@@ -308,5 +308,6 @@ fn register_to(
         scope,
         redirects,
         lives,
+        by: None,
     })
 }

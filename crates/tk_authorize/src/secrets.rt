@@ -2,8 +2,8 @@
 
 ghost use Rattle.std.specs.Prelude.{◌≡◌, ◌≤◌, Ok as Found, Some};
 ghost use Rattle.std.specs.Option.{option_copied};
-ghost use Rattle.tk_store.specs.StoreFields.{held_facts};
 ghost use Rattle.tk_params.specs.Params.{has_twice};
+ghost use Rattle.tk_store.specs.StoreFields.{held_facts};
 ghost use Rattle.tk_authorize.specs.SecretChanges as spec;
 ghost use Rattle.tk_authorize.specs.SoundAdministered.{IsSoundAdministered};
 
@@ -168,5 +168,6 @@ fn set_at(now: Moment, client: Dot, digest: [u8; 32], last: u64, turns: u64) -> 
         turn: last + turns,
         digest,
         moment: now,
+        by: None,
     })
 }

@@ -2,9 +2,9 @@
 
 ghost use Rattle.std.specs.Prelude.{◌≡◌, IfOk};
 ghost use Rattle.std.specs.Option.{option_copied};
+ghost use Rattle.tk_params.specs.Params.{has_twice};
 ghost use Rattle.tk_store.specs.StoreFields.{held_facts};
 ghost use Rattle.tk_ledger.specs.SignOuts.{is_signed_out};
-ghost use Rattle.tk_params.specs.Params.{has_twice};
 ghost use Rattle.tk_authorize.specs.Administered as spec;
 ghost use Rattle.tk_authorize.specs.SoundAdministered.{IsSoundAdministered};
 
@@ -89,6 +89,7 @@ fn sign_out_at(ledger: &Ledger, now: Moment, subject: Subject) -> Administered
     Administered::SignsOut(SubjectOut {
         subject,
         moment: now,
+        by: None,
     })
 }
 

@@ -2,8 +2,8 @@
 
 ghost use Rattle.std.specs.Prelude.{◌≡◌, IfOk};
 ghost use Rattle.std.specs.Option.{option_copied};
-ghost use Rattle.tk_store.specs.StoreFields.{held_facts};
 ghost use Rattle.tk_params.specs.Params.{has_twice};
+ghost use Rattle.tk_store.specs.StoreFields.{held_facts};
 ghost use Rattle.tk_message.specs.Decision.{Passes};
 ghost use Rattle.tk_authorize.specs.SubjectListing as spec;
 

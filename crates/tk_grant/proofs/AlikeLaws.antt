@@ -54,6 +54,7 @@ pub record IsShut (g : Gate) : Type 0 where
   pub is : g ≡ Shut why
   pub code : refusal_code why ≡ InvalidGrant
 
+-- a closed state shuts the gate with an invalid grant
 by_state : (id : TokenId) (s : StandingFields) (x : State) → is_closed x ≡ true
     → IsShut (gate_by_state id s x)
 by_state id s state.Dead h = record { why = DeadFamily; is = refl; code = refl }
@@ -61,6 +62,7 @@ by_state id s state.Withdrawn h = record { why = WithdrawnGrant; is = refl; code
 by_state id s state.Over h = record { why = FamilyOver; is = refl; code = refl }
 by_state id s x h = absurd (true≢false (sym h))
 
+-- the gate of a closed grant is shut, whichever client sends it
 by_client : (id : TokenId) (client : Dot) (s : StandingFields) → is_closed s.state ≡ true
     → IsShut (gate_by_client id client s)
 by_client id client s h = elim (is_same_dot s.client client) as
@@ -84,12 +86,14 @@ module _ (place : Place) (now : ℕ) (words : List ℕ) where
   LeadAlike a b = (f : Gate → Judged) → ((why : Refusal) → f (Shut why) ≡ Refused why)
       → granted_by place now words (f a) ≡ granted_by place now words (f b)
 
+  -- a shut gate leads to the refusal of an invalid grant
   shut_leads : (g : Gate) → IsShut g → (f : Gate → Judged)
       → ((why : Refusal) → f (Shut why) ≡ Refused why)
       → granted_by place now words (f g) ≡ refused InvalidGrant
   shut_leads g x f refuses = ap (λ (y : Gate). granted_by place now words (f y)) x.is
       ∙ ap (granted_by place now words) (refuses x.why) ∙ ap refused x.code
 
+  -- the gates of two statuses that are answered alike lead to the same decision
   alike_gates : (h : Handle) (id : TokenId) (client : Dot) (s r : Status) → AnsweredAlike now h s r
       → LeadAlike (gate_by_status id client s) (gate_by_status id client r)
   alike_gates h id client s r (inl same) = λ f refuses.
@@ -101,6 +105,7 @@ module _ (place : Place) (now : ℕ) (words : List ℕ) where
   module _ (P Q : StoreFields)
       (alike : (h : Handle) → AnsweredAlike now h (status_here P now h) (status_here Q now h))
       (views : (d : Dot) → client_view (held_facts P) d ≡ client_view (held_facts Q) d) where
+    -- the gates of a handle, of whatever kind, lead to the same decision
     by_handle : (client : Dot) (k : Kind) (h : Handle)
         → LeadAlike (gate_by_handle P now client k h) (gate_by_handle Q now client k h)
     by_handle client k h = elim (kind_number h.id.kind == kind_number k) as
@@ -114,16 +119,19 @@ module _ (place : Place) (now : ℕ) (words : List ℕ) where
           | false ↦ λ f refuses. refl
         ]
 
+    -- the gates of a text lead to the same decision, whether or not a handle is read
     by_text : (client : Dot) (k : Kind) (o : Option Handle)
         → LeadAlike (gate_by_text P now client k o) (gate_by_text Q now client k o)
     by_text client k None = λ f refuses. refl
     by_text client k (Some h) = by_handle client k h
 
+    -- the gates of a parameter, sent or missing, lead to the same decision
     by_gate : (client : Dot) (k : Kind) (o : Option (List ℕ))
         → LeadAlike (gate_of P now client k o) (gate_of Q now client k o)
     by_gate client k None = λ f refuses. refl
     by_gate client k (Some text) = by_text client k (handle_in text)
 
+    -- two choices by the same tests are granted alike if each branch is
     both_ifs : (a b : Bool) (x y u v z : Judged)
         → granted_by place now words x ≡ granted_by place now words u
         → granted_by place now words y ≡ granted_by place now words v
@@ -170,6 +178,7 @@ module _ (place : Place) (now : ℕ) (words : List ℕ) where
         ∙ ap (λ (v : Option ClientFields). granted_by place now words (renewed_of v params
         (gate_of Q now client kind.Refresh o))) (views client)
 
+    -- a request is granted alike, with each grant type
     by_type : (params : Pairs) (client : Dot) (o : Option (List ℕ))
         → granted_by place now words (judged_by_type P now params client o)
         ≡ granted_by place now words (judged_by_type Q now params client o)
@@ -189,6 +198,7 @@ module _ (place : Place) (now : ℕ) (words : List ℕ) where
         (by_code params client (value_of (codes "code") params))
         (by_refresh params client (value_of (codes "refresh_token") params))
 
+    -- a request is granted alike, whoever sent it
     by_caller : (params : Pairs) (c : Caller)
         → granted_by place now words (judged_by_caller P now params c)
         ≡ granted_by place now words (judged_by_caller Q now params c)

@@ -1,3 +1,4 @@
 pub mod AlikeLaws
+pub mod GateLaws
 pub mod MadeLaws
 pub mod RepeatLaws

@@ -1,10 +1,11 @@
 -- The tokens that the token endpoint mints end with their family, and it uses what was minted. Key
--- result:
+-- results:
+--   IsGrantFor      what is granted is of a code that was issued, or of a minted refresh token
+--   by_caller       the judgement of a request grants no more
 --   grants_within   the decisions
 use Rattle.std.proofs.Common.{◌≡◌, ◌≢◌, ℕ, ◌≤◌, ◌==◌, ◌+◌, nat_le, Bool, true, false, not, cond}
-use Rattle.std.proofs.Common.{List, codes, Option, None, Some, IfSome, refl, sym, ap, subst, ◌∙◌}
+use Rattle.std.proofs.Common.{List, codes, Option, None, Some, IfSome, refl}
 use Rattle.std.proofs.Common.{arith}
-use Rattle.std.proofs.lemmas.Bool.{true≢false}
 use Rattle.std.proofs.lemmas.Bool.Decides.{nat_tests}
 use Rattle.std.specs.FinMap as map
 use Rattle.std.specs.Str.{bytes_eq}
@@ -18,27 +19,19 @@ use Rattle.tk_handle.specs.declared.kind.Kind.TheVariants as kind
 use Rattle.tk_handle.specs.declared.token_id.TokenId.{TokenId}
 use Rattle.tk_family.specs.declared.link.Link.{Link}
 use Rattle.tk_family.specs.declared.link.Link.TheVariants.{Redeems, Rotates}
-use Rattle.tk_family.specs.Families.{IsUnder, fits}
+use Rattle.tk_family.specs.Families.{IsUnder}
 use Rattle.tk_fact.specs.Check.{max_generations}
-use Rattle.tk_fact.specs.Tokens.{MintedFields, minted_of}
-use Rattle.tk_fact.specs.declared.body.Body.{Body}
-use Rattle.tk_fact.specs.declared.body.Body.TheVariants as body
 use Rattle.tk_store.specs.FactSet.{FactSet}
-use Rattle.tk_store.specs.Slots.{is_skipped}
 use Rattle.tk_store.specs.StoreFields.{StoreFields, held_facts}
-use Rattle.std.specs.Option.{option_and_then}
-use Rattle.tk_store.proofs.PutLaws.{none_is_not_some}
 use Rattle.tk_ledger.specs.Bodies.{is_same_dot}
 use Rattle.tk_ledger.specs.StandingFields.{StandingFields}
-use Rattle.tk_ledger.specs.Status.{generation_of, status_here, status_in}
-use Rattle.tk_ledger.specs.Tokens.{link_of, links_in, issued_at, minted_in}
+use Rattle.tk_ledger.specs.Status.{status_here}
+use Rattle.tk_ledger.specs.Tokens.{links_in, minted_in}
 use Rattle.tk_ledger.specs.Views.{client_view}
 use Rattle.tk_ledger.specs.declared.status.State.{State}
 use Rattle.tk_ledger.specs.declared.status.State.TheVariants as state
 use Rattle.tk_ledger.specs.declared.status.Status.{Status}
 use Rattle.tk_ledger.specs.declared.status.Status.TheVariants.{Unseen, Wrong, Broken, Known}
-use Rattle.tk_ledger.proofs.RootLaws.{anchor-linked}
-use Rattle.tk_ledger.proofs.StatusCases.{Knows, known_parts}
 use Rattle.tk_fact.specs.declared.client_lives.ClientLives.{ClientLives}
 use Rattle.tk_ledger.specs.ViewFields.{ClientFields}
 use Rattle.tk_params.specs.Params.{Pairs, value_of}
@@ -49,7 +42,7 @@ use Rattle.tk_message.specs.declared.caller.Caller.{Caller}
 use Rattle.tk_message.specs.declared.caller.Caller.TheVariants as caller
 use Rattle.tk_message.specs.declared.decision.Decision.{Decision}
 use Rattle.tk_message.specs.declared.place.Place.{Place}
-use Rattle.tk_grant.specs.Gate.{gate_by_state, gate_by_client, gate_by_status, gate_by_handle}
+use Rattle.tk_grant.specs.Gate.{gate_by_state, gate_by_status}
 use Rattle.tk_grant.specs.Gate.{gate_by_text, gate_of}
 use Rattle.tk_grant.specs.Granted.{earlier, ends_at, granted_by, grant_of, lives_at}
 use Rattle.tk_grant.specs.Judged.{judged_by_type, judged_by_caller, judged_of, known_names}
@@ -64,149 +57,7 @@ use Rattle.tk_grant.specs.declared.gate.Gate.TheVariants.{Shut, Reuse, Open}
 use Rattle.tk_grant.specs.declared.judged.Judged.{Judged}
 use Rattle.tk_grant.specs.declared.judged.Judged.TheVariants as judged
 use Rattle.tk_grant.specs.declared.refusal.Refusal.TheVariants as refusal
-
--- ---- the gate
-
--- the standing is that of a minted token
-record IsOpenFor (F : FactSet) (id : TokenId) (s : StandingFields) : Type 0 where
-  minted : minted_in (map.get F) id ≢ None
-  under : id.kind ≡ kind.Refresh → IsUnder (links_in (map.get F)) id.dot s.code
-  issued : IsCodeOf F s.code s.family_end
-  rotates : id.kind ≡ kind.Refresh → IsRotatable F id.dot (s.generation + 1)
-
-abbrev OpensFor : FactSet → Gate → Type 0
-OpensFor F (Shut why) = Unit {0}
-OpensFor F (Reuse id) = minted_in (map.get F) id ≢ None
-OpensFor F (Open id s) = IsOpenFor F id s
-
-kind_is : (a b : Kind) → kind_number a == kind_number b ≡ true → a ≡ b
-kind_is kind.Code kind.Code h = refl
-kind_is kind.Access kind.Access h = refl
-kind_is kind.Refresh kind.Refresh h = refl
-kind_is kind.Code kind.Access h = absurd (true≢false (sym h))
-kind_is kind.Code kind.Refresh h = absurd (true≢false (sym h))
-kind_is kind.Access kind.Code h = absurd (true≢false (sym h))
-kind_is kind.Access kind.Refresh h = absurd (true≢false (sym h))
-kind_is kind.Refresh kind.Code h = absurd (true≢false (sym h))
-kind_is kind.Refresh kind.Access h = absurd (true≢false (sym h))
-
-some_known : {A : Type 0} (o : Option A) (a : A) → o ≡ Some a → o ≢ None
-some_known o a h none = none_is_not_some a (sym none ∙ h)
-
-known_is : (P : StoreFields) (now : ℕ) (h : Handle) (s : StandingFields)
-    → status_here P now h ≡ Known s → status_in (held_facts P) now h ≡ Known s
-known_is P now h s = by (is_skipped P.slots h.id.dot)
-  where
-    no_wrong : Wrong ≡ Known s → ⊥
-    no_wrong e = cc
-
-    by : (t : Bool) → cond t Wrong (status_in (held_facts P) now h) ≡ Known s
-        → status_in (held_facts P) now h ≡ Known s
-    by true e = absurd (no_wrong e)
-    by false e = e
-
--- what minted a refresh token is the parent of a rotation of the next generation
-rotatable : (b : Body) (m : MintedFields) (d : Dot) → minted_of b kind.Refresh ≡ Some m
-    → (above : Link) × (link_of b ≡ Some above)
-    × (fits (Rotates d (generation_of b + 1)) above ≡ true)
-rotatable (body.CodeRedeemed f) m d h = (Redeems f.code, refl, refl)
-rotatable (body.RefreshRotated f) m d h =
-    (Rotates f.parent f.generation, refl, same_number (f.generation + 1))
-  where
-    same_number : (n : ℕ) → n == n ≡ true
-    same_number n = grind (arith, nat_tests)
-rotatable b m d h = absurd (none_is_not_some m h)
-
--- a refresh token's fact is the parent of a rotation
-parent_of : (P : StoreFields) (now : ℕ) (h : Handle) (k : Kind) (s : StandingFields)
-    → h.id.kind ≡ k → Knows (held_facts P) now h s → k ≡ kind.Refresh
-    → IsRotatable (held_facts P) h.id.dot (s.generation + 1)
-parent_of P now h k s same x is =
-    let made = ap (option_and_then (λ (b : Body). minted_of b h.id.kind)) (sym x.here) ∙ x.mints in
-    let above =
-    rotatable x.body x.minted h.id.dot (ap (minted_of x.body) (sym is ∙ sym same) ∙ made) in (
-      above.0,
-      ap (option_and_then link_of) x.here ∙ above.1,
-      ap (λ n. fits (Rotates h.id.dot (n + 1)) above.0)
-          (sym (ap (λ (y : StandingFields). y.generation) x.standing)) ∙ above.2,
-    )
-
-open_for : (P : StoreFields) (now : ℕ) (h : Handle) (k : Kind) (s : StandingFields) → h.id.kind ≡ k
-    → status_here P now h ≡ Known s
-    → IsOpenFor (held_facts P) (record { dot = h.id.dot; kind = k }) s
-open_for P now h k s same e =
-    let x : Knows (held_facts P) now h s =
-    known_parts (held_facts P) now h s (known_is P now h s e) in
-    record {
-      minted = some_known (minted_in (map.get (held_facts P)) (record { dot = h.id.dot; kind = k }))
-          x.minted
-          (ap (λ (y : Kind).
-          minted_in (map.get (held_facts P)) (record { dot = h.id.dot; kind = y })) (sym same)
-          ∙ x.mints);
-      under = λ is.
-          let above = parent_of P now h k s same x is in
-          subst (IsUnder (links_in (map.get (held_facts P))) h.id.dot)
-          (ap (λ (y : StandingFields). y.code) x.standing)
-          (subst (λ (q : Dot). IsUnder (links_in (map.get (held_facts P))) q x.root.code)
-          (anchor-linked (map.get (held_facts P)) h.id.dot above.0 above.1) x.under);
-      rotates = λ is. parent_of P now h k s same x is;
-      issued = (
-        x.root.issued,
-        ap (issued_at (map.get (held_facts P)))
-            (sym (ap (λ (y : StandingFields). y.code) x.standing)) ∙ x.issues,
-        sym (ap (λ (y : StandingFields). y.family_end) x.standing),
-      );
-    }
-
-module _ (F : FactSet) (id : TokenId) (client : Dot) where
-  by_state : (s : StandingFields) (x : State) → IsOpenFor F id s → OpensFor F (gate_by_state id s x)
-  by_state s state.Dead o = tt
-  by_state s state.Withdrawn o = tt
-  by_state s state.Over o = tt
-  by_state s state.Used o = o.minted
-  by_state s state.Past o = tt
-  by_state s state.Ended o = tt
-  by_state s state.Live o = o
-
-  by_client : (s : StandingFields) → IsOpenFor F id s → OpensFor F (gate_by_client id client s)
-  by_client s o = elim (is_same_dot s.client client) as
-      (λ t. OpensFor F (cond t (gate_by_state id s s.state) (Shut refusal.ForeignGrant))) [
-        | true ↦ by_state s s.state o
-        | false ↦ tt
-      ]
-
-module _ (P : StoreFields) (now : ℕ) where
-  abbrev H : FactSet
-  H = held_facts P
-
-  by_status : (client : Dot) (k : Kind) (h : Handle) (s : Status) → h.id.kind ≡ k
-      → status_here P now h ≡ s
-      → OpensFor H (gate_by_status (record { dot = h.id.dot; kind = k }) client s)
-  by_status client k h Unseen same e = tt
-  by_status client k h Wrong same e = tt
-  by_status client k h (Broken expiry) same e = tt
-  by_status client k h (Known s) same e =
-      by_client H (record { dot = h.id.dot; kind = k }) client s (open_for P now h k s same e)
-
-  by_handle : (client : Dot) (k : Kind) (h : Handle) → OpensFor H (gate_by_handle P now client k h)
-  by_handle client k h =
-      elim (kind_number h.id.kind == kind_number k) as
-      (λ t. kind_number h.id.kind == kind_number k ≡ t
-      → OpensFor H
-      (cond t (gate_by_status (record { dot = h.id.dot; kind = k }) client (status_here P now h))
-      (Shut refusal.UnknownGrant))) [
-        | true ↦ λ e. by_status client k h (status_here P now h) (kind_is h.id.kind k e) refl
-        | false ↦ λ e. tt
-      ] refl
-
-  by_text : (client : Dot) (k : Kind) (o : Option Handle)
-      → OpensFor H (gate_by_text P now client k o)
-  by_text client k None = tt
-  by_text client k (Some h) = by_handle client k h
-
-  by_gate : (client : Dot) (k : Kind) (o : Option (List ℕ)) → OpensFor H (gate_of P now client k o)
-  by_gate client k None = tt
-  by_gate client k (Some text) = by_text client k (handle_in text)
+use Rattle.tk_grant.proofs.GateLaws.{IsOpenFor, OpensFor, by_gate}
 
 -- ---- the judgement
 
@@ -223,10 +74,12 @@ IsGrantFor F (judged.Refreshes grant) =
     × IsUnder (links_in (map.get F)) grant.from c × IsCodeOf F c grant.family_end
 
 module _ (F : FactSet) where
+  -- a choice of two judgements grants no more than they do
   either : (t : Bool) (a b : Judged) → IsGrantFor F a → IsGrantFor F b → IsGrantFor F (cond t a b)
   either true a b x y = x
   either false a b x y = y
 
+  -- what is redeemed is of the code that the gate opens for
   redeems : (lives : Option ClientLives) (params : Pairs) (g : Gate) → OpensFor F g
       → IsGrantFor F (redeemed_of lives params g)
   redeems lives params (Shut why) o = tt
@@ -237,6 +90,7 @@ module _ (F : FactSet) where
       (either (not (meets_challenge s.issued.challenge (value_of (codes "code_verifier") params)))
       (judged.Refused refusal.WrongVerifier) _ tt o.issued)
 
+  -- a rotation is of the token that the gate opens for
   rotates_by : (id : TokenId) (lives : Option ClientLives) (s : StandingFields)
       (scope : Option (List ℕ)) → id.kind ≡ kind.Refresh → IsOpenFor F id s
       → IsGrantFor F (rotated_by (s.generation + 1) (grant_by id.dot lives s scope))
@@ -248,6 +102,7 @@ module _ (F : FactSet) where
     o.issued,
   )
 
+  -- a refresh without rotation is of the token that the gate opens for
   refreshes_by : (id : TokenId) (lives : Option ClientLives) (s : StandingFields)
       (scope : Option (List ℕ)) → id.kind ≡ kind.Refresh → IsOpenFor F id s
       → IsGrantFor F (refreshed_by (grant_by id.dot lives s scope))
@@ -260,11 +115,13 @@ module _ (F : FactSet) where
     o.issued,
   )
 
+  -- a gate that opens does so for a token of the kind
   abbrev IsOfKind : Kind → Gate → Type 0
   IsOfKind k (Shut why) = Unit {0}
   IsOfKind k (Reuse id) = Unit {0}
   IsOfKind k (Open id s) = id.kind ≡ k
 
+  -- what is rotated is of a minted refresh token
   rotates : (lives : Option ClientLives) (params : Pairs) (g : Gate) → IsOfKind kind.Refresh g
       → OpensFor F g → IsGrantFor F (rotated_of lives params g)
   rotates lives params (Shut why) k o = tt
@@ -273,6 +130,7 @@ module _ (F : FactSet) where
       either (nat_le max_generations s.generation) (judged.Refused refusal.LastGeneration) _ tt
       (rotates_by id lives s (scope_asked s.scope (value_of (codes "scope") params)) k o)
 
+  -- what is refreshed is of a minted refresh token
   refreshes : (lives : Option ClientLives) (params : Pairs) (g : Gate) → IsOfKind kind.Refresh g
       → OpensFor F g → IsGrantFor F (refreshed_of lives params g)
   refreshes lives params (Shut why) k o = tt
@@ -280,6 +138,7 @@ module _ (F : FactSet) where
   refreshes lives params (Open id s) k o =
       refreshes_by id lives s (scope_asked s.scope (value_of (codes "scope") params)) k o
 
+  -- what is renewed, by rotation or without, is of a minted refresh token
   renews : (client : Option ClientFields) (params : Pairs) (g : Gate) → IsOfKind kind.Refresh g
       → OpensFor F g → IsGrantFor F (renewed_of client params g)
   renews client params g k o =
@@ -289,6 +148,7 @@ module _ (F : FactSet) where
       (rotates (registered_lives client) params g k o)
 
 module _ (P : StoreFields) (now : ℕ) where
+  -- the gate by the state of a token opens for its kind
   kind_by_state : (id : TokenId) (s : StandingFields) (x : State)
       → IsOfKind (held_facts P) id.kind (gate_by_state id s x)
   kind_by_state id s state.Dead = tt
@@ -299,6 +159,7 @@ module _ (P : StoreFields) (now : ℕ) where
   kind_by_state id s state.Ended = tt
   kind_by_state id s state.Live = refl
 
+  -- the gate by the status of a handle opens for the kind of the token
   kind_by_status : (id : TokenId) (client : Dot) (s : Status)
       → IsOfKind (held_facts P) id.kind (gate_by_status id client s)
   kind_by_status id client Unseen = tt
@@ -311,6 +172,7 @@ module _ (P : StoreFields) (now : ℕ) where
         | false ↦ tt
       ]
 
+  -- the gate by a text opens for the kind that is wanted
   kind_by_text : (client : Dot) (k : Kind) (o : Option Handle)
       → IsOfKind (held_facts P) k (gate_by_text P now client k o)
   kind_by_text client k None = tt
@@ -322,11 +184,13 @@ module _ (P : StoreFields) (now : ℕ) where
         | false ↦ tt
       ]
 
+  -- the gate by a parameter opens for the kind that is wanted
   kind_by_gate : (client : Dot) (k : Kind) (o : Option (List ℕ))
       → IsOfKind (held_facts P) k (gate_of P now client k o)
   kind_by_gate client k None = tt
   kind_by_gate client k (Some text) = kind_by_text client k (handle_in text)
 
+  -- the judgement by the grant type
   by_type : (params : Pairs) (client : Dot) (o : Option (List ℕ))
       → IsGrantFor (held_facts P) (judged_by_type P now params client o)
   by_type params client None = tt
@@ -342,6 +206,7 @@ module _ (P : StoreFields) (now : ℕ) where
       (by_gate P now client kind.Refresh (value_of (codes "refresh_token") params)))
       tt)
 
+  -- the judgement by the caller
   by_caller : (params : Pairs) (c : Caller)
       → IsGrantFor (held_facts P) (judged_by_caller P now params c)
   by_caller params caller.DuplicateParameter = tt
@@ -356,12 +221,14 @@ module _ (P : StoreFields) (now : ℕ) where
 abbrev MakesWithin : FactSet → Decision → Type 0
 MakesWithin F d = IfSome d.made (IsWithin F)
 
+-- the end of a token is cut at the end of its family
 cut : (now life moment : ℕ) → ends_at now life moment ≤ moment
 cut now life moment = earlier_le (moment_plus now life) moment
   where
     earlier_le : (a b : ℕ) → earlier a b ≤ b
     earlier_le a b = grind (arith, nat_tests)
 
+-- the decision by a judgement makes a fact that is within its family
 granted_within : (F : FactSet) (place : Place) (now : ℕ) (words : List ℕ) (j : Judged)
     → IsGrantFor F j → MakesWithin F (granted_by place now words j)
 granted_within F place now words (judged.Refused why) g = tt

@@ -52,6 +52,7 @@ repeat_parts now a b (Some s) None reply h = absurd (none_is_not_some reply h)
 repeat_parts now a b None (Some t) reply h = absurd (none_is_not_some reply h)
 repeat_parts now a b None None reply h = absurd (none_is_not_some reply h)
 
+-- a standing that is taken as live is the standing itself
 live_parts : (x s : StandingFields) → live_as x ≡ Some s → x ≡ s
 live_parts x s h = elim (cases_Bool (is_live x.state)) [
   | inl live ↦ some_injective x s (sym (cond-true (is_live x.state) (Some x) None live) ∙ h)
@@ -59,6 +60,7 @@ live_parts x s h = elim (cases_Bool (is_live x.state)) [
       absurd (none_is_not_some s (sym (cond-false (is_live x.state) (Some x) None over) ∙ h))
 ]
 
+-- a status with a live standing is that of the standing
 live_known : (x : Status) (s : StandingFields) → live_in x ≡ Some s → x ≡ Known s
 live_known Unseen s h = absurd (none_is_not_some s h)
 live_known Wrong s h = absurd (none_is_not_some s h)

@@ -3,8 +3,8 @@
 ghost use Rattle.std.specs.Prelude.{◌≡◌, IfOk, map};
 ghost use Rattle.std.specs.List.{list_all};
 ghost use Rattle.std.specs.Option.{option_copied, option_map};
-ghost use Rattle.tk_grant.specs.Repeat as spec;
 ghost use Rattle.tk_ledger.specs.Status.{status_here};
+ghost use Rattle.tk_grant.specs.Repeat as spec;
 
 use crate::granted::{access_handle, refresh_handle};
 use crate::judged::known_names;

@@ -19,12 +19,15 @@ use Rattle.tk_message.specs.LastSignOut.{moment_out, later, greatest, last_sign_
 
 -- ---- two last moments
 
+-- a moment is at most itself, by the test
 itself : (m : ℕ) → nat_le m m ≡ true
 itself m = grind (arith, nat_tests)
 
+-- moments that are at most each other are equal
 between : (a b : ℕ) → nat_le a b ≡ true → nat_le b a ≡ true → a ≡ b
 between a b h k = grind (arith, nat_tests)
 
+-- last sign-outs that reach the same moments are equal
 reaches_one : (r s : Option ℕ) → ((m : ℕ) → reaches r m ≡ reaches s m) → r ≡ s
 reaches_one None None same = refl
 reaches_one None (Some b) same = absurd (true≢false (sym (itself b) ∙ sym (same b)))
@@ -54,6 +57,7 @@ one_more m a b others before false = before
 abbrev moments : List ℕ → List (Dot × Body) → List ℕ
 moments subject fs = filter_map (λ f. moment_out subject f.1) fs
 
+-- some facts sign out a subject at a moment exactly if the last of its sign-outs reaches it
 reached_in : (subject : List ℕ) (m : ℕ) (fs : List (Dot × Body))
     → list_any (signs_out subject m) fs ≡ reaches (greatest (moments subject fs)) m
 reached_in subject m [] = refl

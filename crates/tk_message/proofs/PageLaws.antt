@@ -67,6 +67,7 @@ opened_of t u v page name h k = rw (k, h) (simp append_assoc)
 
 -- ---- a whole page of clients
 
+-- the tokens before the first entry of a page of clients
 abbrev pub opened : List Token
 opened = token.begin_object ∷ token.key (codes "clients") ∷ token.begin_array ∷ []
 

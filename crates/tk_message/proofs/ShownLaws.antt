@@ -29,6 +29,7 @@ shown client client_kind lives live scope =
     ++ (number_written (codes "refresh_life") (refresh_life lives)
     ++ token.key (codes "scope") ∷ token.string scope ∷ [])))))
 
+-- a client that is shown is written as its JSON body
 shown_written : (client : Dot) (k : ClientKind) (lives : Option ClientLives) (live : Bool)
     (scope : List ℕ)
     → token.begin_object ∷ (shown client k lives live scope ++ token.end_object ∷ [])

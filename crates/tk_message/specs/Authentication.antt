@@ -19,8 +19,8 @@ use Rattle.tk_ledger.specs.Secrets.{is_good_secret}
 use Rattle.tk_ledger.specs.Views.{client_view}
 use Rattle.tk_ledger.specs.ViewFields.{ClientFields}
 use Rattle.tk_params.specs.Credentials.{CredentialsFields}
-use Rattle.tk_message.specs.declared.authentication.Auth.{Auth}
-use Rattle.tk_message.specs.declared.authentication.Auth.TheVariants.{Client, Invalid}
+use Rattle.tk_message.specs.declared.authentication.Authentication.{Authentication}
+use Rattle.tk_message.specs.declared.authentication.Authentication.TheVariants.{Client, Invalid}
 
 -- a secret is sent, and is good for the client, which was registered with the secret of the first
 -- digest (RFC 6749, 2.3.1)
@@ -36,17 +36,21 @@ proves F d (Confidential first) secret = accepts F d first secret
 proves F d (Resource first) secret = accepts F d first secret
 proves F d (Keeping first) secret = accepts F d first secret
 
+-- the client at the dot, if it proved itself
+abbrev pub if_proved : Dot → Bool → Authentication
+if_proved d proved = if proved then Client d else Invalid
+
 -- the client at the dot, if it is live and the secret proves it
-abbrev pub authenticated_as : FactSet → Dot → Option (List ℕ) → Option ClientFields → Auth
+abbrev pub authenticated_as : FactSet → Dot → Option (List ℕ) → Option ClientFields → Authentication
 authenticated_as F d secret None = Invalid
 authenticated_as F d secret (Some client) =
-    if client.live && proves F d client.client_kind secret then Client d else Invalid
+    if_proved d (client.live && proves F d client.client_kind secret)
 
 -- the client at the dot, if there is one, it is live, and the secret proves it
-abbrev pub authenticated_at : FactSet → Option (List ℕ) → Option Dot → Auth
+abbrev pub authenticated_at : FactSet → Option (List ℕ) → Option Dot → Authentication
 authenticated_at F secret None = Invalid
 authenticated_at F secret (Some d) = authenticated_as F d secret (client_view F d)
 
 -- the live client that the credentials prove
-abbrev pub authenticated : FactSet → CredentialsFields → Auth
+abbrev pub authenticated : FactSet → CredentialsFields → Authentication
 authenticated F c = authenticated_at F c.secret (option_and_then client_in c.id)

@@ -5,8 +5,8 @@ use Rattle.std.specs.Prelude.{ℕ, List, if◌then◌else◌}
 use Rattle.tk_store.specs.FactSet.{FactSet}
 use Rattle.tk_params.specs.Params.{has_twice}
 use Rattle.tk_params.specs.Credentials.{Presented, Mixed, Unreadable, Presents, presented_in}
-use Rattle.tk_message.specs.declared.authentication.Auth.{Auth}
-use Rattle.tk_message.specs.declared.authentication.Auth.TheVariants as auth
+use Rattle.tk_message.specs.declared.authentication.Authentication.{Authentication}
+use Rattle.tk_message.specs.declared.authentication.Authentication.TheVariants as auth
 use Rattle.tk_message.specs.declared.caller.Caller.{Caller}
 use Rattle.tk_message.specs.declared.caller.Caller.TheVariants.{
   DuplicateParameter,
@@ -18,7 +18,7 @@ use Rattle.tk_message.specs.Authentication.{authenticated}
 use Rattle.tk_message.specs.RequestFields.{RequestFields}
 
 -- the sender by the outcome of authentication: no client is invalid_client (RFC 6749, 3.2.1)
-abbrev pub caller_by_auth : Auth → Caller
+abbrev pub caller_by_auth : Authentication → Caller
 caller_by_auth auth.Invalid = InvalidClient
 caller_by_auth (auth.Client client) = Client client
 

@@ -4,7 +4,7 @@ use tk_handle::Dot;
 
 /// The outcome of an authentication.
 #[derive(Clone, Copy)]
-pub enum Auth {
+pub(crate) enum Authentication {
     /// The credentials prove the live client that was added at the dot.
     Client(Dot),
     /// The credentials prove no live client.
@@ -27,12 +27,12 @@ use tk_params::Credentials;
 ///
 /// A public client proves itself by its id, without a secret. Another client proves itself by its
 /// secret of the last turn or of the turn before, compared by SHA-256. No memory is allocated.
-pub fn authenticate(ledger: &Ledger, credentials: &Credentials<'_>) -> Auth
+pub(crate) fn authenticate(ledger: &Ledger, credentials: &Credentials<'_>) -> Authentication
     ensures { result ≡ spec.authenticated (held_facts ledger.now) credentials.now }
 {
     match client_named(credentials.id()) {
         Some(at) => authenticate_at(ledger, at, credentials.secret()),
-        None => Auth::Invalid,
+        None => Authentication::Invalid,
     }
 }
 
@@ -47,16 +47,16 @@ fn client_named(id: Option<&str>) -> Option<Dot>
 }
 
 // Returns the client that was added at the dot, if it is live and the secret is good.
-fn authenticate_at(ledger: &Ledger, at: Dot, secret: Option<&str>) -> Auth
+fn authenticate_at(ledger: &Ledger, at: Dot, secret: Option<&str>) -> Authentication
     ensures { result ≡ spec.authenticated_at (held_facts ledger.now) (option_copied secret.entry)
         (Some at) }
 {
     match ledger.client(at) {
         Some(client) if client.live && proves(ledger, at, client.client_kind, secret) => {
-            Auth::Client(at)
+            Authentication::Client(at)
         }
-        Some(_) => Auth::Invalid,
-        None => Auth::Invalid,
+        Some(_) => Authentication::Invalid,
+        None => Authentication::Invalid,
     }
 }
 

@@ -20,7 +20,7 @@ ghost use Rattle.std.specs.Prelude.{◌≡◌, IfOk, map};
 ghost use Rattle.tk_store.specs.StoreFields.{held_facts};
 ghost use Rattle.tk_message.specs.Caller as spec;
 
-use crate::authentication::{Auth, authenticate};
+use crate::authentication::{Authentication, authenticate};
 use crate::request::Request;
 use std::alloc::{AllocError, Global};
 use tk_ledger::Ledger;
@@ -51,11 +51,11 @@ pub fn find_caller(
 }
 
 // Returns the sender by the outcome of authentication.
-fn caller_by_auth(auth: Auth) -> Caller
+fn caller_by_auth(auth: Authentication) -> Caller
     ensures { result ≡ spec.caller_by_auth auth }
 {
     match auth {
-        Auth::Client(client) => Caller::Client(client),
-        Auth::Invalid => Caller::InvalidClient,
+        Authentication::Client(client) => Caller::Client(client),
+        Authentication::Invalid => Caller::InvalidClient,
     }
 }

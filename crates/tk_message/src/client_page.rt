@@ -6,7 +6,6 @@ ghost use Rattle.serde_json.specs.Written.{compact_text, items_outline, outline}
 ghost use Rattle.tk_store.specs.StoreFields.{held_facts};
 ghost use Rattle.tk_store.specs.Walk.{above};
 ghost use Rattle.tk_ledger.specs.ClientWalk.{clients_in};
-ghost use Rattle.tk_message.specs.Bodies.{shown_body};
 ghost use Rattle.tk_message.specs.ClientPage as spec;
 ghost use Rattle.tk_message.specs.Page.{page_size, listed, cursor_of};
 

@@ -12,10 +12,10 @@
 //! The crates above decide what a request gets, and in which order its errors are sought. tk_edge
 //! reads requests and writes replies as HTTP. No other crate makes JSON.
 //!
-//! In reading order: `Endpoint`, `Request`, `Auth`, `Caller`, `scope_asked`, `StatusCode`,
-//! `ErrorCode`, `Reply`, `JsonReply`, `Lives`, `Choices`, `Place`, `Decision`. The definitions are
-//! in `specs/`, by these names. Those of the credentials are in `Authentication`, of requests in
-//! `RequestFields`, and of the bodies in `Bodies`.
+//! In reading order: `Endpoint`, `Request`, `Authentication`, `Caller`, `scope_asked`,
+//! `StatusCode`, `ErrorCode`, `Reply`, `JsonReply`, `Lives`, `Choices`, `Place`, `Decision`. The
+//! definitions are in `specs/`, by these names. Those of the credentials are in `Authentication`,
+//! of requests in `RequestFields`, and of the bodies in `Bodies`.
 #![tactic(auto)]
 
 mod authentication;
@@ -34,7 +34,6 @@ mod scope;
 mod status_code;
 mod subject_page;
 
-pub use authentication::{Auth, authenticate};
 pub use caller::{Caller, find_caller};
 pub use choices::{ChallengeRules, Choices, ConsentReuse, RefreshSeen, UnseenRevocation};
 pub use client_page::MAX_LISTED;

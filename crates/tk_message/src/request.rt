@@ -47,6 +47,8 @@ pub struct Request {
     pub authorization: Option<Vec<u8>>,
     /// The value of `X-Subject`, if there is one: the subject that has signed in, any bytes (own).
     pub subject: Option<Vec<u8>>,
+    /// The value of `X-Operator`, if there is one: the operator who administers, any bytes (own).
+    pub operator: Option<Vec<u8>>,
 }
 
 impl Model for Request {
@@ -60,6 +62,7 @@ impl Model for Request {
       params = r.params;
       authorization = option_map (λ v. v.items) r.authorization;
       subject = option_map (λ v. v.items) r.subject;
+      operator = option_map (λ v. v.items) r.operator;
     } };
 }
 
@@ -83,6 +86,16 @@ impl Request {
     {
         match &self.subject {
             Some(subject) => Some(subject.as_slice()),
+            None => None,
+        }
+    }
+
+    /// Returns the bytes of `X-Operator`, the operator who administers.
+    pub fn operator(&self) -> Option<&[u8]>
+        ensures { option_copied result ≡ self.now.operator }
+    {
+        match &self.operator {
+            Some(operator) => Some(operator.as_slice()),
             None => None,
         }
     }

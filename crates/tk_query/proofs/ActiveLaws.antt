@@ -38,6 +38,7 @@ use Rattle.tk_query.specs.Laws.{told_by_kind, told_to}
 
 -- ---- the reply for a token that is not active
 
+-- a state that is live by the test is Live
 live_state : (x : State) → is_live x ≡ true → x ≡ state.Live
 live_state state.Dead h = cc
 live_state state.Withdrawn h = cc
@@ -47,7 +48,8 @@ live_state state.Past h = cc
 live_state state.Ended h = cc
 live_state state.Live h = refl
 
-second_fails : (b c : Bool) (x y : Introspected) → c ≡ false → cond (not b || not c) x y ≡ x
+-- if the second of two tests fails, the outcome is that of a failure
+pub second_fails : (b c : Bool) (x y : Introspected) → c ≡ false → cond (not b || not c) x y ≡ x
 second_fails true c x y h = ap (λ t. cond (not t) x y) h
 second_fails false c x y h = refl
 
@@ -65,12 +67,15 @@ quiet P seen now client_kind asker h k (Known s) e nc n =
     (λ l. n (live_is_active (held_facts P) now h s nc (here_known P now h s e)
     (live_state s.state l))))
 
+-- an access token is no code
 no_code : (k : Kind) → k ≡ kind.Access → k ≢ kind.Code
 no_code k a c = let e : kind.Access ≡ kind.Code = sym a ∙ c in cc
 
+-- a refresh token is no code
 no_code_either : (k : Kind) → k ≡ kind.Refresh → k ≢ kind.Code
 no_code_either k a c = let e : kind.Refresh ≡ kind.Code = sym a ∙ c in cc
 
+-- for `says_nothing`: by the kind of the token
 quiet_by_kind : (P : StoreFields) (seen : RefreshSeen) (now : ℕ) (client_kind : ClientKind)
     (asker : Dot) (h : Handle) (k : Kind)
     → h.id.kind ≡ k → ¬ IsActive (map.get (held_facts P)) now h
@@ -93,6 +98,7 @@ says_nothing P seen now client_kind asker h n =
 
 -- ---- the reply for a refresh token that resource servers don't see
 
+-- for `hides_refresh`: by the status of the token
 hidden_by_status : (digest : List ℕ) (asker : Dot) (x : Status)
     → introspected_by_status ByClient (Resource digest) asker kind.Refresh x ≡ Inactive
 hidden_by_status digest asker Unseen = refl
@@ -149,6 +155,7 @@ tells P now h a =
       },
     )
 
+-- if two tests hold, the outcome is that of success
 both_hold : (a b : Bool) (x y : Introspected) → a ≡ true → b ≡ true → cond (not a || not b) x y ≡ y
 both_hold a b x y h i = rw (h, i) refl
 
@@ -169,6 +176,7 @@ told_fields kind.Code s = refl
 told_fields kind.Access s = refl
 told_fields kind.Refresh s = refl
 
+-- the reply by the fields of the standing is the reply by the token's own facts
 same_fields : (P : StoreFields) (now : ℕ) (h : Handle) (a : IsActive (map.get (held_facts P)) now h)
     (s : StandingFields)
     → Tells P now h a s → (k : Kind)

@@ -2,7 +2,7 @@
 -- alike. Key results:
 --   introspections_alike   the replies to introspection requests
 --   revocations_alike      the decisions of revocation requests
-use Rattle.std.proofs.Common.{◌≡◌, ◌≢◌, ◌⊎◌, inl, inr, ℕ, ◌<◌, Bool, true, false, ◌||◌, not, nat_le}
+use Rattle.std.proofs.Common.{◌≡◌, ◌≢◌, ◌⊎◌, inl, inr, ℕ, Bool, true, false, nat_le}
 use Rattle.std.proofs.Common.{cond, List, codes, Option, None, Some, refl, sym, ap, subst, ◌∙◌}
 use borrow.Author.Tests.{le-leb}
 use Rattle.std.proofs.lemmas.Bool.{true≢false, cases_Bool, leb-false}
@@ -53,23 +53,20 @@ use Rattle.tk_query.specs.Revoked.{revoked_unseen, revoked_of_client, revoked_by
 use Rattle.tk_query.specs.Revoked.{revoked_by_status, is_own, revoked_by_kind, revoked_by_handle}
 use Rattle.tk_query.specs.Revoked.{revoked_by_text, revoked_by_caller}
 use Rattle.tk_query.specs.declared.idle.Idle.TheVariants as idle
-use Rattle.tk_query.specs.declared.introspected.Introspected.{Introspected}
 use Rattle.tk_query.specs.declared.introspected.Introspected.TheVariants.{Inactive}
 use Rattle.tk_query.specs.declared.refusal.Refusal.TheVariants as refusal
 use Rattle.tk_query.specs.declared.revoked.Revocation.{Revocation}
 use Rattle.tk_query.specs.declared.revoked.Revocation.TheVariants.{Refused, Done, Revokes, Later}
+use Rattle.tk_query.proofs.ActiveLaws.{second_fails}
 
 -- ---- introspection
 
+-- a closed state is not live
 closed_asleep : (x : State) → is_closed x ≡ true → is_live x ≡ false
 closed_asleep state.Dead h = refl
 closed_asleep state.Withdrawn h = refl
 closed_asleep state.Over h = refl
 closed_asleep x h = absurd (true≢false (sym h))
-
-second_fails : (b c : Bool) (x y : Introspected) → c ≡ false → cond (not b || not c) x y ≡ x
-second_fails true c x y h = ap (λ t. cond (not t) x y) h
-second_fails false c x y h = refl
 
 -- a lost token is inactive
 lost_inactive : (seen : RefreshSeen) (client_kind : ClientKind) (asker : Dot) (k : Kind) (now : ℕ)
@@ -82,6 +79,7 @@ lost_inactive seen client_kind asker k now h (Known s) lost =
     second_fails (sees seen client_kind k asker s.client) (is_live s.state) Inactive (active k s)
     (closed_asleep s.state lost.0)
 
+-- statuses that are answered alike are introspected alike
 alike_told : (seen : RefreshSeen) (client_kind : ClientKind) (asker : Dot) (k : Kind) (now : ℕ)
     (h : Handle) (s r : Status)
     → AnsweredAlike now h s r
@@ -95,6 +93,7 @@ alike_told seen client_kind asker k now h s r (inr lost) =
 
 module _ (P Q : StoreFields) (seen : RefreshSeen) (now : ℕ)
     (alike : (h : Handle) → AnsweredAlike now h (status_here P now h) (status_here Q now h)) where
+  -- a handle of each kind is introspected alike by both stores
   told_by_kind : (client_kind : ClientKind) (asker : Dot) (h : Handle) (k : Kind)
       → introspected_by_kind P seen now client_kind asker h k
       ≡ introspected_by_kind Q seen now client_kind asker h k
@@ -135,6 +134,7 @@ module _ (P Q : StoreFields) (seen : RefreshSeen) (now : ℕ)
   told_by_client params asker None = refl
   told_by_client params asker (Some client) = told_as params asker client.client_kind
 
+  -- a request is introspected alike by both stores, whoever sent it
   told_by_caller : ((d : Dot) → client_view (held_facts P) d ≡ client_view (held_facts Q) d)
       → (params : Pairs) (c : Caller)
       → introspected_by_caller P seen now params c ≡ introspected_by_caller Q seen now params c
@@ -164,6 +164,7 @@ introspections_alike P Q seen now request alike views same =
 abbrev decides : Revocation → Decision
 decides = whole.revoked_by
 
+-- revoking a lost token that is no code gets the empty reply
 past_done : (F : FactSet) (choice : UnseenRevocation) (own : Bool) (now : ℕ) (fact : TokenRevoked)
     (h : Handle) (s : Status)
     → h.id.kind ≢ kind.Code → IsLost now h s
@@ -188,6 +189,7 @@ module _ (F G : FactSet) (fact : TokenRevoked)
   of_client_same client = ap (λ (x : Revocation).
       cond (is_same_dot client fact.client) x (Refused refusal.ForeignToken)) unless_same
 
+  -- a revocation is judged alike by both sets, in each state of its token
   by_state_same : (client : Dot) (x : State)
       → revoked_by_state F fact client x ≡ revoked_by_state G fact client x
   by_state_same client state.Dead = refl
@@ -198,6 +200,7 @@ module _ (F G : FactSet) (fact : TokenRevoked)
   by_state_same client state.Ended = of_client_same client
   by_state_same client state.Live = of_client_same client
 
+  -- the revocation of a token that was never seen is judged alike by both sets
   unseen_same : client_view F fact.client ≡ client_view G fact.client → (choice : UnseenRevocation)
       → revoked_unseen F choice fact ≡ revoked_unseen G choice fact
   unseen_same viewed choice =
@@ -217,9 +220,6 @@ unseen_first F G fact none viewed choice =
     (cond t (Done idle.Revoked) (Revokes fact)) (cond t (Done idle.Revoked) Later)) none
     ∙ ap (λ (o : Option ClientFields). cond (may_revoke_unseen choice o) (Revokes fact) Later)
     viewed
-
-not_past : (now expiry : ℕ) → nat_le expiry now ≡ false → now < expiry
-not_past now expiry h = leb-false expiry now h
 
 module _ (P Q : StoreFields) (place : Place) (now : ℕ)
     (alike : (h : Handle) → AnsweredAlike now h (status_here P now h) (status_here Q now h))
@@ -255,6 +255,7 @@ module _ (P Q : StoreFields) (place : Place) (now : ℕ)
       | inr none ↦ inl (is ∙ sym none)
     ]
 
+    -- the revocation of an unseen token is decided alike, or is a first one by P
     unseen_alike : (own : Bool) → is_own place.number h ≡ own → status_here Q now h ≡ Unseen
         → Alike (decides
         (cond own (Done idle.NeverMinted)
@@ -295,7 +296,7 @@ module _ (P Q : StoreFields) (place : Place) (now : ℕ)
             (ap decides
             (unless_same (held_facts P) (held_facts Q) fact
             (held h (digest_of h) client other
-            (subst (IsEarly now) (sym p) (not_past now expiry past)))))
+            (subst (IsEarly now) (sym p) (leb-false expiry now past)))))
     by_same (Known s) p q = by (nat_le s.expiry now) refl
       where
         by : (t : Bool) → nat_le s.expiry now ≡ t
@@ -308,8 +309,9 @@ module _ (P Q : StoreFields) (place : Place) (now : ℕ)
             (ap decides
             (by_state_same (held_facts P) (held_facts Q) fact
             (held h (digest_of h) client other
-            (subst (IsEarly now) (sym p) (not_past now s.expiry past))) s.client s.state))
+            (subst (IsEarly now) (sym p) (leb-false s.expiry now past))) s.client s.state))
 
+    -- a revocation is decided alike by statuses that are answered alike, or is a first one by P
     by_status : AnsweredAlike now h (status_here P now h) (status_here Q now h)
         → Alike (outcome P (status_here P now h)) (outcome Q (status_here Q now h))
     by_status (inl same) = subst (λ (s : Status).
@@ -365,6 +367,7 @@ module _ (P Q : StoreFields) (place : Place) (now : ℕ)
     by_text None named = inl refl
     by_text (Some text) named = by_handle text named (handle_in text) refl
 
+  -- a revocation request is decided alike, whoever sent it, or is a first one by P
   by_caller : (c : Caller) → caller_of (held_facts Q) known_names request ≡ c
       → Alike (decides (revoked_by_caller P place now request.params c))
       (decides (revoked_by_caller Q place now request.params c))

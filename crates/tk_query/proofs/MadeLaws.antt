@@ -18,6 +18,7 @@ use Rattle.tk_query.specs.declared.revoked.Revocation.TheVariants.{Refused, Done
 abbrev pub Revoking : Body → Type 0
 Revoking b = (f : TokenRevoked) × (b ≡ body.TokenRevoked f)
 
+-- for `revokes_alone`: by what the revocation comes to
 revoked_alone : (r : Revocation) → IfSome (revoked_by r).made Revoking
 revoked_alone (Refused why) = tt
 revoked_alone (Done why) = tt

@@ -60,7 +60,12 @@ use Rattle.tk_query.specs.declared.revoked.Revocation.TheVariants.{Refused, Done
 -- digest (own)
 abbrev pub revocation_of : Handle → Kind → Dot → TokenRevoked
 revocation_of h k client =
-    record { token = record { dot = h.id.dot; kind = k }; digest = digest_of h; client = client }
+    record {
+      token = record { dot = h.id.dot; kind = k };
+      digest = digest_of h;
+      client = client;
+      by = None;
+    }
 
 -- the outcome by the facts: a client revokes a token once (RFC 7009, 2.2)
 abbrev pub revoked_unless_held : FactSet → TokenRevoked → Revocation

@@ -111,6 +111,7 @@ fn revocation_of(handle: &Handle, kind: Kind, client: Dot) -> TokenRevoked
         token,
         digest: handle.digest(),
         client,
+        by: None,
     }
 }
 

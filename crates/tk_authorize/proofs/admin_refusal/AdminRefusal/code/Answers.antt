@@ -1,8 +1,8 @@
 use Rattle.std.proofs.Common.{rules}
 use Rattle.tk_authorize.proofs.admin_refusal.AdminRefusal.code.Goals as goal
 
-pub returns-in-DuplicateParameter : goal.returns-in-DuplicateParameter
-returns-in-DuplicateParameter c = search rules
+pub returns-in-MalformedOperator : goal.returns-in-MalformedOperator
+returns-in-MalformedOperator c = search rules
 
 pub returns-in-MalformedScope : goal.returns-in-MalformedScope
 returns-in-MalformedScope c = search rules
