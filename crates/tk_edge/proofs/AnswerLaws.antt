@@ -33,7 +33,7 @@ use Rattle.tk_edge.specs.Heard.{Arrives, IsArrival, MayArrive}
 use Rattle.tk_edge.specs.Judged.{code_of, allowed_by}
 use Rattle.tk_edge.specs.Pulls.{wanted}
 use Rattle.tk_edge.specs.Pushes.{bundle_to_log}
-use Rattle.tk_edge.specs.Served.{Asked, IsServed, IsUntouched, RepliesTo, RunsOut, Step}
+use Rattle.tk_edge.specs.Served.{Asked, IsServed, RepliesTo, RunsOut, Step}
 use Rattle.tk_edge.specs.Told.{AnswerFields, Change}
 use Rattle.tk_edge.specs.declared.edge.Served.{Served}
 use Rattle.tk_edge.specs.declared.edge.Served.TheVariants.{Done}
@@ -143,6 +143,7 @@ pulls terms now r pages sent (Err e) h = refl
 abbrev fails : Fault → Result Served Fault
 fails fault = Err fault
 
+-- a fault in place of a status
 abbrev told_fault : Fault → Result StatusCode Fault
 told_fault fault = Err fault
 
@@ -198,14 +199,6 @@ module _ (asked : Asked) (came : Arrival) (old new : RegionFields) (log : Change
   faulted Write told = (came, arrives, spoke, told)
   faulted Log told = (came, arrives, spoke, told)
   faulted Memory told = ran_out asked.log_taken told
-
--- running out of memory before anything arrived
-pub nothing_heard : (b : Bool) (asked : Asked) (region : Step) (log : Change) (still : Type 0)
-    (writer : Change) (sealed : Bool)
-    → IsUntouched region log still writer sealed
-    → RunsOut b asked region log still writer sealed
-nothing_heard false asked region log still writer sealed same = (inl same.0, same.1)
-nothing_heard true asked region log still writer sealed same = inl same
 
 -- a fault while replying isn't a read fault
 pub unread : (sent : Option (List ℕ)) (terms : TermsFields) (now : ℕ) (words : List ℕ)

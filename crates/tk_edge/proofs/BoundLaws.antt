@@ -9,6 +9,7 @@ use Rattle.tk_edge.specs.declared.reach.Reach.{Reach}
 use Rattle.tk_edge.specs.declared.reach.PathSet.{PathSet}
 use Rattle.tk_edge.specs.declared.reach.PathSet.TheVariants.{Clients, Admin, All}
 
+-- a body of at most 16,384 bytes is within the limit, whichever paths are served
 form_within : (set : PathSet) (size : ℕ) → size ≤ 16384 → size ≤ body_limit set
 form_within All size le = omega (arith, le)
 form_within Clients size le = le

@@ -1,6 +1,5 @@
 -- The meaning of a front doesn't depend on what follows. Key results:
 --   front_heard     a head at the front, with what was read of the bytes behind it
---   over_none       bytes without a head that are over
 --   full_none       as many bytes as a head may have, without a head
 --   error_none      bytes that can't become a head
 --   long_none       a head that is too long
@@ -11,12 +10,12 @@
 --   some_taken      a request behind which a connection stays took some bytes
 use Rattle.std.proofs.Common.{◌≡◌, ℕ, ◌+◌, ◌-◌, ◌<◌, ◌≤◌, Bool, true, false, List, [], ◌∷◌, ◌++◌}
 use Rattle.std.proofs.Common.{length, take, drop, map, Option, None, Some, Result, Ok, Err, IfOk}
-use Rattle.std.proofs.Common.{nat_le, nat_lt}
+use Rattle.std.proofs.Common.{nat_lt}
 use Rattle.std.proofs.Common.{inl, inr, refl, sym, ap, ◌∙◌, subst, arith, append-nil, length-take}
 use Rattle.std.proofs.lemmas.Bool.Decides.{nat_tests}
 use Rattle.std.specs.declared.alloc.AllocError.{AllocError}
 use Rattle.std.proofs.lemmas.List.{length-drop, length-map, take_rest}
-use Rattle.httparse.specs.Grammar.{RequestHead, print_request, ReadsRequest, HasNoRequest}
+use Rattle.httparse.specs.Grammar.{RequestHead, print_request, HasNoRequest}
 use Rattle.httparse.specs.Grammar.{IsRequestHead}
 use Rattle.httparse.specs.Spans.{IsRequestAt, IsRequestWithin, RequestOverflows, header_bytes}
 use Rattle.httparse.specs.Spans.{name_and_value}
@@ -29,7 +28,7 @@ use Rattle.tk_edge.specs.Fronts.{Follows, HasCome, IsCut, IsFewer, IsFront, IsFr
 use Rattle.tk_edge.specs.Fronts.{IsTakenWithin, MayComeBy, Names, NamesIn}
 use Rattle.tk_edge.specs.Fronts.{Takes, TakesIn, front_of, request_size, size_of}
 use Rattle.tk_edge.specs.Heads.{HasHead, head_limit, field_limit}
-use Rattle.tk_edge.specs.Heard.{Arrives, IsArrival, MayArrive, arrival_by, arrival_of, headless}
+use Rattle.tk_edge.specs.Heard.{Arrives, IsArrival, MayArrive, arrival_of, headless}
 use Rattle.tk_edge.specs.Heard.{posted_to}
 use Rattle.tk_edge.specs.Judged.{judged_of}
 use Rattle.tk_edge.specs.Paths.{path_named, path_of}
@@ -42,14 +41,13 @@ use Rattle.tk_edge.specs.declared.hear.Arrival.TheVariants.{Silence, Refused, Re
 use Rattle.tk_edge.specs.declared.hear.Arrival.TheVariants as arrival
 use Rattle.tk_message.specs.RequestFields.{RequestFields}
 use Rattle.tk_edge.specs.declared.judge.Judged.{Judged}
-use Rattle.tk_edge.specs.declared.judge.Judged.TheVariants.{Body}
 use Rattle.tk_edge.specs.declared.path.Path.{Path}
 use Rattle.tk_edge.specs.declared.path.Posted.{Posted}
 use Rattle.tk_edge.specs.declared.path.Posted.TheVariants.{Form, Pull, Push}
 use Rattle.tk_edge.specs.declared.reach.Reach.{Reach}
 use Rattle.tk_edge.specs.declared.refusal.Refusal.TheVariants.{NoHead, ShortBody}
 use Rattle.tk_edge.proofs.HeadLaws.{no_head_of_none, no_short_head}
-use Rattle.tk_edge.proofs.StreamLaws.{form_in_front, has_one_meaning}
+use Rattle.tk_edge.proofs.StreamLaws.{has_one_meaning}
 
 -- a stream without a head ends too early
 cut_headless : (bytes : List ℕ) → IsCut (headless bytes)
@@ -106,13 +104,6 @@ headless_comes reach bytes over some none = record {
   means = λ tail follows. headless_arrives reach bytes tail some (none tail follows);
   names = λ tail follows. inl (none tail follows, refl);
 }
-
--- bytes without a head that are over
-pub over_none : (bytes tail : List ℕ) → HasNoRequest bytes → tail ≡ []
-    → (h : RequestHead) → HasHead (bytes ++ tail) head_limit field_limit h → ⊥
-over_none bytes tail none e h ((rest, reads), short, few) =
-    none h rest (subst (λ (x : List ℕ). ReadsRequest x h rest)
-    (ap (λ (t : List ℕ). bytes ++ t) e ∙ append-nil bytes) reads)
 
 -- at the limit of a head, bytes without one get none from what follows
 pub full_none : (bytes tail : List ℕ) → HasNoRequest bytes → head_limit ≤ length bytes
@@ -197,17 +188,6 @@ front_heard reach bytes over headers spans h (Ok (Came came count)) within at fi
 front_heard reach bytes over headers spans h (Err e) within at fits full by taken takes fewer may
     names = tt
 
--- a whole body, whatever follows it
-pub body_whole : (over : Bool) (posted : Posted) (size : ℕ) (taken : Taken) (front target : List ℕ)
-    (pairs : Pairs) (result : Result Arrival AllocError) → size ≤ length front
-    → IfOk result (λ came. came ≡ posted_to posted (take size front) pairs)
-    → IfOk (front_of result taken)
-    (IsFrontBy over (λ tail. arrival_by target pairs (front ++ tail) (Body posted size)))
-body_whole over posted size taken front target pairs (Ok came) fits e = λ tail follows.
-    let facts = form_in_front front tail size fits in
-    rw (facts.0, facts.1) e
-body_whole over posted size taken front target pairs (Err error) fits e = tt
-
 -- a whole request without a body, whatever follows it
 pub query_whole : (over : Bool) (taken : Taken) (request : RequestFields) (f : List ℕ → Arrival)
     (result : Result Arrival AllocError) → ((tail : List ℕ) → Request request ≡ f tail)
@@ -215,14 +195,6 @@ pub query_whole : (over : Bool) (taken : Taken) (request : RequestFields) (f : L
     → IfOk (front_of result taken) (IsFrontBy over f)
 query_whole over taken request f (Ok came) same e = λ tail follows. e ∙ same tail
 query_whole over taken request f (Err error) same e = tt
-
--- a body that is not whole yet
-pub body_short : (posted : Posted) (size : ℕ) (front target : List ℕ) (pairs : Pairs)
-    → length front < size
-    → arrival_by target pairs (front ++ []) (Body posted size) ≡ Refused ShortBody
-body_short posted size front target pairs short =
-    let none : nat_le size (length front) ≡ false = grind (arith, nat_tests) in
-    rw (append-nil front, none) refl
 
 -- the same front, by another name of its meaning
 pub same_front : {E : Type 0} (over : Bool) (f g : List ℕ → Arrival) (result : Result Front E)

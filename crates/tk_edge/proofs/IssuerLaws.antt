@@ -17,6 +17,7 @@ use Rattle.tk_edge.specs.Laws.{AddsIssuer, LeadsAlike}
 pair_grows : (form name value : List ℕ) → 0 < length (append_pair form name value)
 pair_grows form name value = simp length-append (omega arith)
 
+-- a form that isn't empty isn't empty with pairs added
 pairs_grow : (form : List ℕ) (pairs : Pairs) → 0 < length form
     → 0 < length (extend_pairs form pairs)
 pairs_grow form [] some = some

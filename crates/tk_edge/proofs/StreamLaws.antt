@@ -83,12 +83,14 @@ has_one_meaning reach bytes a b (inr (h, rest, reads, has, p)) (inr (k, more, re
 
 -- ---- silence
 
+-- a whole body has a meaning other than silence
 speaks_to : (posted : Posted) (body : List ℕ) (pairs : Pairs)
     → Silence ≡ posted_to posted body pairs → ⊥
 speaks_to (Form endpoint) body pairs e = absurd (cc)
 speaks_to (Pull pages) body pairs e = absurd (cc)
 speaks_to Push body pairs e = absurd (cc)
 
+-- a head that was judged has a meaning other than silence
 speaks : (target : List ℕ) (pairs : Pairs) (rest : List ℕ) (judged : Judged)
     → Silence ≡ arrival_by target pairs rest judged → ⊥
 speaks target pairs rest (Refused why) e = absurd (cc)
@@ -126,20 +128,24 @@ MayServe reach path.Push = reach.paths ≡ All
 MayServe reach (path.Notice notice) = MayTell reach notice
 MayServe reach path = Unit {0}
 
+-- the path, if there is one, may be served
 abbrev MayServeIf : Reach → Option Path → Type 0
 MayServeIf reach None = Unit {0}
 MayServeIf reach (Some p) = MayServe reach p
 
+-- one of two paths, chosen by a test, is allowed if both are
 pick : (reach : Reach) (b : Bool) (o p : Option Path) → MayServeIf reach o → MayServeIf reach p
     → MayServeIf reach (cond b o p)
 pick reach true o p h k = h
 pick reach false o p h k = k
 
+-- the first of two paths that is there is allowed if both are
 either : (reach : Reach) (o p : Option Path) → MayServeIf reach o → MayServeIf reach p
     → MayServeIf reach (option_or o p)
 either reach None p h k = k
 either reach (Some x) p h k = h
 
+-- a path of clients that is named is allowed
 client_may : (reach : Reach) (text : List ℕ) → MayServeIf reach (client_named text)
 client_may reach text =
     pick reach (bytes_eq text (codes "/authorize")) (Some path.Authorize) _ tt
@@ -147,11 +153,13 @@ client_may reach text =
     (pick reach (bytes_eq text (codes "/introspect")) (Some path.Introspect) _ tt
     (pick reach (bytes_eq text (codes "/revoke")) (Some path.Revoke) None tt tt)))
 
+-- a path for logins that is named is allowed
 logins_may : (reach : Reach) (text : List ℕ) → MayServeIf reach (logins_named text)
 logins_may reach text =
     pick reach (bytes_eq text (codes "/admin/subject")) (Some path.Subject) _ tt
     (pick reach (bytes_eq text (codes "/admin/logout")) (Some path.Logout) None tt tt)
 
+-- a path of operators that is named is allowed
 admin_may : (reach : Reach) (text : List ℕ) → MayServeIf reach (admin_named text)
 admin_may reach text =
     pick reach (bytes_eq text (codes "/admin/client")) (Some path.Client) _ tt
@@ -163,12 +171,14 @@ admin_may reach text =
     (pick reach (bytes_eq text (codes "/admin/signout")) (Some path.SignOut) _ tt
     (logins_may reach text)))))))
 
+-- a path between regions that is named is allowed if all paths are served
 sync_may : (reach : Reach) (text : List ℕ) → reach.paths ≡ All → MayServeIf reach (sync_named text)
 sync_may reach text on =
     pick reach (bytes_eq text (codes "/sync/vector")) (Some path.Vector) _ on
     (pick reach (bytes_eq text (codes "/sync/pull")) (Some path.Pull) _ on
     (pick reach (bytes_eq text (codes "/sync/push")) (Some path.Push) None on tt))
 
+-- a path of operators or regions that is named among those served is allowed
 inner_may : (reach : Reach) (set : PathSet) (text : List ℕ) → reach.paths ≡ set
     → MayServeIf reach (inner_named set text)
 inner_may reach Clients text is = tt
@@ -184,6 +194,7 @@ flagged reach true true p o h k = h refl
 flagged reach true false p o h k = k
 flagged reach false named p o h k = k
 
+-- a path of a notice that is named is allowed
 notice_may : (reach : Reach) (text : List ℕ) → MayServeIf reach (notice_named reach text)
 notice_may reach text =
     flagged reach reach.discovery (bytes_eq text (codes "/.well-known/oauth-authorization-server"))
@@ -192,10 +203,12 @@ notice_may reach text =
     (flagged reach (has_metrics reach) (bytes_eq text (codes "/metrics")) (path.Notice Metrics) None
     (λ on. on) tt))
 
+-- a path beside those of clients that is named is allowed
 beside_may : (reach : Reach) (text : List ℕ) → MayServeIf reach (beside_clients reach text)
 beside_may reach text = either reach (notice_named reach text) (inner_named reach.paths text)
     (notice_may reach text) (inner_may reach reach.paths text refl)
 
+-- a path that is named is allowed
 may_serve : (reach : Reach) (text : List ℕ) → MayServeIf reach (path_named reach text)
 may_serve reach text = either reach (client_named text) (beside_clients reach text)
     (client_may reach text) (beside_may reach text)
@@ -207,10 +220,12 @@ MayDo reach service.Vector = reach.paths ≡ All
 MayDo reach (service.Notice notice) = MayTell reach notice
 MayDo reach (service.Body posted) = MayPost reach posted
 
+-- the service, if there is one, may be done
 abbrev MayDoIf : Reach → Option Service → Type 0
 MayDoIf reach None = Unit {0}
 MayDoIf reach (Some s) = MayDo reach s
 
+-- the service of a path that is allowed is allowed, by any method
 may_do : (reach : Reach) (p : Path) (m : Option Method) → MayServe reach p
     → MayDoIf reach (service_at p m)
 may_do reach p None h = tt
@@ -221,6 +236,7 @@ may_do reach path.Pull (Some Post) h = h
 may_do reach path.Push (Some Post) h = h
 may_do reach p (Some Post) h = tt
 
+-- one of two judgements, chosen by a test, is allowed if both are
 choose : (reach : Reach) (b : Bool) (j k : Judged) → MayAsk reach j → MayAsk reach k
     → MayAsk reach (cond b j k)
 choose reach true j k h l = h
@@ -232,6 +248,7 @@ IsBounded limit numeral.Malformed = Unit {0}
 IsBounded limit numeral.Above = Unit {0}
 IsBounded limit (numeral.Within n) = n ≤ limit
 
+-- a number that is read up to a limit is within it
 bounded : (limit : ℕ) (text : List ℕ) → IsBounded limit (numeral_up_to limit text)
 bounded limit text = of (is_numeral text) (nat_le n limit) refl
   where
@@ -244,6 +261,7 @@ bounded limit text = of (is_numeral text) (nat_le n limit) refl
     of true false e = tt
     of true true e = leb-true n limit e
 
+-- a body judged by its length and type is allowed if its use is
 may_size : (reach : Reach) (posted : Posted) (told : Numeral) (kinds : List (List ℕ))
     → IsBounded (limit_of posted) told
     → MayPost reach posted → MayAsk reach (sized posted told kinds)
@@ -252,6 +270,7 @@ may_size reach posted numeral.Above kinds fits h = tt
 may_size reach posted (numeral.Within n) kinds fits h =
     choose reach (fits_type posted kinds) (Body posted n) _ (h, fits) tt
 
+-- a body judged by its fields is allowed if its use is
 may_post : (reach : Reach) (posted : Posted) (codings lengths kinds : List (List ℕ))
     → MayPost reach posted → MayAsk reach (with_body posted codings lengths kinds)
 may_post reach posted (coding ∷ codings) lengths kinds h = tt
@@ -260,6 +279,7 @@ may_post reach posted [] (text ∷ more) kinds h =
     may_size reach posted (numeral_up_to (limit_of posted) text) kinds
     (bounded (limit_of posted) text) h
 
+-- a judgement of a service that is allowed is allowed
 may_be_asked : (reach : Reach) (s : Service) (pairs : Pairs) → MayDo reach s
     → MayAsk reach (asked s pairs)
 may_be_asked reach (service.Query e) pairs h = tt
@@ -268,17 +288,20 @@ may_be_asked reach (service.Notice notice) pairs h = h
 may_be_asked reach (service.Body posted) pairs h =
     may_post reach posted (coding_in pairs) (length_in pairs) (type_in pairs) h
 
+-- a judgement at a path is allowed if the path's service is
 may_at : (reach : Reach) (p : Path) (s : Option Service) (pairs : Pairs) → MayDoIf reach s
     → MayAsk reach (at_service p s pairs)
 may_at reach p None pairs h = tt
 may_at reach p (Some s) pairs h =
     choose reach (has_repeats pairs) _ (asked s pairs) tt (may_be_asked reach s pairs h)
 
+-- a judgement at a path, if one is named, is allowed if the path is
 may_at_path : (reach : Reach) (o : Option Path) (m : Option Method) (pairs : Pairs)
     → MayServeIf reach o → MayAsk reach (at_path o m pairs)
 may_at_path reach None m pairs h = tt
 may_at_path reach (Some p) m pairs h = may_at reach p (service_at p m) pairs (may_do reach p m h)
 
+-- a judgement that is allowed is allowed with its query judged too
 may_by : (reach : Reach) (query : List ℕ) (judged : Judged) → MayAsk reach judged
     → MayAsk reach (by_query query judged)
 may_by reach query (Refused why) h = h
@@ -289,6 +312,7 @@ may_by reach query (Body (Form e) n) h = h
 may_by reach query (Body (Pull pages) n) h = h
 may_by reach query (Body Push n) h = h
 
+-- a judgement of any request is allowed
 may_ask : (reach : Reach) (method target : List ℕ) (pairs : Pairs)
     → MayAsk reach (judged_of reach method target pairs)
 may_ask reach method target pairs =
@@ -304,12 +328,14 @@ pub judged_may : (reach : Reach) (method target : List ℕ) (fields : Fields) (p
 judged_may reach method target fields pairs judged are told =
     subst (MayAsk reach) (sym (told pairs are)) (may_ask reach method target pairs)
 
+-- a whole body has a meaning that is allowed if its use is
 by_posted : (reach : Reach) (posted : Posted) (body : List ℕ) (pairs : Pairs) → MayPost reach posted
     → MayArrive reach (posted_to posted body pairs)
 by_posted reach (Form e) body pairs h = tt
 by_posted reach (Pull pages) body pairs h = h
 by_posted reach Push body pairs h = h
 
+-- a head whose judgement is allowed has a meaning that is allowed
 by_judged : (reach : Reach) (target : List ℕ) (pairs : Pairs) (rest : List ℕ) (judged : Judged)
     → MayAsk reach judged → MayArrive reach (arrival_by target pairs rest judged)
 by_judged reach target pairs rest (Refused why) h = tt
@@ -324,6 +350,7 @@ by_judged reach target pairs rest (Body posted n) h =
       | false ↦ tt
     ]
 
+-- a stream without a head has a meaning that is allowed
 headless_may : (reach : Reach) (bytes : List ℕ) → MayArrive reach (headless bytes)
 headless_may reach [] = tt
 headless_may reach (b ∷ bytes) = tt

@@ -1,5 +1,5 @@
--- The meaning of a stream of bytes that then ends (RFC 9112, 3, 5 and 6; the limits, `X-Subject`
--- exchanges between regions and notices are own).
+-- The meaning of a stream of bytes that then ends (RFC 9112, 3, 5 and 6; the limits, `X-Subject`,
+-- `X-Operator`, exchanges between regions and notices are own).
 --   request_at   the request for an endpoint, with its form and the fields that a decision reads
 --   arrival_of   the meaning of a head and the bytes behind it; the last refusal is `ShortBody`
 --   IsArrival    the meaning of a stream, by which paths are served
@@ -13,7 +13,7 @@ use Rattle.httparse.specs.Spans.{name_and_value}
 use Rattle.tk_params.specs.Params.{Pairs, only, params_of}
 use Rattle.tk_message.specs.RequestFields.{RequestFields}
 use Rattle.tk_message.specs.declared.request.Endpoint.{Endpoint}
-use Rattle.tk_edge.specs.HeadFields.{authorization_in, subject_in}
+use Rattle.tk_edge.specs.HeadFields.{authorization_in, subject_in, operator_in}
 use Rattle.tk_edge.specs.Heads.{HasHead, head_limit, field_limit}
 use Rattle.tk_edge.specs.Judged.{MayTell, judged_of}
 use Rattle.tk_edge.specs.Paths.{plain, query_of}
@@ -36,6 +36,7 @@ request_at endpoint form pairs = record {
   params = params_of form;
   authorization = only (authorization_in pairs);
   subject = only (subject_in pairs);
+  operator = only (operator_in pairs);
 }
 
 -- the meaning of a whole body, by its use (own)

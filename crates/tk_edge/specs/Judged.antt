@@ -3,7 +3,7 @@
 --   WrongMethod      the path has other methods (RFC 9110, 15.5.6)
 --   DuplicateField   a field is repeated that may be given only once (own; RFC 9110, 5.3)
 --   LengthRequired   the body is in chunks, or has no length (RFC 9110, 15.5.12)
---   MalformedLength        the length isn't one or more digits (RFC 9110, 8.6)
+--   MalformedLength  the length isn't one or more digits (RFC 9110, 8.6)
 --   TooLarge         the length is above the limit (RFC 9110, 15.5.14)
 --   WrongType        the type of a form's body isn't a form's (RFC 6749, 4.1.3)
 --   ShortBody        the stream ends before the body does (RFC 9112, 8); specs/Heard has this case

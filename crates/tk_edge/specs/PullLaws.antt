@@ -12,6 +12,7 @@ use Rattle.tk_handle.specs.Ranges.{is_region, is_serial}
 use Rattle.tk_vector.specs.VectorBytesLaws.{vector_exact}
 use Rattle.tk_edge.specs.Pulls.{cursor_at, numbers_of, cursor, wanted}
 
+-- if the test for two zeros holds, both numbers are 0
 zeros : (r n : ℕ) → (r == 0) && (n == 0) ≡ true → (r ≡ 0) × (n ≡ 0)
 zeros r n h = (grind (arith, nat_tests), grind (arith, nat_tests))
 

@@ -15,8 +15,8 @@ pub enum PushError {
 }
 
 ghost use Rattle.std.specs.Prelude.{◌≡◌};
-ghost use Rattle.tk_edge.specs.Ahead as spec;
 ghost use Rattle.tk_region.specs.Taking.{unread};
+ghost use Rattle.tk_edge.specs.Ahead as spec;
 
 use crate::terms::{Terms, is_out_of_range};
 use std::alloc::Global;

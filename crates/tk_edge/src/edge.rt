@@ -49,13 +49,13 @@ ghost use Rattle.std.specs.Prelude.{IfOk, OnOk, OnErr};
 ghost use Rattle.std.specs.Borrow.{Lends, sem};
 ghost use Rattle.std.specs.Option.{option_map};
 ghost use Rattle.tk_region.specs.contracts.region.Region.{the_row as region_row};
-ghost use Rattle.tk_edge.specs.contracts.edge.Edge.{the_row as edge_row};
 ghost use Rattle.tk_edge.specs.Answers.{refused_by};
 ghost use Rattle.tk_edge.specs.Arrivals.{Answers, IsShort};
+ghost use Rattle.tk_edge.specs.EdgeFields.{reach_of};
 ghost use Rattle.tk_edge.specs.Failures.{Rose};
 ghost use Rattle.tk_edge.specs.FrontServed.{IsFrontServed, IsFrontTurnedAway};
-ghost use Rattle.tk_edge.specs.EdgeFields.{reach_of};
 ghost use Rattle.tk_edge.specs.Heard.{IsArrival, MayArrive};
+ghost use Rattle.tk_edge.specs.contracts.edge.Edge.{the_row as edge_row};
 ghost use Rattle.tk_edge.specs.declared.hear.Arrival.{Arrival as AnyArrival};
 
 use crate::answer::{Answer, answer_arrival, refuse};

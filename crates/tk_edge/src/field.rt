@@ -19,11 +19,12 @@ pub(crate) enum Field<'b> {
     Twice,
 }
 
-// The six fields that tokend reads.
+// The seven fields that tokend reads.
 #[derive(Clone, Copy)]
 pub(crate) struct Fields<'b> {
     pub(crate) authorization: Field<'b>,
     pub(crate) subject: Field<'b>,
+    pub(crate) operator: Field<'b>,
     pub(crate) length: Field<'b>,
     pub(crate) kind: Field<'b>,
     pub(crate) coding: Field<'b>,
@@ -38,6 +39,7 @@ pub(crate) fn fields_of<'b>(buf: &'b [u8], headers: &[HeaderSpan]) -> Fields<'b>
     Fields {
         authorization: value_named(buf, headers, b"authorization"),
         subject: value_named(buf, headers, b"x-subject"),
+        operator: value_named(buf, headers, b"x-operator"),
         length: value_named(buf, headers, b"content-length"),
         kind: value_named(buf, headers, b"content-type"),
         coding: value_named(buf, headers, b"transfer-encoding"),
@@ -95,6 +97,7 @@ pub(crate) fn any_repeats(fields: &Fields<'_>) -> bool
         || is_twice(&fields.length)
         || is_twice(&fields.kind)
         || is_twice(&fields.subject)
+        || is_twice(&fields.operator)
 }
 
 fn is_twice(field: &Field<'_>) -> bool

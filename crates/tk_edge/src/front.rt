@@ -3,7 +3,7 @@
 use crate::hear::Arrival;
 
 /// The most bytes of a request's head.
-pub const HEAD_LIMIT: usize = 8_192;
+pub(crate) const HEAD_LIMIT: usize = 8_192;
 
 /// What was taken of the bytes of a connection.
 #[derive(Clone, Copy)]
@@ -60,8 +60,8 @@ use std::alloc::{AllocError, Global};
 /// `reach` is which paths are served over the connection. `is_over` is whether the client has ended
 /// its side, so that no more bytes follow. Returns [`Front::More`] if no request is whole, and
 /// otherwise what arrived, which no further bytes can change. A refusal takes all bytes. Any other
-/// arrival takes those of its request: a head of at most [`HEAD_LIMIT`] bytes and 64 fields, and
-/// the body that its length names (RFC 9112, 6.3). Nothing is served.
+/// arrival takes those of its request: a head of at most 8,192 bytes and 64 fields, and the body
+/// that its length names (RFC 9112, 6.3). Nothing is served.
 ///
 /// # Errors
 ///

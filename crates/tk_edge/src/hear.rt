@@ -79,7 +79,7 @@ pub(crate) fn asked(
     Ok(Arrival::Request(request))
 }
 
-// Copies what the region reads of a request: the form and two fields of the head.
+// Copies what the region reads of a request: the form and three fields of the head.
 fn request_of(
     alloc: Global,
     endpoint: Endpoint,
@@ -92,11 +92,13 @@ fn request_of(
     let params = Params::read(alloc, form)?;
     let authorization = owned(alloc, only_value(&fields.authorization))?;
     let subject = owned(alloc, only_value(&fields.subject))?;
+    let operator = owned(alloc, only_value(&fields.operator))?;
     Ok(Request {
         endpoint,
         params,
         authorization,
         subject,
+        operator,
     })
 }
 

@@ -53,7 +53,7 @@ pub use counted::Counted;
 pub use device::{Failed, Sink};
 pub use edge::{Edge, Served};
 pub use exchange::{Exchange, Sent};
-pub use front::{Front, HEAD_LIMIT, Taken, hear_front};
+pub use front::{Front, Taken, hear_front};
 pub use hear::Arrival;
 pub use issuer::{Issuer, is_issuer};
 pub use laws::{

@@ -8,7 +8,8 @@ ghost use Rattle.tk_edge.specs.OpenReply as spec;
 const CLOSING_LINE: &[u8] = b"Connection: close\r\n";
 
 /// Takes the line `Connection: close` out of the reply that begins at `start` (RFC 9112, 9.3). A
-/// reply without that line stays as it is, as does what is before the reply.
+/// reply without that line stays as it is, as does what is before the reply. `start` is at most
+/// the length of `replies`.
 pub fn keep_open(replies: &mut Vec<u8>, start: usize)
     requires { start ≤ length replies.old.items }
     ensures { (without : List ℕ)

@@ -47,8 +47,8 @@ pub(crate) fn read_wanted(alloc: Global, bytes: &[u8]) -> Result<Wanted, ReadErr
 }
 
 impl Spelled for Wanted {
-    ghost use Rattle.tk_edge.specs.Pulls.{wanted};
     ghost use Rattle.tk_edge.specs.PullLaws.{wanted_exact};
+    ghost use Rattle.tk_edge.specs.Pulls.{wanted};
 
     ghost format = { wanted };
 

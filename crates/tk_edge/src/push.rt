@@ -2,15 +2,15 @@
 
 ghost use Rattle.std.specs.Prelude.{◌≡◌, ◌≢◌, false, Err, None, OnErr, Some};
 ghost use Rattle.std.specs.Option.{option_copied, option_map};
+ghost use Rattle.tk_put.specs.Put.{Prints};
 ghost use Rattle.tk_bundle.specs.Bundle.{bundle, bundle_bytes};
 ghost use Rattle.tk_message.specs.Place.{next_in};
-ghost use Rattle.tk_put.specs.Put.{Prints};
+ghost use Rattle.tk_region.specs.RegionFields.{place_in};
 ghost use Rattle.tk_edge.specs.Ahead.{lifted};
 ghost use Rattle.tk_edge.specs.Exchanges.{Pushes};
 ghost use Rattle.tk_edge.specs.Failures.{CountsFailure, Rose};
 ghost use Rattle.tk_edge.specs.Pushes as spec;
 ghost use Rattle.tk_edge.specs.Told.{IsFaultOfDevice};
-ghost use Rattle.tk_region.specs.RegionFields.{place_in};
 
 use crate::ahead::{PushError, lifted, read_pushed};
 use crate::answer::answer_with;

@@ -1,7 +1,7 @@
 //! Writes whole pieces into any sink (`put_whole`), and has a sink that drops them (`Discard`).
 
-ghost use Rattle.tk_edge.specs.Failures.{CountsFailure};
 ghost use Rattle.tk_put.specs.Put.{Prints};
+ghost use Rattle.tk_edge.specs.Failures.{CountsFailure};
 
 use crate::device::{Failed, Sink};
 

@@ -75,7 +75,7 @@ impl Terms {
     }
 
     /// Returns whether a bundle may have facts and marks under this number.
-    pub fn is_accepted(&self, number: u16) -> bool
+    pub(crate) fn is_accepted(&self, number: u16) -> bool
         ensures { result ≡ spec.is_accepted self.now number }
     {
         is_listed(&self.accepted, number) && !is_barred(self.barred, number)

@@ -39,16 +39,19 @@ use Rattle.tk_region.specs.Step.{IsNextFact}
 use Rattle.tk_region.specs.Taking.{has_unmade, is_unmade, raised, items_taken, TakesIn}
 use Rattle.tk_region.proofs.TakeLaws.{raised_slots}
 
+-- an item within the cap keeps the last serial of the items behind it within the cap
 one_under : (region r serial rest cap : ℕ) → (region ≡ r → serial ≤ cap) → rest ≤ cap
     → max (if region == r then serial else 0) rest ≤ cap
 one_under region r serial rest cap p q = grind (arith, nat_tests)
 
+-- the last serial of items of a capped region under its own number is within the cap
 all_under : (r : RegionFields) → IsCapped r → (es : Items) → AllIn r.facts.slots es
     → last_serial r.number es ≤ r.settings.cap
 all_under r k [] a = omega arith
 all_under r k (e ∷ es) a = one_under e.0.region r.number e.0.serial (last_serial r.number es)
     r.settings.cap (k.own e.0 e.1 a.0) (all_under r k es a.1)
 
+-- the next serial of a capped region is at most one past its cap
 last_under : (r : RegionFields) → IsCapped r
     → next_serial r.facts.slots r.number ≤ r.settings.cap + 1
 last_under r k =
@@ -74,6 +77,7 @@ capped_empty r none low = record {
 abbrev AreUnder : ℕ → ℕ → Slots → Type 0
 AreUnder n cap S = (d : Dot) (s : Slot) → map.get S d ≡ Some s → d.region ≡ n → d.serial ≤ cap
 
+-- slots keep to the cap if a slot is put that keeps to it
 under_put : (n cap : ℕ) (S : Slots) (d : Dot) (s : Slot) → (d.region ≡ n → d.serial ≤ cap)
     → AreUnder n cap S → AreUnder n cap (map.insert S d s)
 under_put n cap S d s low under q t h here =
@@ -86,11 +90,13 @@ under_put n cap S d s low under q t h here =
 below : (a b m n : ℕ) (rest : Bool) → ((a == b) && nat_le m n) || rest ≡ false → a ≡ b → n < m
 below a b m n rest h e = grind (arith, nat_tests)
 
+-- if neither of two holds, the second doesn't
 others : (a b : Bool) → a || b ≡ false → b ≡ false
 others true b h = absurd (false≢true (sym h))
 others false b h = h
 
 module _ (next : Dot) (cap : ℕ) (low : next.serial ≤ cap + 1) where
+  -- dots stay under the cap with items whose dots of the region are below its next one
   under_with : (items : Items) (S : Slots) → has_unmade next items ≡ false
       → AreUnder next.region cap S → AreUnder next.region cap (with_slots S items)
   under_with [] S h under = under
@@ -120,19 +126,24 @@ next_unknown r f i = ap (map.get r.facts.slots) i.next ∙ next_is_free r.facts.
 
 module _ (n : ℕ) (s : SettingsFields) (P Q : StoreFields)
     (k : IsCapped (record { number = n; settings = s; facts = P })) where
+  -- the region with the store P
   abbrev r : RegionFields
   r = record { number = n; settings = s; facts = P }
 
+  -- the region with the store Q
   abbrev changed : RegionFields
   changed = record { number = n; settings = s; facts = Q }
 
+  -- the next dot of the region
   abbrev next : Dot
   next = next_in (place_in r)
 
+  -- a region whose store is unchanged stays under its cap
   same : Q ≡ P → IsCapped changed
   same e = subst (λ (R : StoreFields). IsCapped (record { number = n; settings = s; facts = R }))
       (sym e) k
 
+  -- a region that took in items, none ahead of its next dot, stays under its cap
   taken : (h : Option ℕ) (items : Items) → has_unmade next items ≡ false
       → Q ≡ items_taken (raised P h) items → IsCapped changed
   taken h items made is =
@@ -185,6 +196,7 @@ module _ (n : ℕ) (s : SettingsFields) (P Q : StoreFields)
       was {d} (Some t) at b h here = k.own d t at here
 
 module _ (n : ℕ) (s : SettingsFields) where
+  -- the region with this store has its dots under its cap
   abbrev IsCappedWith : StoreFields → Type 0
   IsCappedWith P = IsCapped (record { number = n; settings = s; facts = P })
 
@@ -203,6 +215,7 @@ module _ (n : ℕ) (s : SettingsFields) where
       by (inr names) =
           was (map.get P.slots d) refl names.fact (sym (get_held P.slots d) ∙ names.here)
 
+  -- a region of which facts that may go were skipped, one by one, stays under its cap
   capped_steps : (P Q : StoreFields) (ds : List Dot) → IsCappedWith P → Steps P ds Q
       → IsCappedWith Q
   capped_steps P Q [] k is = subst IsCappedWith (sym is) k

@@ -1,8 +1,7 @@
 -- What holds of the items of a bundle that has a spelling. Key results:
---   fits_few      they are at most 1,024
 --   fits_differ   their dots differ from each other
 --   fits_pass     their facts pass the check
-use Rattle.std.proofs.Common.{◌≡◌, ◌≤◌, ℕ, true, false, [], ◌∷◌, length, Option, Some, None}
+use Rattle.std.proofs.Common.{◌≡◌, true, [], ◌∷◌, Option, Some, None}
 use Rattle.std.proofs.Common.{is_none, refl, subst}
 use mathlib.Core.Bool.{false≢true}
 use Rattle.std.specs.declared.cmp.Ordering.TheVariants.{Less}
@@ -15,14 +14,16 @@ use Rattle.tk_store.specs.Slots.{Held, Skipped}
 use Rattle.tk_bundle.specs.Bundle.{ascends, bundle}
 use Rattle.tk_bundle.specs.BundleFields.{BundleFields, Items}
 use Rattle.tk_bundle.specs.Items.{item}
-use Rattle.tk_bundle.proofs.FitLaws.{items_few, items_fit, items_rise}
+use Rattle.tk_bundle.proofs.FitLaws.{items_fit, items_rise}
 use Rattle.tk_region.proofs.TakeLaws.{Avoids, Differs, AllPass}
 use Rattle.std.proofs.lemmas.Bool.{and_parts as both_true}
 use Rattle.tk_handle.proofs.TestLaws.{less}
 
+-- no dot is below itself
 not_below_itself : (d : Dot) → dot_cmp d d ≡ Less → ⊥
 not_below_itself d h = let e = dot_cmp_total.antisymm d d in cc
 
+-- a dot below the one behind which items ascend is the dot of no item
 above : (d last : Dot) (items : Items) → dot_cmp d last ≡ Less → ascends (Some last) items ≡ true
     → Avoids d items
 above d last [] l h = tt
@@ -33,6 +34,7 @@ above d last (i ∷ items) l h =
       above d i.0 items t k.1,
     )
 
+-- a dot behind which items ascend is the dot of no item
 all_above : (d : Dot) (items : Items) → ascends (Some d) items ≡ true → Avoids d items
 all_above d [] h = tt
 all_above d (i ∷ items) h =
@@ -42,27 +44,27 @@ all_above d (i ∷ items) h =
       above d i.0 items t k.1,
     )
 
+-- items that ascend behind a dot have dots that differ from each other
 differs_after : (d : Dot) (items : Items) → ascends (Some d) items ≡ true → Differs items
 differs_after d [] h = tt
 differs_after d (i ∷ items) h = let k = both_true _ _ h in
     (all_above i.0 items k.1, differs_after i.0 items k.1)
 
+-- items that ascend have dots that differ from each other
 differs : (items : Items) → ascends None items ≡ true → Differs items
 differs [] h = tt
 differs (i ∷ items) h = (all_above i.0 items h, differs_after i.0 items h)
 
+-- if the test for no error holds, there is none
 none : (o : Option FactError) → is_none o ≡ true → o ≡ None
 none None h = refl
 none (Some e) h = absurd (false≢true h)
 
+-- the facts of items that have a spelling pass their checks
 all_pass : (items : Items) → AllByRecursion item.Fits items → AllPass items
 all_pass [] h = tt
 all_pass ((d, Held b) ∷ items) h = (none (refusal_of b) h.0.0.1, all_pass items h.1)
 all_pass ((d, Skipped) ∷ items) h = (tt, all_pass items h.1)
-
--- a bundle has at most 1,024 items
-pub fits_few : (b : BundleFields) → bundle.Fits b → length b.items ≤ 1024
-fits_few b fits = items_few b fits
 
 -- no two items of a bundle have one dot
 pub fits_differ : (b : BundleFields) → bundle.Fits b → Differs b.items

@@ -4,7 +4,6 @@
 --   agrees_now                the next item agrees with what is known now
 --   at_end                    after the last item, all are taken in
 --   counted_new, counted_held   the number of known dots after one more item
---   raised_takes              the horizon was raised before the items were taken in
 use Rattle.std.proofs.Common.{◌≡◌, ◌≢◌, ℕ, zero, suc, ◌+◌, ◌<◌, ◌≤◌, [], ◌∷◌, ◌++◌, length, take}
 use Rattle.std.proofs.Common.{get_or, cond, Option, Some, None, IsSome, Result, Ok, Err, refl, sym}
 use Rattle.std.proofs.Common.{ap, subst, ◌∙◌, arith}
@@ -27,19 +26,20 @@ use Rattle.tk_store.specs.declared.store.AddError.TheVariants as error
 use Rattle.tk_store.proofs.PutLaws.{by_dot, len_new, none_is_not_some, some_injective}
 use Rattle.tk_store.proofs.SlotOrderLaws.{added_joins, added_horizon, skipped_joins}
 use Rattle.tk_store.proofs.SlotOrderLaws.{skipped_horizon}
-use Rattle.tk_bundle.specs.BundleFields.{BundleFields, Items, fact_of}
-use Rattle.tk_region.specs.declared.take.TakeError.{TakeError}
-use Rattle.tk_region.specs.declared.take.TakeError.TheVariants.{Malformed, OwnNumber, Conflict}
+use Rattle.tk_bundle.specs.BundleFields.{Items, fact_of}
+use Rattle.tk_region.specs.declared.take.TakeError.TheVariants.{Conflict}
 use Rattle.tk_region.specs.declared.take.TakeError.TheVariants.{Memory}
-use Rattle.tk_region.specs.Taking.{AgreesWith, raised, items_taken, Puts, Takes}
+use Rattle.tk_region.specs.Taking.{AgreesWith, raised, items_taken, Puts}
 
 -- ---- one item
 
+-- a store with a slot joined, and the horizon as before, is one that took one item in
 one_item : (P Q : StoreFields) (e : Dot × Slot)
     → Q.slots ≡ map.insert P.slots e.0 (joined_slot (map.get P.slots e.0) e.1)
     → Q.horizon ≡ P.horizon → Q ≡ items_taken P (e ∷ [])
 one_item P Q e slots horizon = λ i. record { slots = slots i; horizon = horizon i }
 
+-- a fact that was added, or was held before, leaves the store with that one item taken in
 added_one : (P Q : StoreFields) (f : Dot × Body) (a : Added) → AddsTo P f (Ok a) Q
     → Q ≡ items_taken P ((f.0, Held f.1) ∷ [])
 added_one P Q f a adds =
@@ -63,6 +63,7 @@ puts_fact P Q f (Err error.Conflict) adds = differs (map.get P.slots f.0) adds.0
     differs (Some Skipped) h agrees = true≢false (sym agrees ∙ h)
 puts_fact P Q f (Err error.Memory) adds = adds.1
 
+-- a dot that was skipped leaves the store with that one mark taken in
 skipped_one : (P Q : StoreFields) (d : Dot) (a : Added) → Skips P d (Ok a) Q
     → Q ≡ items_taken P ((d, Skipped) ∷ [])
 skipped_one P Q d a skips =
@@ -143,6 +144,7 @@ agrees_after S d s (i ∷ items) v a = (
   agrees_after S d s items v.1 a.1,
 )
 
+-- an item agrees with the slots after the items before it, if all agree and dots differ
 agrees_at : (S : Slots) (items : Items) (i : ℕ) (e : Dot × Slot) → Differs items
     → AgreesWith S items → i < length items
     → SlotAgrees (map.get (with_slots S (take i items)) (get_or items i e).0)
@@ -153,6 +155,7 @@ agrees_at S (x ∷ items) (suc i) e v a lt =
     agrees_at (map.insert S x.0 (joined_slot (map.get S x.0) x.1)) items i e v.1
     (agrees_after S x.0 (joined_slot (map.get S x.0) x.1) items v.0 a.1) (omega arith)
 
+-- two lists of slots joined one after the other are joined as one list
 with_slots-append : (S : Slots) (es fs : Items)
     → with_slots S (es ++ fs) ≡ with_slots (with_slots S es) fs
 with_slots-append S [] fs = refl
@@ -161,6 +164,7 @@ with_slots-append S (e ∷ es) fs =
 
 module _ (P Q : StoreFields) (items : Items) (i : ℕ) (e : Dot × Slot) (is : e ≡ get_or items i e)
     (within : i < length items) (so_far : Q ≡ items_taken P (take i items)) where
+  -- the slots with the items so far and the next one are those with one more item
   one_more : with_slots (with_slots P.slots (take i items)) (e ∷ [])
       ≡ with_slots P.slots (take (i + 1) items)
   one_more =
@@ -205,25 +209,3 @@ at_end P Q items i past so_far = so_far ∙ ap (items_taken P) (whole i items pa
 pub raised_slots : (P : StoreFields) (h : Option ℕ) → (raised P h).slots ≡ P.slots
 raised_slots P None = refl
 raised_slots P (Some moment) = refl
-
--- raising the horizon keeps the agreement
-pub raised_agrees : (P Q : StoreFields) (h : Option ℕ) (items : Items) → Q ≡ raised P h
-    → AgreesWith P.slots items → AgreesWith Q.slots items
-raised_agrees P Q h items is agree = subst (λ (S : Slots). AgreesWith S items)
-    (sym (ap (λ (R : StoreFields). R.slots) is ∙ raised_slots P h)) agree
-
--- raising the horizon and taking in the items is taking in the bundle
-pub raised_takes : (P Q R : StoreFields) (b : BundleFields) (r : Result ℕ TakeError)
-    → Q ≡ raised P b.horizon
-    → Takes Q (record { horizon = None; runs = b.runs; items = b.items }) r R → Takes P b r R
-raised_takes P Q R b (Ok n) is t = (
-  t.0 ∙ ap (λ (X : StoreFields). items_taken X b.items) is,
-  ap (λ (S : Slots). map.len S + n)
-      (sym (ap (λ (X : StoreFields). X.slots) is ∙ raised_slots P b.horizon))
-      ∙ t.1,
-)
-raised_takes P Q R b (Err Memory) is t =
-    (t.0, t.1 ∙ ap (λ (X : StoreFields). items_taken X (take t.0 b.items)) is)
-raised_takes P Q R b (Err Malformed) is t = absurd t
-raised_takes P Q R b (Err OwnNumber) is t = absurd t
-raised_takes P Q R b (Err Conflict) is t = absurd t

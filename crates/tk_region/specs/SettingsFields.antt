@@ -1,13 +1,14 @@
 -- What contracts see of settings: four lives, in seconds, the serial cap, and choices (own).
 --   SettingsFields   the lives, the cap and the choices
 --   lives_of         the four lives
+--   with_cap         the settings of four lives and a cap
 --   IsSettings       each number is in its range
 --   greatest_code, greatest_access, greatest_refresh, greatest_family, greatest_cap
 --                    the greatest number of each range
 use Rattle.std.specs.Prelude.{ℕ, ◌-◌, ◌<◌, ◌≤◌, refl}
 use Rattle.std.specs.Coded.{Coded, code_by, coded×, coded_ℕ}
 use Rattle.tk_handle.specs.Ranges.{greatest_serial}
-use Rattle.tk_message.specs.Choices.{coded_choices}
+use Rattle.tk_message.specs.Choices.{coded_choices, profile_choices}
 use Rattle.tk_message.specs.declared.choices.Choices.{Choices}
 use Rattle.tk_message.specs.declared.place.Lives.{Lives}
 
@@ -24,6 +25,17 @@ pub record SettingsFields : Type 0 where
 -- the four lives
 abbrev pub lives_of : SettingsFields → Lives
 lives_of s = record { code = s.code; access = s.access; refresh = s.refresh; family = s.family }
+
+-- the settings of these lives and this cap, with the choices of the profile
+abbrev pub with_cap : Lives → ℕ → SettingsFields
+with_cap lives cap = record {
+  code = lives.code;
+  access = lives.access;
+  refresh = lives.refresh;
+  family = lives.family;
+  cap = cap;
+  choices = profile_choices;
+}
 
 -- the number is at least 1 and at most the greatest
 abbrev pub IsUpTo : ℕ → ℕ → Type 0

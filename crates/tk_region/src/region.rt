@@ -244,6 +244,9 @@ impl Region {
 
     /// Adds the prepared fact, and returns the reply only then. If memory runs out, the region is
     /// unchanged.
+    ///
+    /// The fact must be the region's next: that of what [`Region::decide`] returned, if nothing was
+    /// done to the region since.
     pub fn commit(&mut self, prepared: Prepared) -> Result<Handled, AllocError>
         requires { IfSome prepared.fact (IsNextFact self.old) }
         ensures { Commits self.old prepared result self.new }
@@ -302,7 +305,8 @@ impl Region {
         }
     }
 
-    /// Takes in a bundle that was read, as [`Region::take_in`] takes in its bytes.
+    /// Takes in a bundle that was read, as [`Region::take_in`] takes in its bytes. Each bundle that
+    /// `Bundle::read` or `read_front` returned has the spelling that is required.
     ///
     /// Returns the number of its dots that were unknown. The facts move into the region. Returns
     /// `OwnNumber` or `Conflict` if the bundle is refused; the region is unchanged then. Returns
@@ -324,7 +328,7 @@ impl Region {
     ///
     /// Returns `None` if the bundle changes nothing: it raises no horizon, has no unknown dot, and
     /// no mark of a fact that is held. Returns an error, and no part of a record, if memory runs
-    /// out.
+    /// out. Each bundle that was read has the spelling that is required.
     pub fn news(&self, alloc: Global, sent: &Bundle) -> Result<Option<Vec<u8>>, AllocError>
         requires { bundle.Fits sent.now }
         ensures news { IfOk result (λ news. option_map (λ bytes. bytes.items) news

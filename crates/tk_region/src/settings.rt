@@ -49,65 +49,50 @@ impl Model for Settings {
 
 ghost use Rattle.std.specs.Prelude.{◌≡◌, ◌↔◌, IsTrue};
 ghost use Rattle.std.specs.Option.{SomeIff};
-ghost use Rattle.tk_message.specs.Choices.{profile_choices};
-ghost use Rattle.tk_region.specs.SettingsFields.{IsSettings, IsUpTo, lives_of, greatest_cap};
+ghost use Rattle.tk_region.specs.SettingsFields.{IsSettings, IsUpTo, greatest_cap, lives_of};
+ghost use Rattle.tk_region.specs.SettingsFields.{with_cap};
 
 use tk_handle::Serial;
 use tk_message::{Choices, Lives};
 
 impl Settings {
     /// The greatest life of a code, in seconds: ten minutes.
-    pub const GREATEST_CODE: u64 = 600;
+    pub const MAX_CODE: u64 = 600;
 
     /// The greatest life of an access token, in seconds: a day.
-    pub const GREATEST_ACCESS: u64 = 86_400;
+    pub const MAX_ACCESS: u64 = 86_400;
 
     /// The greatest life of a refresh token, in seconds: a year.
-    pub const GREATEST_REFRESH: u64 = 31_536_000;
+    pub const MAX_REFRESH: u64 = 31_536_000;
 
     /// The greatest life of a family, in seconds: ten years.
-    pub const GREATEST_FAMILY: u64 = 315_360_000;
+    pub const MAX_FAMILY: u64 = 315_360_000;
 
     /// The greatest cap. The serial above it is left for the dot of the next fact.
-    pub const GREATEST_CAP: u64 = Serial::GREATEST - 1;
+    pub const MAX_CAP: u64 = Serial::MAX - 1;
 
-    /// Returns the settings with the profile's choices, or `None` if one of the numbers is out of
-    /// its range.
+    /// Returns the settings of these lives and this cap with the profile's choices, or `None` if
+    /// one of the numbers is out of its range.
     ///
     /// Each number is at least 1. A code lives at most 600 seconds, an access token 86,400, a
     /// refresh token 31,536,000, a family 315,360,000. The cap is at most the greatest serial less
     /// one.
-    pub fn new(code: u64, access: u64, refresh: u64, family: u64, cap: u64) -> Option<Settings>
-        ensures { SomeIff result (IsSettings (record {
-          code = code;
-          access = access;
-          refresh = refresh;
-          family = family;
-          cap = cap;
-          choices = profile_choices;
-        }))
-            (record {
-              code = code;
-              access = access;
-              refresh = refresh;
-              family = family;
-              cap = cap;
-              choices = profile_choices;
-            }) }
+    pub fn new(lives: Lives, cap: u64) -> Option<Settings>
+        ensures { SomeIff result (IsSettings (with_cap lives cap)) (with_cap lives cap) }
     {
-        let in_range = is_up_to(Settings::GREATEST_CODE, code)
-            && is_up_to(Settings::GREATEST_ACCESS, access)
-            && is_up_to(Settings::GREATEST_REFRESH, refresh)
-            && is_up_to(Settings::GREATEST_FAMILY, family)
-            && is_up_to(Settings::GREATEST_CAP, cap);
+        let in_range = is_up_to(Settings::MAX_CODE, lives.code)
+            && is_up_to(Settings::MAX_ACCESS, lives.access)
+            && is_up_to(Settings::MAX_REFRESH, lives.refresh)
+            && is_up_to(Settings::MAX_FAMILY, lives.family)
+            && is_up_to(Settings::MAX_CAP, cap);
         if !in_range {
             return None;
         }
         Some(Settings {
-            code,
-            access,
-            refresh,
-            family,
+            code: lives.code,
+            access: lives.access,
+            refresh: lives.refresh,
+            family: lives.family,
             cap,
             choices: Choices::profile(),
         })

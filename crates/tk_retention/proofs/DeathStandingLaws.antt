@@ -20,13 +20,16 @@ use Rattle.tk_ledger.specs.SignOuts.{IsSignedOut}
 use Rattle.tk_ledger.specs.Tokens.{links_in, IsRevoked, anchor_in, IsMintedUnder, IsEnded, IsOut}
 use Rattle.tk_ledger.specs.Tokens.{IsMarked}
 use Rattle.tk_ledger.proofs.RootLaws.{minted-under-below, under-minted}
+use Rattle.tk_ledger.proofs.EndingLaws.{under_itself as code_under}
+use Rattle.tk_ledger.proofs.WakeLaws.{grant_place as grant_dot}
 use Rattle.tk_retention.specs.StandsFor.{StandsFor}
-use Rattle.tk_retention.proofs.OverLaws.{IsOver, grant_dot, under_at, over_from, code_under}
+use Rattle.tk_retention.proofs.OverLaws.{IsOver, under_at, over_from}
 use Rattle.tk_retention.proofs.StandingLaws.{all_made, at_held, at_skipped, code_held, lasting_held}
 use Rattle.tk_retention.proofs.StandingLaws.{link_held, made_up, may_skip, mint_held, minted_held}
 use Rattle.tk_retention.proofs.StandingLaws.{reuse_held, twice_held, under_held, use_held}
 
 module _ (P : StoreFields) (U F : FactSet) (S : StandsFor P U F) where
+  -- the facts that the store holds
   abbrev H : FactSet
   H = held_facts P
 
@@ -55,6 +58,7 @@ module _ (P : StoreFields) (U F : FactSet) (S : StandsFor P U F) where
         (ap (λ (x : TokenId). x.dot) (token ∙ r.token)) may.why)
   ]
 
+  -- a subject that was signed out by the facts was so by those that are held
   signed_held : (subject : List ℕ) (moment : ℕ) → IsSignedOut (map.get F) subject moment
       → IsSignedOut (map.get H) subject moment
   signed_held subject moment s = record {
@@ -94,6 +98,7 @@ module _ (P : StoreFields) (U F : FactSet) (S : StandsFor P U F) where
         ]
       ]
 
+  -- a sign-out that ends a code is held, or the code's family is over
   out_held : (c d : Dot) → IsOut (map.get F) d → IsUnder (links_in (map.get U)) d c
       → IsOut (map.get H) d ⊎ IsOver U P.horizon c
   out_held c d x under =
@@ -109,6 +114,7 @@ module _ (P : StoreFields) (U F : FactSet) (S : StandsFor P U F) where
             })
       ]
 
+  -- a token that is marked is so by the facts held, or its family is over
   marked_held : (c : Dot) (k : TokenId) → IsMarked (map.get F) k
       → IsUnder (links_in (map.get U)) k.dot c → IsMarked (map.get H) k ⊎ IsOver U P.horizon c
   marked_held c k (inl seen) under =
@@ -123,6 +129,7 @@ module _ (P : StoreFields) (U F : FactSet) (S : StandsFor P U F) where
     | inr over ↦ inr over
   ]
 
+  -- a token that is marked or used twice is so by the facts held, or its family is over
   why_held : (c : Dot) (k : TokenId) → IsMarked (map.get F) k ⊎ IsTwice (links_in (map.get F)) k
       → IsUnder (links_in (map.get U)) k.dot c
       → (IsMarked (map.get H) k ⊎ IsTwice (links_in (map.get H)) k) ⊎ IsOver U P.horizon c

@@ -50,25 +50,31 @@ use Rattle.tk_retention.proofs.WholeStatus.{whole_status}
 
 module _ (P : StoreFields) (U F : FactSet) (S : StandsFor P U F) (sound : AreSound U)
     (place : Place) (now : ℕ) (soon : P.horizon ≤ now) (words : List ℕ) where
+  -- the facts that the store holds
   abbrev H : FactSet
   H = held_facts P
 
+  -- each handle is answered alike by the store and by all facts
   alike : (h : Handle)
       → AnsweredAlike now h (status_here P now h) (status_here (whole_store F) now h)
   alike h = subst (λ (x : Status). AnsweredAlike now h (status_here P now h) x)
       (sym (whole_status F now h)) (status_stands P U F S sound now soon h)
 
+  -- the store of all facts holds them
   back : held_facts (whole_store F) ≡ F
   back = held_whole_store F
 
+  -- the sender of a request is the same by the store and by all facts
   caller_back : (names : List (List ℕ)) (request : RequestFields)
       → caller_of H names request ≡ caller_of (held_facts (whole_store F)) names request
   caller_back names request =
       caller_same P U F S names request ∙ ap (λ (G : FactSet). caller_of G names request) (sym back)
 
+  -- a client is the same by the store and by all facts
   view_back : (d : Dot) → client_view H d ≡ client_view (held_facts (whole_store F)) d
   view_back d = client_view_same P U F S d ∙ ap (λ (G : FactSet). client_view G d) (sym back)
 
+  -- an administration request is decided by the store as by all facts
   administered : (request : RequestFields)
       → administration_of H place now request
       ≡ administration_of (held_facts (whole_store F)) place now request
@@ -84,6 +90,7 @@ module _ (P : StoreFields) (U F : FactSet) (S : StandsFor P U F) (sound : AreSou
   Decides e request d = (d ≡ decision_by e (whole_store F) place now words request)
       ⊎ ((e ≡ endpoint.Revoke) × IsAnew (whole_store F) place now request d)
 
+  -- a revocation request is decided by the store as by all facts, or revokes anew
   revoked_alike : (request : RequestFields)
       → Decides endpoint.Revoke request (decision_by endpoint.Revoke P place now words request)
   revoked_alike request = elim (revocations_alike P (whole_store F) place now request alike
@@ -99,6 +106,7 @@ module _ (P : StoreFields) (U F : FactSet) (S : StandsFor P U F) (sound : AreSou
         | inr anew ↦ inr (refl, anew)
       ]
 
+  -- a request at each endpoint is decided by the store as by all facts
   by_endpoint : (e : Endpoint) (request : RequestFields)
       → Decides e request (decision_by e P place now words request)
   by_endpoint endpoint.Authorize request = inl (
@@ -136,7 +144,8 @@ pub decision_stands : (P : StoreFields) (U F : FactSet) → StandsFor P U F → 
 decision_stands P U F S sound place now soon words request =
     by_endpoint P U F S sound place now soon words request.endpoint request
 
-never_before : (now horizon : ℕ) → horizon ≤ now → nat_lt now horizon ≡ false
+-- a moment from the horizon on isn't before it
+pub never_before : (now horizon : ℕ) → horizon ≤ now → nat_lt now horizon ≡ false
 never_before now horizon le = grind (arith, nat_tests)
 
 -- from the horizon on, what a region prepares of a request is prepared of a decision for the facts

@@ -24,7 +24,8 @@ use Rattle.tk_retention.specs.StandsFor.{StandsFor, AreSound}
 use Rattle.tk_retention.proofs.LastingLaws.{revoked_up}
 use Rattle.tk_retention.proofs.StandingLaws.{held_made}
 use Rattle.tk_retention.proofs.DeathStandingLaws.{revoked_held}
-use Rattle.tk_retention.proofs.StatusParts.{digest_kept, mints_some}
+use Rattle.tk_retention.proofs.StatusParts.{mints_some}
+use Rattle.tk_ledger.proofs.TopLaws.{digest_kept}
 
 -- ---- revocations
 

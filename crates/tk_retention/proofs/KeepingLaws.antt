@@ -14,6 +14,7 @@ use Rattle.tk_handle.specs.declared.token_id.TokenId.{TokenId}
 use Rattle.tk_family.specs.declared.link.Link.{Link}
 use Rattle.tk_family.specs.declared.link.Link.TheVariants.{Code, Redeems, Rotates}
 use Rattle.tk_family.specs.Families.{Links, used_by, named_by, IsParent, IsTrail, IsUnder, use_of}
+use Rattle.tk_store.proofs.SubsetLaws.{subset_itself}
 use Rattle.tk_family.proofs.DotLaws.{cases_dots}
 use Rattle.tk_family.proofs.FamilyLaws.{IsParent-within}
 use Rattle.tk_fact.specs.Tokens.{MintedFields, minted_of}
@@ -39,6 +40,7 @@ minted_more F G w k None h some = absurd (some refl)
 minted_more F G w k (Some m) h some =
     λ none. none_some (minted_in (map.get G) k) m none (minted-below F G w k m h)
 
+-- a dot that has a link among some facts has one among more facts
 link_more : (F G : FactSet) → IsSubset F G → (d : Dot) (o : Option Link)
     → links_in (map.get F) d ≡ o → o ≢ None → links_in (map.get G) d ≢ None
 link_more F G w d None h some = absurd (some refl)
@@ -83,9 +85,7 @@ pub stands_more : (P : StoreFields) (U V F : FactSet) → IsSubset U V → Stand
 stands_more P U V F w S d =
     slot_more U V w P.horizon P.horizon (omega arith) d (map.get P.slots d) (map.get F d) (S d)
 
-itself : (U : FactSet) → IsSubset U U
-itself U d b h = h
-
+-- an equal slot stands for the same fact
 slot_at : (U : FactSet) (t : ℕ) (d : Dot) (o p : Option Slot) (f : Option Body) → o ≡ p
     → SlotStands U t d p f → SlotStands U t d o f
 slot_at U t d o p f same x = subst (λ (q : Option Slot). SlotStands U t d q f) (sym same) x
@@ -98,7 +98,7 @@ prune_stands old new moment n U F prunes S d =
     elim (prunes.keeps d) [
       | inl same ↦ slot_at U new.horizon d (map.get new.slots d) (map.get old.slots d)
           (map.get F d) same
-          (slot_more U U (itself U) old.horizon new.horizon later d (map.get old.slots d)
+          (slot_more U U (subset_itself U) old.horizon new.horizon later d (map.get old.slots d)
           (map.get F d) (S d))
       | inr may ↦
           let made = may_more (held_facts old) U (held_made old U F S) new.horizon new.horizon
@@ -128,10 +128,11 @@ pub mark_stands : (P : StoreFields) (U F G : FactSet) (horizon : ℕ) (d : Dot)
     → StandsFor (with_skipped (with_horizon P horizon) d) U G
 mark_stands P U F G horizon d may here others S =
     slot_put U (max P.horizon horizon) P.slots d Skipped G
-    (here, may_more U U (itself U) horizon (max P.horizon horizon) (omega arith) d may)
+    (here, may_more U U (subset_itself U) horizon (max P.horizon horizon) (omega arith) d may)
     (λ q ne. subst (λ (f : Option Body).
     SlotStands U (max P.horizon horizon) q (map.get P.slots q) f) (sym (others q ne))
-    (slot_more U U (itself U) P.horizon (max P.horizon horizon) (omega arith) q (map.get P.slots q)
+    (slot_more U U (subset_itself U) P.horizon (max P.horizon horizon) (omega arith) q
+    (map.get P.slots q)
     (map.get F q) (S q)))
 
 -- a fact that is made, or taken in at an unknown dot
@@ -158,16 +159,19 @@ drop_stands P U F G d skipped here others S q = elim (cases_dots q d) [
 
 -- ---- soundness of all facts made is kept by one more
 
+-- the dot that a link names is that of the token that the link uses
 named_use : (l : Link) (p : Dot) → named_by l ≡ Some p
     → (k : TokenId) × (used_by l ≡ Some k) × (k.dot ≡ p)
 named_use Code p h = absurd (none_is_not_some p h)
 named_use (Redeems c) p h = (record { dot = c; kind = kind.Code }, refl, some_injective c p h)
 named_use (Rotates q g) p h = (record { dot = q; kind = kind.Refresh }, refl, some_injective q p h)
 
+-- the parent of a dot is the dot of the token that is used there
 parent_use : (f : Links) (e p : Dot) → IsParent f e p
     → (k : TokenId) × (use_of (f e) ≡ Some k) × (k.dot ≡ p)
 parent_use f e p a = (let x = named_use a.link p a.names in (x.0, ap use_of a.here ∙ x.1, x.2))
 
+-- a set is a subset of the set with one fact added
 part_of_adds : (U V : FactSet) (d : Dot) (b : Body) → AddsOne U d b V → IsSubset U V
 part_of_adds U V d b a q x h = elim (cases_dots q d) [
   | inl same ↦ absurd (none_some (map.get U q) x (ap (map.get U) same ∙ a.free) h)
@@ -175,6 +179,7 @@ part_of_adds U V d b a q x h = elim (cases_dots q d) [
 ]
 
 module _ (U V : FactSet) (d : Dot) (b : Body) (A : AddsOne U d b V) (sound : AreSound U) where
+  -- one more fact leaves the link at each other dot
   links_old : (q : Dot) → q ≢ d → links_in (map.get V) q ≡ links_in (map.get U) q
   links_old q ne = ap (option_and_then link_of) (A.others q ne)
 
@@ -189,6 +194,7 @@ module _ (U V : FactSet) (d : Dot) (b : Body) (A : AddsOne U d b V) (sound : Are
       none_some (links_in (map.get U) by.0.dot) old.above (ap (option_and_then link_of) free)
       old.there
 
+  -- a trail from another dot than the new one was there before the new fact
   trail_old : (q : Dot) (ps : List Dot) (c : Dot) → q ≢ d → IsTrail (links_in (map.get V)) q ps c
       → IsTrail (links_in (map.get U)) q ps c
   trail_old q [] c ne m = m
@@ -205,6 +211,7 @@ module _ (U V : FactSet) (d : Dot) (b : Body) (A : AddsOne U d b V) (sound : Are
         trail_old p ps c other m.1,
       )
 
+  -- a trail from another dot than the new one does not end at the new one
   root_old : (q : Dot) (ps : List Dot) (c : Dot) → q ≢ d → IsTrail (links_in (map.get V)) q ps c
       → c ≢ d
   root_old q [] c ne m = λ same. ne (m ∙ same)

@@ -43,9 +43,9 @@ use Rattle.tk_ledger.proofs.SpanLaws.{first_is}
 use Rattle.tk_params.specs.Credentials.{Presented, Mixed, Unreadable, Presents, presented_in}
 use Rattle.tk_params.specs.Params.{has_twice}
 use Rattle.tk_message.specs.Authentication.{accepts, proves, authenticated_at, authenticated_as}
+use Rattle.tk_message.specs.Authentication.{if_proved}
 use Rattle.tk_message.specs.Caller.{caller_by, caller_by_auth, caller_of}
 use Rattle.tk_message.specs.RequestFields.{RequestFields}
-use Rattle.tk_message.specs.declared.authentication.Auth.TheVariants as auth
 use Rattle.tk_message.specs.declared.caller.Caller.{Caller}
 use Rattle.tk_message.specs.declared.caller.Caller.TheVariants.{DuplicateParameter}
 use Rattle.tk_retention.specs.StandsFor.{StandsFor}
@@ -54,6 +54,7 @@ use Rattle.tk_retention.proofs.StandingLaws.{at_skipped, at_held, apart, may_ski
 use Rattle.tk_retention.proofs.StandingLaws.{held_part, lasting_held}
 
 module _ (P : StoreFields) (U F : FactSet) (S : StandsFor P U F) where
+  -- the facts that the store holds
   abbrev H : FactSet
   H = held_facts P
 
@@ -67,6 +68,7 @@ module _ (P : StoreFields) (U F : FactSet) (S : StandsFor P U F) where
       any_fact-of p H x.dot x.body
       (lasting_held P U F S x.dot x.body (lasts x.dot x.body x.passes) x.held) x.passes))
 
+  -- a part of a body that is no value is None
   none_of : {A : Type 0} (f : Body → Option A) (o : Option A) (b : Body) → f b ≡ o
       → ((y : A) → f b ≡ Some y → ⊥) → f b ≡ None
   none_of f None b h never = h
@@ -145,6 +147,7 @@ module _ (P : StoreFields) (U F : FactSet) (S : StandsFor P U F) where
     live = not (withdrawn_same d i);
   }) (consent_same d i)
 
+  -- a consent that is withdrawn by the facts held is withdrawn by all facts
   withdrawal_up : (d : Dot) → IsWithdrawn (map.get H) d → IsWithdrawn (map.get F) d
   withdrawal_up d x = record {
     place = x.place;
@@ -153,6 +156,7 @@ module _ (P : StoreFields) (U F : FactSet) (S : StandsFor P U F) where
     names = x.names;
   }
 
+  -- a consent that is withdrawn by all facts is withdrawn by those that are held
   withdrawal_down : (d : Dot) → IsWithdrawn (map.get F) d → IsWithdrawn (map.get H) d
   withdrawal_down d x = record {
     place = x.place;
@@ -161,6 +165,7 @@ module _ (P : StoreFields) (U F : FactSet) (S : StandsFor P U F) where
     names = x.names;
   }
 
+  -- a live consent by the facts held, which covers the scope, is one by all facts
   consent_up : (client : Dot) (subject scope : List ℕ) (d : Dot)
       → IsConsentFor (map.get H) client subject scope d
       → IsConsentFor (map.get F) client subject scope d
@@ -175,6 +180,7 @@ module _ (P : StoreFields) (U F : FactSet) (S : StandsFor P U F) where
     includes = x.includes;
   }
 
+  -- a live consent by all facts, which covers the scope, is one by those that are held
   consent_down : (client : Dot) (subject scope : List ℕ) (d : Dot)
       → IsConsentFor (map.get F) client subject scope d
       → IsConsentFor (map.get H) client subject scope d
@@ -189,6 +195,7 @@ module _ (P : StoreFields) (U F : FactSet) (S : StandsFor P U F) where
     includes = x.includes;
   }
 
+  -- the least live consent by the facts held is the least by all facts
   least_up : (client : Dot) (subject scope : List ℕ) (o : Option Dot)
       → IsLeastConsent (map.get H) client subject scope o
       → IsLeastConsent (map.get F) client subject scope o
@@ -217,6 +224,7 @@ module _ (P : StoreFields) (U F : FactSet) (S : StandsFor P U F) where
 
   -- ---- secrets
 
+  -- a fact that sets a client's secret is kept for no token
   set_lasts : (d q : Dot) (turn : ℕ) (digest : List ℕ) (b : Body)
       → sets d turn digest (q, b) ≡ true → kept_for q b ≡ None
   set_lasts d q turn digest (body.SecretSet f) h = refl
@@ -234,10 +242,12 @@ module _ (P : StoreFields) (U F : FactSet) (S : StandsFor P U F) where
       (lasting_held P U F S x.dot x.body (set_lasts d x.dot turn digest x.body x.passes) x.held)
       x.passes))
 
+  -- a fact that has a turn of a client's secret is kept for no token
   turn_lasts : (d q : Dot) (turn : ℕ) (b : Body) → turn_in d b ≡ Some turn → kept_for q b ≡ None
   turn_lasts d q turn (body.SecretSet f) h = refl
   turn_lasts d q turn b h = absurd (none_is_not_some turn h)
 
+  -- a turn of a client's secret by the facts held is one by all facts
   turn_up : (d : Dot) (turn : ℕ) → HasTurn H d turn → HasTurn F d turn
   turn_up d turn x = record {
     dot = x.dot;
@@ -246,6 +256,7 @@ module _ (P : StoreFields) (U F : FactSet) (S : StandsFor P U F) where
     sets = x.sets;
   }
 
+  -- a turn of a client's secret by all facts is one by those that are held
   turn_down : (d : Dot) (turn : ℕ) → HasTurn F d turn → HasTurn H d turn
   turn_down d turn x = record {
     dot = x.dot;
@@ -274,11 +285,13 @@ module _ (P : StoreFields) (U F : FactSet) (S : StandsFor P U F) where
 
   -- ---- the sender of a request
 
+  -- a digest is that of a client's secret at a turn by both sets or by neither
   secret_same : (d : Dot) (first : List ℕ) (turn : ℕ) (digest : List ℕ)
       → is_secret_at H d first turn digest ≡ is_secret_at F d first turn digest
   secret_same d first turn digest =
       ap (λ t. ((turn == 0) && bytes_eq first digest) || t) (is_set_same d turn digest)
 
+  -- a digest is that of a good secret of a client by both sets or by neither
   good_same : (d : Dot) (first digest : List ℕ)
       → is_good_secret H d first digest ≡ is_good_secret F d first digest
   good_same d first digest =
@@ -287,11 +300,13 @@ module _ (P : StoreFields) (U F : FactSet) (S : StandsFor P U F) where
       ∙ (λ i. secret_same d first (last_turn F d) digest i
       || (nat_lt 0 (last_turn F d) && secret_same d first (last_turn F d - 1) digest i))
 
+  -- a secret, or its absence, is accepted of a client by both sets or by neither
   accepts_same : (d : Dot) (first : List ℕ) (secret : Option (List ℕ))
       → accepts H d first secret ≡ accepts F d first secret
   accepts_same d first None = refl
   accepts_same d first (Some secret) = good_same d first _
 
+  -- a client of each kind is proved by its secret in both sets or in neither
   proves_same : (d : Dot) (client_kind : ClientKind) (secret : Option (List ℕ))
       → proves H d client_kind secret ≡ proves F d client_kind secret
   proves_same d Public None = refl
@@ -300,6 +315,7 @@ module _ (P : StoreFields) (U F : FactSet) (S : StandsFor P U F) where
   proves_same d (Resource first) secret = accepts_same d first secret
   proves_same d (Keeping first) secret = accepts_same d first secret
 
+  -- how a client authenticates is the same by both sets
   authenticated_same : (secret : Option (List ℕ)) (o : Option Dot)
       → authenticated_at H secret o ≡ authenticated_at F secret o
   authenticated_same secret None = refl
@@ -310,9 +326,10 @@ module _ (P : StoreFields) (U F : FactSet) (S : StandsFor P U F) where
           → authenticated_as H d secret o ≡ authenticated_as F d secret o
       as_same None = refl
       as_same (Some client) =
-          ap (λ (t : Bool). cond (client.live && t) (auth.Client d) auth.Invalid)
+          ap (λ (t : Bool). if_proved d (client.live && t))
           (proves_same d client.client_kind secret)
 
+  -- the sender by the credentials presented is the same by both sets
   caller_by_same : (x : Presented) → caller_by H x ≡ caller_by F x
   caller_by_same Mixed = refl
   caller_by_same Unreadable = refl

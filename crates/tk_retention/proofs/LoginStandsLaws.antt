@@ -6,9 +6,9 @@
 --   ending_same             what ends a login whose state is Used
 --   logout_same             the judgement of the end of a login
 use Rattle.std.proofs.Common.{◌≡◌, ◌⊎◌, inl, inr, ℕ, ◌≤◌, ◌<◌, nat_le, Bool, true, false}
-use Rattle.std.proofs.Common.{cond, List, Option, None, Some, refl, sym, ap, ◌∙◌, arith}
-use Rattle.std.proofs.lemmas.Bool.{cases_lt, le-leb, cond-true, cond-false, false_from_ne_true}
-use Rattle.std.proofs.lemmas.Bool.Decides.{nat_tests}
+use Rattle.std.proofs.Common.{cond, List, Option, None, Some, refl, sym, ap, ◌∙◌}
+use Rattle.std.proofs.lemmas.Bool.{cases_lt, le-leb, lt-leb, cond-true, cond-false}
+use Rattle.std.proofs.lemmas.Bool.{false_from_ne_true}
 use Rattle.std.specs.FinMap as map
 use Rattle.std.specs.Option.{option_and_then}
 use Rattle.tk_handle.specs.declared.dot.Dot.{Dot}
@@ -36,17 +36,16 @@ use Rattle.tk_ledger.proofs.SameLaws.{names_token-true, names_token-of}
 use Rattle.tk_ledger.proofs.SubjectWalkLaws.{consents_same, logins_same}
 use Rattle.tk_ledger.proofs.TokenLaws.{use_at, use_from}
 use Rattle.tk_authorize.specs.Logouts.{ended_by, ended_in, ended_at}
+use Rattle.tk_ledger.proofs.EndingLaws.{under_itself as code_under}
 use Rattle.tk_retention.specs.StandsFor.{StandsFor, AreSound}
 use Rattle.tk_retention.proofs.LastingLaws.{consent_view_same}
-use Rattle.tk_retention.proofs.OverLaws.{code_under, none_some}
+use Rattle.tk_retention.proofs.OverLaws.{none_some}
 use Rattle.tk_retention.proofs.StandingLaws.{held_part, made_up, code_held, use_held}
 use Rattle.tk_retention.proofs.StatusParts.{issued_below}
 use Rattle.tk_retention.proofs.StatusStandsLaws.{never_over, state_same}
 
-not_yet : (now end : ℕ) → now < end → nat_le end now ≡ false
-not_yet now end h = grind (arith, nat_tests)
-
 module _ (P : StoreFields) (U F : FactSet) (S : StandsFor P U F) where
+  -- the facts that the store holds
   abbrev H : FactSet
   H = held_facts P
 
@@ -84,12 +83,14 @@ module _ (P : StoreFields) (U F : FactSet) (S : StandsFor P U F) where
 
     module _ (code : issued.CodeIssued) (is : issued_at (map.get F) d ≡ Some code)
         (early : now < code.family_end) where
+      -- a code whose family is not over is held
       issued_same : issued_at (map.get H) d ≡ Some code
       issued_same = elim (code_held P U F S d code is) [
         | inl held ↦ held
         | inr over ↦ absurd (never_over P U F S now soon (root_at code) is early over)
       ]
 
+      -- the login of a code is the same by both sets
       login_same : login_of H now d code ≡ login_of F now d code
       login_same =
           let s : state_in H now (code_token d) (minted_code code) (root_at code)
@@ -106,6 +107,7 @@ module _ (P : StoreFields) (U F : FactSet) (S : StandsFor P U F) where
 
       -- ---- the fact that redeems the code
 
+      -- the redemption of a code that isn't dead is the same by both sets
       redemption_same : is_dead F d ≡ false → redemption_of H d ≡ redemption_of F d
       redemption_same alive = by_all (redemption_of F d) refl
         where
@@ -160,6 +162,7 @@ module _ (P : StoreFields) (U F : FactSet) (S : StandsFor P U F) where
               (names_token-true (use_of (link_of e.1)) (code_token d) p.1))
               p.0 (redemption_of H d) refl
 
+      -- what ends the login of a code that isn't dead is the same by both sets
       ends_same : is_dead F d ≡ false → ending_of H d ≡ ending_of F d
       ends_same alive =
           ap (ending_by H d) issued_same
@@ -178,6 +181,7 @@ module _ (P : StoreFields) (U F : FactSet) (S : StandsFor P U F) where
         ∙ cond-true (nat_le code.family_end now) None (Some (login_of G now d code))
         (le-leb code.family_end now over)
 
+    -- at the dot of a code the store holds no code or that one
     none_or : (code : issued.CodeIssued) → issued_at (map.get F) d ≡ Some code
         → (issued_at (map.get H) d ≡ None) ⊎ (issued_at (map.get H) d ≡ Some code)
     none_or code is = by_code (issued_at (map.get H) d) refl
@@ -258,7 +262,7 @@ module _ (P : StoreFields) (U F : FactSet) (S : StandsFor P U F) where
           | inl early ↦ ends_same code at early
               (alive code (some_injective (login_of F now d code) login
               (sym (cond-false (nat_le code.family_end now) None (Some (login_of F now d code))
-              (not_yet now code.family_end early)) ∙ sym (ap (login_by_code F now d) at) ∙ shown)))
+              (lt-leb code.family_end now early)) ∙ sym (ap (login_by_code F now d) at) ∙ shown)))
           | inr over ↦ absurd (none_some (login_by_code F now d (issued_at (map.get F) d)) login
               (gone F code over (issued_at (map.get F) d) (inr at)) shown)
         ]

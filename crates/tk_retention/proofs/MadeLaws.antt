@@ -30,17 +30,16 @@ use Rattle.tk_grant.specs.Within.{IsCodeOf, IsWithin}
 use Rattle.tk_region.specs.Decision.{decision_by}
 use Rattle.tk_region.specs.RegionFields.{RegionFields, place_in}
 use Rattle.tk_region.specs.Step.{early_in, prepared_by, prepared_of}
+use Rattle.tk_ledger.proofs.EndingLaws.{under_itself as code_under}
 use Rattle.tk_retention.specs.StandsFor.{AddsOne, MeetsFamily}
 use Rattle.tk_retention.proofs.KeepingLaws.{minted_more}
-use Rattle.tk_retention.proofs.OverLaws.{code_under}
 use Rattle.tk_retention.proofs.WithinLaws.{made_within, prepares_within}
-
-some_known : {A : Type 0} (o : Option A) (a : A) → o ≡ Some a → o ≢ None
-some_known o a h none = none_is_not_some a (sym none ∙ h)
+use Rattle.tk_grant.proofs.GateLaws.{some_known}
 
 -- ---- what meets its family
 
 module _ (F U V : FactSet) (d : Dot) (b : Body) (part : IsSubset F U) (adds : AddsOne U d b V) where
+  -- the facts that the region held are among all facts with the new one
   grown : IsSubset F V
   grown q c h = by (part q c h)
     where
@@ -50,6 +49,7 @@ module _ (F U V : FactSet) (d : Dot) (b : Body) (part : IsSubset F U) (adds : Ad
       by : map.get U q ≡ Some c → map.get V q ≡ Some c
       by at = adds.others q (λ same. taken at same) ∙ at
 
+  -- the link at the new dot is that of the new fact
   link_here : links_in (map.get V) d ≡ link_of b
   link_here = ap (option_and_then link_of) adds.here
 
@@ -60,6 +60,7 @@ module _ (F U V : FactSet) (d : Dot) (b : Body) (part : IsSubset F U) (adds : Ad
       subst (λ (q : Dot). IsUnder (links_in (map.get V)) q c) (ap (anchor_by d) adds.here)
       (subst (λ (q : Dot). IsMintedUnder (map.get V) q c) same under)
 
+  -- a code that the region held is issued by all facts with the new one
   code_grown : (c : Dot) (code : issued.CodeIssued) → issued_at (map.get F) c ≡ Some code
       → issued_at (map.get V) c ≡ Some code
   code_grown c code h =
@@ -83,6 +84,7 @@ module _ (F U V : FactSet) (d : Dot) (b : Body) (part : IsSubset F U) (adds : Ad
           subst (λ (x : Dot). IsUnder (links_in (map.get V)) x c) here
           (record { path = ps; leads = (leads.0.1, leads.1) })
 
+  -- a code that the region held is under itself
   code_itself : (c : Dot) (code : issued.CodeIssued) → issued_at (map.get F) c ≡ Some code
       → IsUnder (links_in (map.get V)) c c
   code_itself c code h = code_under V c code (code_grown c code h)
@@ -98,11 +100,13 @@ module _ (F U V : FactSet) (d : Dot) (b : Body) (part : IsSubset F U) (adds : Ad
       (sym (code_grown root of.0 of.1) ∙ ap (issued_at (map.get V)) (sym same) ∙ issues) in
       of.2 ∙ ap (λ (x : issued.CodeIssued). x.family_end) is
 
+  -- what is minted at the new dot is what the new fact mints
   minted_here : (k : TokenId) → k.dot ≡ d → minted_in (map.get V) k ≡ minted_of b k.kind
   minted_here k same = ap (λ (q : Dot).
       option_and_then (λ (x : Body). minted_of x k.kind) (map.get V q)) same
       ∙ ap (option_and_then (λ (x : Body). minted_of x k.kind)) adds.here
 
+  -- a token of a fact expires by a moment if the fact's access and refresh expiries are by then
   ends_within : (b' : Body) (access refresh : ℕ) (k : Kind) (m : MintedFields) (moment : ℕ)
       → k ≢ kind.Code
       → ((x : MintedFields) → minted_of b' kind.Access ≡ Some x → x.expiry ≡ access)
@@ -121,6 +125,7 @@ Alone U b = ((k : Kind) → k ≢ kind.Code → minted_of b k ≡ None) × (use_
     → minted_in (map.get U) reuse.token ≢ None)
     × ((f : renewed.AccessRefreshed) → b ≡ body.AccessRefreshed f → ⊥)
 
+-- what is wanted of a family's new fact holds of one that mints codes alone and uses nothing
 alone_meets : (U V : FactSet) (d : Dot) (b : Body) → AddsOne U d b V → Alone U b → MeetsFamily U d V
 alone_meets U V d b adds alone = record {
   cut = λ k m c code same other minted under issues.
@@ -134,6 +139,7 @@ alone_meets U V d b adds alone = record {
       λ f at. absurd (alone.3 f (some_injective b (body.AccessRefreshed f) (sym adds.here ∙ at)));
 }
 
+-- the fact of an issued code mints a code alone, and uses nothing
 codes_alone : (U : FactSet) (f : issued.CodeIssued) → Alone U (body.CodeIssued f)
 codes_alone U f = (none, refl, λ reuse same. absurd (cc), λ g same. cc)
   where

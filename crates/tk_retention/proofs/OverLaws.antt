@@ -2,13 +2,12 @@
 --   IsOver          the family of a code is over at a moment
 --   linked_mints    what has a link mints
 --   minting         what is under a code mints
---   minted_linked   what is minted at a link is under the link's code
 --   kept_anchor     what mints is kept for a token at its anchor
 --   over_from       a family that is over, by a token's dot
 --   anchor_link     what mints has its anchor at a link, where all facts made are sound
 --   over_here       what mints and may be skipped is of a family that is over
 use Rattle.std.proofs.Common.{◌≡◌, ◌≢◌, ◌⊎◌, inl, inr, ℕ, ◌≤◌, true, false, Option, None, Some}
-use Rattle.std.proofs.Common.{[], refl, sym, ap, subst, ◌∙◌}
+use Rattle.std.proofs.Common.{refl, sym, ap, subst, ◌∙◌}
 use Rattle.std.proofs.lemmas.Bool.{true≢false, cases_Bool}
 use Rattle.std.specs.Option.{option_and_then}
 use Rattle.std.specs.FinMap as map
@@ -16,7 +15,7 @@ use Rattle.tk_handle.specs.declared.dot.Dot.{Dot}
 use Rattle.tk_handle.specs.declared.token_id.TokenId.{TokenId}
 use Rattle.tk_family.specs.declared.link.Link.{Link}
 use Rattle.tk_family.specs.declared.link.Link.TheVariants.{Code, Redeems, Rotates}
-use Rattle.tk_family.specs.Families.{Links, used_by, named_by, use_of, grant_at, IsUnder}
+use Rattle.tk_family.specs.Families.{Links, used_by, named_by, use_of, IsUnder}
 use Rattle.tk_family.proofs.FamilyLaws.{IsUnder-one}
 use Rattle.tk_fact.specs.Keeping.{kept_for}
 use Rattle.tk_fact.specs.Tokens.{anchor_of}
@@ -28,9 +27,10 @@ use Rattle.tk_store.proofs.PutLaws.{none_is_not_some, some_injective}
 use Rattle.tk_ledger.specs.Bodies.{Bodies}
 use Rattle.tk_ledger.specs.Retention.{IsOverAt, MintsNothing, MaySkip, mints}
 use Rattle.tk_ledger.specs.Tokens.{anchor_by, anchor_in, IsMintedUnder, link_of, links_in}
-use Rattle.tk_ledger.specs.Tokens.{issued_in, issued_at}
-use Rattle.tk_ledger.proofs.RootLaws.{anchor-linked, link_under}
+use Rattle.tk_ledger.specs.Tokens.{issued_at}
+use Rattle.tk_ledger.proofs.RootLaws.{link_under}
 use Rattle.tk_retention.specs.StandsFor.{AreSound}
+use Rattle.tk_ledger.proofs.RootLaws.{minted-linked as minted_linked}
 
 -- the family of the code at c is over at the moment
 pub record IsOver (U : FactSet) (t : ℕ) (c : Dot) : Type 0 where
@@ -54,12 +54,7 @@ kept_linked d (body.RefreshRotated r) l k h e =
     ap (λ (x : TokenId). x.dot) (sym (some_injective _ k e))
 kept_linked d b l k h e = absurd (none_is_not_some l h)
 
--- the token that a link mints is at the link's dot
-pub grant_dot : (d : Dot) (l : Link) → (grant_at d l).dot ≡ d
-grant_dot d Code = refl
-grant_dot d (Redeems c) = refl
-grant_dot d (Rotates p g) = refl
-
+-- a link that uses a token names the token's dot
 used_named : (l : Link) (k : TokenId) → used_by l ≡ Some k → named_by l ≡ Some k.dot
 used_named Code k h = absurd (none_is_not_some k h)
 used_named (Redeems c) k h = ap (λ (x : TokenId). Some x.dot) (some_injective _ k h)
@@ -91,12 +86,6 @@ pub over_at : (U : FactSet) (t : ℕ) (b c : Dot) (code : issued.CodeIssued) →
     → issued_at (map.get U) b ≡ Some code → code.family_end ≤ t → IsOver U t c
 over_at U t b c code same is over =
     subst (λ (q : Dot). IsOver U t q) same (record { code = code; is = is; over = over })
-
-issues_link : (o : Option Body) (code : issued.CodeIssued) → option_and_then issued_in o ≡ Some code
-    → option_and_then link_of o ≡ Some Code
-issues_link None code h = absurd (none_is_not_some code h)
-issues_link (Some (body.CodeIssued c)) code h = refl
-issues_link (Some b) code h = absurd (none_is_not_some code h)
 
 -- what is minted under a code at a dot is so at an equal dot
 pub minted_to : (body_at : Bodies) (d e c : Dot) → d ≡ e → IsMintedUnder body_at d c
@@ -146,12 +135,6 @@ minting body_at d c b here under = elim (cases_Bool (mints b)) [
       absurd (under_mints body_at d c under (record { fact = b; here = here; barren = barren }))
 ]
 
--- what is minted at a link is under the codes that the link is under
-pub minted_linked : (body_at : Bodies) (d c : Dot) (l : Link) → links_in body_at d ≡ Some l
-    → IsMintedUnder body_at d c → IsUnder (links_in body_at) d c
-minted_linked body_at d c l at under =
-    under_at (links_in body_at) (anchor_in body_at d) d c (anchor-linked body_at d l at) under
-
 -- what mints is kept for a token at its anchor
 pub kept_anchor : (d : Dot) (b : Body) (k : TokenId) → mints b ≡ true → kept_for d b ≡ Some k
     → k.dot ≡ anchor_of d b
@@ -177,6 +160,7 @@ over_from U t e d c (inr none) same under =
 
 -- ---- anchors, where all facts made are sound
 
+-- a link that isn't missing is there
 some_link : (o : Option Link) → o ≢ None → (l : Link) × (o ≡ Some l)
 some_link None some = absurd (some refl)
 some_link (Some l) some = (l, refl)
@@ -216,8 +200,3 @@ over_here U t sound d may h = by may.token.dot (kept_anchor d may.fact may.token
     by q own (inr none) =
         absurd (barren_unlinked (map.get U) (anchor_of d may.fact) link.0 link.1
         (subst (λ (x : Dot). MintsNothing (map.get U) x) own none))
-
--- a code is under itself
-pub code_under : (F : FactSet) (c : Dot) (code : issued.CodeIssued)
-    → issued_at (map.get F) c ≡ Some code → IsUnder (links_in (map.get F)) c c
-code_under F c code is = record { path = []; leads = (refl, issues_link (map.get F c) code is) }

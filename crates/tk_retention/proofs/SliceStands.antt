@@ -27,13 +27,15 @@ use Rattle.tk_ledger.specs.Tokens.{IsMintedUnder, anchor_by, link_of, links_in, 
 use Rattle.tk_ledger.specs.Tokens.{issued_at}
 use Rattle.tk_ledger.specs.declared.slices.Slice.{Slice}
 use Rattle.tk_ledger.proofs.RootLaws.{from_some, under-minted}
+use Rattle.tk_ledger.proofs.EndingLaws.{under_itself as code_under}
 use Rattle.tk_retention.specs.StandsFor.{StandsFor, AreSound}
 use Rattle.tk_retention.proofs.KeepingLaws.{may_more, slot_more, slot_put}
-use Rattle.tk_retention.proofs.OverLaws.{link_from, linked_mints, minted_linked, over_here}
-use Rattle.tk_retention.proofs.OverLaws.{code_under}
+use Rattle.tk_retention.proofs.OverLaws.{link_from, linked_mints, over_here}
+use Rattle.tk_ledger.proofs.RootLaws.{minted-linked as minted_linked}
 use Rattle.tk_retention.proofs.StandingLaws.{at_held, may_skip, held_made, held_part}
 
 module _ (P : StoreFields) (U F : FactSet) (S : StandsFor P U F) where
+  -- the facts that the store holds
   abbrev H : FactSet
   H = held_facts P
 
@@ -77,6 +79,7 @@ module _ (P : StoreFields) (U F : FactSet) (S : StandsFor P U F) where
       by true some = inl (over_here U P.horizon sound q may some)
 
   module _ (sound : AreSound U) (d : Dot) where
+    -- a fact that names a skipped dot may be skipped by all facts made
     names_soundly : (b : Body) (q : Dot) → map.get U d ≡ Some b → names_of b ≡ Some q
         → is_skipped P.slots q ≡ true → MaySkip (map.get U) P.horizon d
     names_soundly (body.CodeRedeemed f) q here names skipped =
@@ -129,12 +132,14 @@ module _ (P : StoreFields) (U F : FactSet) (S : StandsFor P U F) where
     goes_soundly (inr names) = names_soundly names.fact names.named
         (held_made P U F S d names.fact names.here) names.names names.skipped
 
+  -- a fact that may go is held
   held_goes : (d : Dot) → Goes P d → (b : Body) × (map.get H d ≡ Some b)
   held_goes d (inl may) = (may.fact, may.here)
   held_goes d (inr names) = (names.fact, names.here)
 
   -- ---- one fact is skipped
 
+  -- a store of which a fact that may go was skipped stands for the same facts
   step_stands : AreSound U → (d : Dot) → Goes P d → StandsFor (with_skipped P d) U F
   step_stands sound d go =
       let fact = held_goes d go in
@@ -146,12 +151,14 @@ module _ (P : StoreFields) (U F : FactSet) (S : StandsFor P U F) where
 
   -- ---- some fact may go
 
+  -- at a dot that isn't skipped, the store holds what the facts have there
   unskipped : (q : Dot) → is_skipped P.slots q ≢ true → map.get F q ≡ map.get H q
   unskipped q off = elim (cases_Bool (is_skipped P.slots q)) [
     | inl on ↦ absurd (off on)
     | inr held ↦ at_held P U F S q held
   ]
 
+  -- the dot that a fact's link names is the one that the fact names
   names_link : (b : Body) (l : Link) (p : Dot) → link_of b ≡ Some l → named_by l ≡ Some p
       → names_of b ≡ Some p
   names_link (body.CodeIssued f) l p h n =
@@ -297,11 +304,13 @@ module _ (P : StoreFields) (U F : FactSet) (S : StandsFor P U F) where
 
 -- ---- slices
 
+-- a store stands for the same facts with a later horizon
 later_stands : (P : StoreFields) (U F : FactSet) → StandsFor P U F → (moment : ℕ)
     → StandsFor (with_horizon P moment) U F
 later_stands P U F S moment q = slot_more U U (λ d b h. h) P.horizon (max P.horizon moment)
     (omega arith) q (map.get P.slots q) (map.get F q) (S q)
 
+-- a store stands for the same facts after the steps of a slice
 steps_stand : (P Q : StoreFields) (U F : FactSet) → StandsFor P U F → AreSound U → (ds : List Dot)
     → Steps P ds Q → StandsFor Q U F
 steps_stand P Q U F S sound [] is = subst (λ (R : StoreFields). StandsFor R U F) (sym is) S

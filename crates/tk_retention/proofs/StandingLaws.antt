@@ -31,31 +31,37 @@ use Rattle.tk_ledger.specs.Retention.{IsOverAt, MintsNothing, MaySkip}
 use Rattle.tk_ledger.specs.Tokens.{link_of, links_in, issued_in, issued_at, minted_in, anchor_by}
 use Rattle.tk_ledger.specs.Tokens.{anchor_in, IsMintedUnder, IsReused}
 use Rattle.tk_ledger.proofs.RootLaws.{links-below, minted-under-below, under-minted}
+use Rattle.tk_ledger.proofs.EndingLaws.{under_itself as code_under}
 use Rattle.tk_retention.specs.StandsFor.{SlotStands, StandsFor}
 use Rattle.tk_retention.proofs.OverLaws.{IsOver, none_some, kept_linked, use_named, link_from}
 use Rattle.tk_retention.proofs.OverLaws.{used_link, under_at, over_at, minted_to, barren_unlinked}
-use Rattle.tk_retention.proofs.OverLaws.{anchor_here, minting, minted_linked, kept_anchor}
-use Rattle.tk_retention.proofs.OverLaws.{over_from, code_under}
+use Rattle.tk_retention.proofs.OverLaws.{anchor_here, minting, kept_anchor}
+use Rattle.tk_ledger.proofs.RootLaws.{minted-linked as minted_linked}
+use Rattle.tk_retention.proofs.OverLaws.{over_from}
 
 -- ---- what a slot stands for
 
+-- a skipped dot stands for the fact made there, which may be skipped
 skipped_stands : (U : FactSet) (t : ℕ) (d : Dot) (o : Option Slot) (p : Option Body)
     → SlotStands U t d o p → is_skipped_slot o ≡ true → (p ≡ map.get U d) × MaySkip (map.get U) t d
 skipped_stands U t d None p s h = absurd (true≢false (sym h))
 skipped_stands U t d (Some (Held b)) p s h = absurd (true≢false (sym h))
 skipped_stands U t d (Some Skipped) p s h = s
 
+-- a dot that isn't skipped stands for what it holds
 held_stands : (U : FactSet) (t : ℕ) (d : Dot) (o : Option Slot) (p : Option Body)
     → SlotStands U t d o p → is_skipped_slot o ≡ false → p ≡ held_slot o
 held_stands U t d None p s h = s
 held_stands U t d (Some (Held b)) p s h = s.0
 held_stands U t d (Some Skipped) p s h = absurd (true≢false h)
 
+-- a skipped dot holds no fact
 slot_apart : (o : Option Slot) → is_skipped_slot o ≡ true → held_slot o ≡ None
 slot_apart None h = refl
 slot_apart (Some (Held b)) h = absurd (true≢false (sym h))
 slot_apart (Some Skipped) h = refl
 
+-- a fact that is held is among the facts made
 held_slot_made : (U : FactSet) (t : ℕ) (d : Dot) (o : Option Slot) (p : Option Body)
     → SlotStands U t d o p → (b : Body) → held_slot o ≡ Some b → map.get U d ≡ Some b
 held_slot_made U t d None p s b h = absurd (none_is_not_some b h)
@@ -65,6 +71,7 @@ held_slot_made U t d (Some Skipped) p s b h = absurd (none_is_not_some b h)
 -- ---- where P stands for F
 
 module _ (P : StoreFields) (U F : FactSet) (S : StandsFor P U F) where
+  -- the facts that the store holds
   abbrev H : FactSet
   H = held_facts P
 
@@ -142,6 +149,7 @@ module _ (P : StoreFields) (U F : FactSet) (S : StandsFor P U F) where
     | inr held ↦ inl (ap (option_and_then link_of) (sym (at_held d held)) ∙ h)
   ]
 
+  -- a parent by the facts is one by those that are held, or the family is over
   parent_held : (e p c : Dot) → IsParent (links_in (map.get F)) e p
       → IsUnder (links_in (map.get U)) e c → IsUnder (links_in (map.get U)) p c
       → IsParent (links_in (map.get H)) e p ⊎ IsOver U P.horizon c
@@ -161,10 +169,12 @@ module _ (P : StoreFields) (U F : FactSet) (S : StandsFor P U F) where
     ]
   ]
 
+  -- a dot from which a path leads to a code is under that code by all facts made
   made_under : (d : Dot) (ps : List Dot) (c : Dot) → IsPath (links_in (map.get F)) d ps c
       → IsUnder (links_in (map.get U)) d c
   made_under d ps c m = made_up d c (record { path = ps; leads = m })
 
+  -- a path by the facts is one by those that are held, or the family is over
   path_held : (d : Dot) (ps : List Dot) (c : Dot) → IsPath (links_in (map.get F)) d ps c
       → IsPath (links_in (map.get H)) d ps c ⊎ IsOver U P.horizon c
   path_held d [] c m = elim (link_held c c Code m.1 (made_under c [] c (refl, m.1))) [
@@ -201,6 +211,7 @@ module _ (P : StoreFields) (U F : FactSet) (S : StandsFor P U F) where
     ]
   ]
 
+  -- the path of a fact that uses a token ends at the code that the token is under
   user_over : (e c : Dot) (k : TokenId) (r : Dot) (ps : List Dot)
       → use_of (links_in (map.get U) e) ≡ Some k → IsPath (links_in (map.get U)) e ps r
       → IsUnder (links_in (map.get U)) k.dot c → r ≡ c
@@ -213,6 +224,7 @@ module _ (P : StoreFields) (U F : FactSet) (S : StandsFor P U F) where
       IsUnder-one (links_in (map.get U)) p r c (record { path = ps; leads = (m.0.1, m.1) })
       (under_at (links_in (map.get U)) k.dot p c same under)
 
+  -- the use of a token by the facts is one by all facts made
   made_use : (e : Dot) (k : TokenId) → use_of (links_in (map.get F) e) ≡ Some k
       → use_of (links_in (map.get U) e) ≡ Some k
   made_use e k u = use_of-within (links_in (map.get F)) (links_in (map.get U))

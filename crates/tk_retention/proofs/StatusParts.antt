@@ -1,10 +1,13 @@
--- Small facts on states, minted tokens and lost handles, for the laws on statuses.
+-- Small facts on states, minted tokens and lost handles, for the laws on statuses. Key results:
+--   lost_known      a standing whose family is over is lost
+--   code_root       a code has a root
+--   mint_mints, mints_some   what mints a token, and that its dot mints something
+--   issued_below    a code issued by some facts is issued by more
 use Rattle.std.proofs.Common.{◌≡◌, ◌≢◌, ◌⊎◌, inl, inr, ℕ, ◌≤◌, Bool, true, false, ◌&&◌, not, nat_le}
-use Rattle.std.proofs.Common.{cond, if◌then◌else◌, List, Option, None, Some, refl, sym, ap, ◌∙◌}
+use Rattle.std.proofs.Common.{cond, if◌then◌else◌, None, Some, refl, sym, ap, ◌∙◌}
 use borrow.Author.Tests.{le-leb}
 use Rattle.std.proofs.lemmas.Bool.{true≢false}
 use Rattle.std.specs.Option.{option_and_then}
-use Rattle.std.specs.Str.{bytes_eq}
 use Rattle.std.specs.FinMap as map
 use Rattle.tk_handle.specs.declared.dot.Dot.{Dot}
 use Rattle.tk_handle.specs.declared.handle.Handle.{Handle}
@@ -21,7 +24,7 @@ use Rattle.tk_store.proofs.PutLaws.{none_is_not_some}
 use Rattle.tk_ledger.specs.Bodies.{Bodies}
 use Rattle.tk_ledger.specs.Clients.{is_live_client, is_live_consent}
 use Rattle.tk_ledger.specs.Retention.{MintsNothing, mints}
-use Rattle.tk_ledger.specs.Status.{standing_in, with_digest}
+use Rattle.tk_ledger.specs.Status.{standing_in}
 use Rattle.tk_ledger.specs.Tokens.{issued_in, issued_at, minted_in, Root, root_in, is_used}
 use Rattle.tk_ledger.specs.Tokens.{is_ended, is_dead}
 use Rattle.tk_ledger.specs.declared.status.State.{State}
@@ -29,10 +32,12 @@ use Rattle.tk_ledger.specs.declared.status.State.TheVariants as state
 use Rattle.tk_ledger.specs.declared.status.Status.TheVariants.{Known}
 use Rattle.tk_ledger.proofs.RootLaws.{from_some, under-minted, root-complete}
 use Rattle.tk_ledger.specs.Alike.{is_closed, IsLost}
-use Rattle.tk_retention.proofs.OverLaws.{none_some, code_under}
+use Rattle.tk_ledger.proofs.EndingLaws.{under_itself as code_under}
+use Rattle.tk_retention.proofs.OverLaws.{none_some}
 
 -- ---- states
 
+-- the state of a token, by the tests for each state in their order
 abbrev pub state_by : Bool → Bool → Bool → Bool → Bool → ℕ → TokenId → MintedFields → Root → State
 state_by dead client consent used ended now k minted root =
     if dead then state.Dead
@@ -43,11 +48,7 @@ state_by dead client consent used ended now k minted root =
     else if is_access k.kind && ended then state.Ended
     else state.Live
 
-over_closed : (live rest : Bool) (x : State)
-    → is_closed (cond (not live) state.Withdrawn (cond true state.Over x)) ≡ true
-over_closed true rest x = refl
-over_closed false rest x = refl
-
+-- a token is closed once the end of its family has come
 closed : (dead client consent used ended : Bool) (now : ℕ) (k : TokenId) (m : MintedFields)
     (root : Root)
     → root.issued.family_end ≤ now
@@ -90,20 +91,11 @@ code_or_not kind.Code = inl refl
 code_or_not kind.Access = inr (λ e. cc)
 code_or_not kind.Refresh = inr (λ e. cc)
 
+-- a fact that mints a code issues a code
 code_issues : (b : Body) (m : MintedFields) → minted_of b kind.Code ≡ Some m
     → (code : issued.CodeIssued) × (issued_in b ≡ Some code)
 code_issues (body.CodeIssued c) m h = (c, refl)
 code_issues b m h = absurd (none_is_not_some m h)
-
--- a token that has the digest was minted
-pub digest_kept : (digest : List ℕ) (o : Option MintedFields) (m : MintedFields)
-    → with_digest digest o ≡ Some m → o ≡ Some m
-digest_kept digest None m h = h
-digest_kept digest (Some x) m h = kept (bytes_eq x.digest digest) h
-  where
-    kept : (t : Bool) → cond t (Some x) None ≡ Some m → Some x ≡ Some m
-    kept true e = e
-    kept false e = absurd (none_is_not_some m e)
 
 -- what mints a token of a kind mints
 pub mint_mints : (b : Body) (k : Kind) (m : MintedFields) → minted_of b k ≡ Some m → mints b ≡ true

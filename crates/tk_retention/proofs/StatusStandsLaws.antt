@@ -41,19 +41,23 @@ use Rattle.tk_ledger.proofs.TokenGrowthLaws.{IsDead-below, IsEnded-below}
 use Rattle.tk_ledger.specs.Alike.{IsLost, AnsweredAlike}
 use Rattle.tk_retention.specs.StandsFor.{StandsFor, AreSound}
 use Rattle.tk_retention.proofs.LastingLaws.{live_client_same, consent_same, withdrawn_same}
-use Rattle.tk_retention.proofs.OverLaws.{IsOver, none_some, minted_linked, over_here}
+use Rattle.tk_retention.proofs.OverLaws.{IsOver, none_some, over_here}
+use Rattle.tk_ledger.proofs.RootLaws.{minted-linked as minted_linked}
 use Rattle.tk_retention.proofs.StandingLaws.{all_made, at_skipped, at_held, may_skip, held_made}
 use Rattle.tk_retention.proofs.StandingLaws.{held_part, minted_held, code_held}
 use Rattle.tk_retention.proofs.DeathStandingLaws.{ended_held, used_held, dead_held}
-use Rattle.tk_retention.proofs.StatusParts.{code_or_not, code_root, digest_kept, issued_below}
+use Rattle.tk_retention.proofs.StatusParts.{code_or_not, code_root, issued_below}
+use Rattle.tk_ledger.proofs.TopLaws.{digest_kept}
 use Rattle.tk_retention.proofs.StatusParts.{lost_known, mint_mints, state_by}
 
+-- a moment up to one that is up to a third is up to the third
 later : (a b c : ℕ) → a ≤ b → b ≤ c → a ≤ c
 later a b c h k = omega (arith, h, k)
 
 -- ---- a family that is not over
 
 module _ (P : StoreFields) (U F : FactSet) (S : StandsFor P U F) where
+  -- the facts that the store holds
   abbrev H : FactSet
   H = held_facts P
 
@@ -70,6 +74,7 @@ module _ (P : StoreFields) (U F : FactSet) (S : StandsFor P U F) where
         let past = over.over in
         absurd (omega (arith, end, past, soon, early))
 
+    -- the family is dead by both sets or by neither
     dead_same : is_dead H root.code ≡ is_dead F root.code
     dead_same = same_tests (is_dead H root.code) (is_dead F root.code)
         (λ h. is_dead-complete F root.code
@@ -81,6 +86,7 @@ module _ (P : StoreFields) (U F : FactSet) (S : StandsFor P U F) where
 
     module _ (sound : AreSound U) (k : TokenId)
         (under : IsMintedUnder (map.get F) k.dot root.code) where
+      -- the token is minted under the root by all facts made
       made : IsMintedUnder (map.get U) k.dot root.code
       made = minted-under-below F U (all_made P U F S) k.dot root.code under
 
@@ -92,6 +98,7 @@ module _ (P : StoreFields) (U F : FactSet) (S : StandsFor P U F) where
           (links-below F U (all_made P U F S)) u.user (links_in (map.get F) u.user) k refl u.by) in
           minted_linked (map.get U) k.dot root.code parent.above parent.there made
 
+      -- the token is used by both sets or by neither
       used_same : is_used H k ≡ is_used F k
       used_same = same_tests (is_used H k) (is_used F k)
           (λ h. any_more h)
@@ -112,6 +119,7 @@ module _ (P : StoreFields) (U F : FactSet) (S : StandsFor P U F) where
                     refl u.by;
               })
 
+      -- the token is ended by both sets or by neither
       ended_same : is_ended H k ≡ is_ended F k
       ended_same = same_tests (is_ended H k) (is_ended F k)
           (λ h. is_ended-complete F k
@@ -121,6 +129,7 @@ module _ (P : StoreFields) (U F : FactSet) (S : StandsFor P U F) where
             | inr over ↦ absurd (never_over over)
           ])
 
+      -- the consent of the root is live by both sets or by neither
       live_consent_same : is_live_consent H root.issued ≡ is_live_consent F root.issued
       live_consent_same = λ i. gives root.issued.client root.issued.subject
           (consent_same P U F S root.issued.consent i)
@@ -159,6 +168,7 @@ module _ (P : StoreFields) (U F : FactSet) (S : StandsFor P U F) where
     past_by m c code mints under issues over other =
         later m.expiry code.family_end now (sound.ends h.id m c code other mints under issues) over
 
+    -- what the facts mint for a handle is minted by all facts made
     minted_up : (m : MintedFields) → minted_as (map.get F) h ≡ Some m
         → minted_in (map.get U) h.id ≡ Some m
     minted_up m is = minted-below F U (all_made P U F S) h.id m
@@ -188,12 +198,14 @@ module _ (P : StoreFields) (U F : FactSet) (S : StandsFor P U F) where
         subst (λ (x : issued.CodeIssued). x.family_end ≤ now) (sym one) over in
         lost_known G now h b m root end (past_by m c code mints under issues over)
 
+    -- a code that is minted has a root
     rooted : (G : FactSet) (m : MintedFields) → minted_in (map.get G) h.id ≡ Some m
         → (r : Option Root) → root_in (map.get G) h.id.dot ≡ r → h.id.kind ≡ kind.Code → r ≢ None
     rooted G m mints r is code = λ none. code_root G h.id m code mints (is ∙ none)
 
     -- ---- a skipped dot
 
+    -- a handle whose dot is skipped is lost by the facts
     lost_skipped : is_skipped P.slots h.id.dot ≡ true → (o : Option Body) (m : Option MintedFields)
         → map.get F h.id.dot ≡ o → minted_as (map.get F) h ≡ m
         → IsLost now h (status_by F now h.id o m (root_in (map.get F) h.id.dot))
@@ -231,6 +243,7 @@ module _ (P : StoreFields) (U F : FactSet) (S : StandsFor P U F) where
         (minted-under-below H F (held_part P U F S) h.id.dot root.code p.0)
         (issued_below H F (held_part P U F S) root.code root.issued p.1)))
 
+    -- a minted token, with a root or without, is answered alike by both sets
     by_root : (b : Body) (m : MintedFields) → minted_in (map.get F) h.id ≡ Some m
         → minted_in (map.get H) h.id ≡ Some m → (r : Option Root) → root_in (map.get F) h.id.dot ≡ r
         → AnsweredAlike now h
@@ -283,6 +296,7 @@ module _ (P : StoreFields) (U F : FactSet) (S : StandsFor P U F) where
             ∙ ap (λ (s : StandingFields). Known s)
             (standing_same now soon root p.1 early sound h.id p.0 b m)
 
+    -- a handle at a held fact, which mints its token or not, is answered alike by both sets
     by_mint : (b : Body) → map.get F h.id.dot ≡ Some b → map.get H h.id.dot ≡ Some b
         → (m : Option MintedFields) → minted_as (map.get F) h ≡ m
         → AnsweredAlike now h (status_by H now h.id (Some b) m (root_in (map.get H) h.id.dot))
@@ -297,6 +311,7 @@ module _ (P : StoreFields) (U F : FactSet) (S : StandsFor P U F) where
 
     -- ---- the slot at the handle's dot
 
+    -- a handle is answered alike by both sets, with each slot at its dot
     by_slot : (o : Option Slot) → map.get P.slots h.id.dot ≡ o
         → AnsweredAlike now h (status_here P now h) (status_in F now h)
     by_slot None at =

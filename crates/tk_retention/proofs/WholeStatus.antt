@@ -12,6 +12,7 @@ use Rattle.tk_store.proofs.WholeStoreLaws.{get_whole_store, held_whole_store}
 use Rattle.tk_ledger.specs.Status.{status_here, status_in}
 use Rattle.tk_ledger.specs.declared.status.Status.TheVariants.{Wrong}
 
+-- no dot is skipped in the store of a set of facts
 unskipped : (o : Option Body) → is_skipped_slot (option_map Held o) ≡ false
 unskipped None = refl
 unskipped (Some b) = refl

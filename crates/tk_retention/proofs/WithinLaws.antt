@@ -55,6 +55,7 @@ revoking_within F (Some b) revoking = subst (IsWithin F) (sym revoking.1) tt
 
 module _ (P : StoreFields) (place : Place) (now : ℕ) (words : List ℕ)
     (request : RequestFields) where
+  -- an administration request makes a fact that is within its family, if it makes one
   administered : MakesWithin (held_facts P)
       (decision_by endpoint.AddClient P place now words request)
   administered = unused_within (held_facts P)
@@ -85,6 +86,7 @@ module _ (P : StoreFields) (place : Place) (now : ℕ) (words : List ℕ)
       (sym (shows_alone (held_facts P) now request.params)) tt
   made_within endpoint.Logout = administered
 
+  -- what is prepared of a decision is within its family, if what the decision makes is
   prepares_at : (d : Decision) → MakesWithin (held_facts P) d
       → IfSome (prepared_at (next_in place) d).fact (λ f. IsWithin (held_facts P) f.1)
   prepares_at d within = by d.made within

@@ -7,6 +7,7 @@ use Rattle.tk_region.specs.SettingsFields.{SettingsFields}
 use Rattle.tk_region.proofs.CapLaws.{capped_pruned}
 use Rattle.tk_region.proofs.region.Region.prune.Goals as goal
 
+-- a region stays under its cap, whether it was pruned or memory ran out
 kept : (n : ℕ) (s : SettingsFields) (P Q : StoreFields) (moment : ℕ) (result : Result ℕ AllocError)
     → IsCapped (record { number = n; settings = s; facts = P })
     → IfOk result (λ m. Prunes P moment m Q) → OnErr result (Q ≡ P)
