@@ -14,6 +14,7 @@ mod secrets;
 mod serving;
 mod talks;
 
+use crate::region::default_lives;
 use std::alloc::Global;
 use tk_edge::{Edge, PathSet, Reach, Terms};
 use tk_handle::{Moment, RegionNumber};
@@ -27,7 +28,7 @@ fn new_edge(alloc: Global) -> Option<Edge> {
 
 // Returns such an edge over the region of this number.
 fn edge_of(alloc: Global, number: u16) -> Option<Edge> {
-    let settings = Settings::new(60, 3_600, 86_400, 2_592_000, 1_000_000)?;
+    let settings = Settings::new(default_lives(), 1_000_000)?;
     let number = RegionNumber::new(number)?;
     Some(Edge::new(
         Region::new(alloc, number, settings),

@@ -6,7 +6,7 @@ use std::alloc::{AllocError, Global};
 use std::test::Fail;
 use tk_format::Writer;
 use tk_handle::{Moment, RegionNumber};
-use tk_message::{Endpoint, Params, Payload, Reply, Request};
+use tk_message::{Endpoint, Lives, Params, Payload, Reply, Request};
 use tk_region::{Handled, Region, Settings, TakeError};
 use tk_vector::VersionVector;
 
@@ -61,8 +61,18 @@ fn holds(alloc: Global, region: &Region, facts: &[Retired]) -> bool {
     }
 }
 
+// Returns the lives that a program gives by default.
+pub(crate) fn default_lives() -> Lives {
+    Lives {
+        code: 60,
+        access: 3_600,
+        refresh: 86_400,
+        family: 2_592_000,
+    }
+}
+
 fn new_region(alloc: Global, cap: u64) -> Option<Region> {
-    let settings = Settings::new(60, 3_600, 86_400, 2_592_000, cap)?;
+    let settings = Settings::new(default_lives(), cap)?;
     let number = RegionNumber::new(2)?;
     Some(Region::new(alloc, number, settings))
 }
@@ -150,6 +160,7 @@ fn registration(alloc: Global) -> Option<Request> {
             params,
             authorization: None,
             subject: None,
+            operator: None,
         }),
         Err(_) => None,
     }

@@ -93,7 +93,7 @@ fn retirement(at: Dot, client: Dot) -> Fact
 {
     Fact {
         dot: at,
-        body: Body::ClientRetired(ClientRetired { client }),
+        body: Body::ClientRetired(ClientRetired { client, by: None }),
     }
 }
 

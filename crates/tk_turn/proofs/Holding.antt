@@ -1,4 +1,8 @@
--- Each connection has its own turn, and no reply is held back from one turn to the next.
+-- Each connection has its own turn, and no reply is held back from one turn to the next. Key
+-- results:
+--   each_is_own       each connection has its own turn
+--   others_stay       the connections at other places stay as they are
+--   none_held_after   after a turn no replies are held back, if none were before
 use Rattle.std.proofs.Common.{
   ◌≡◌,
   ◌⊎◌,

@@ -1,7 +1,7 @@
 -- What contracts see of a connection, by the bytes that it keeps.
 use Rattle.std.proofs.Common.{◌≡◌, ℕ, ◌+◌, ◌-◌, ◌≤◌, ◌<◌, Bool, true, List, [], ◌∷◌, ◌++◌, take}
 use Rattle.std.proofs.Common.{drop, length, arith, refl, sym, ap, ◌∙◌}
-use Rattle.std.proofs.lemmas.List.{take-append-drop, take-append-le, drop-append-le, drop-drop}
+use Rattle.std.proofs.lemmas.List.{take-append-drop, drop-append-le}
 use Rattle.std.proofs.lemmas.List.{drop_all, take_all, length-take-le, length-drop}
 use Rattle.tk_turn.specs.Links.{LinkFields, ends_without}
 
@@ -30,25 +30,6 @@ all_ready output sent ready lower upper =
 -- nothing is held back behind all of the replies
 pub none_held : (output : List ℕ) → drop (length output) output ≡ []
 none_held output = drop_all (length output) output (omega arith)
-
--- the replies that are held back, if more are added
-pub more_held : (output replied more : List ℕ) (ready : ℕ) → ready ≤ length output
-    → more ≡ output ++ replied → drop ready more ≡ drop ready output ++ replied
-more_held output replied more ready upper is_more =
-    ap (drop ready) is_more ∙ drop-append-le ready output replied upper
-
--- the replies that may be sent, if more are held back
-pub same_ready : (output replied more : List ℕ) (sent ready : ℕ) → ready ≤ length output
-    → more ≡ output ++ replied → drop sent (take ready more) ≡ drop sent (take ready output)
-same_ready output replied more sent ready upper is_more =
-    ap (drop sent) (ap (take ready) is_more ∙ take-append-le ready output replied upper)
-
--- what is left to be sent, if a front was
-pub sent_front : (ready : List ℕ) (sent count : ℕ)
-    → drop sent ready ≡ take count (drop sent ready) ++ drop (sent + count) ready
-sent_front ready sent count =
-    sym (take-append-drop count (drop sent ready))
-    ∙ ap (λ x. take count (drop sent ready) ++ x) (drop-drop count sent ready)
 
 -- replies that are dropped end the connection
 pub ends_if_some : (held : List ℕ) (is_last : Bool) → 0 < length held

@@ -1,8 +1,8 @@
 //! What decides requests: `Service`, and its `Outcome`.
 
 ghost use Rattle.std.specs.Prelude.{◌≡◌, ◌++◌, ◌≤◌, ◌<◌, ℕ, Bool, true, List, length};
-ghost use Rattle.tk_turn.specs.declared.service.Outcome.{Outcome as the_outcome};
 ghost use Rattle.tk_turn.specs.Outcomes.{taken_of, goes_on, is_end};
+ghost use Rattle.tk_turn.specs.declared.service.Outcome.{Outcome as the_outcome};
 
 /// What was made of the bytes of a client.
 #[derive(Clone, Copy)]

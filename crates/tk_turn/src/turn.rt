@@ -3,6 +3,7 @@
 ghost use Rattle.std.specs.Prelude.{◌≡◌, ◌≢◌, ◌++◌, ℕ, true, List, [], length, MatchResult};
 ghost use Rattle.std.specs.Prelude.{OnErr, OnOk};
 ghost use Rattle.tk_put.specs.Put.{Prints};
+ghost use Rattle.tk_turn.specs.Links.{released, withheld};
 ghost use Rattle.tk_turn.specs.Turns.{
   AreDecidedAt,
   AreChangedAt,
@@ -14,14 +15,13 @@ ghost use Rattle.tk_turn.specs.Turns.{
   NoneHeld,
   OthersStay,
 };
-ghost use Rattle.tk_turn.specs.Links.{released, withheld};
 
 use crate::link::Link;
 use crate::log::{Log, LogFailed};
 use crate::service::Service;
 
-/// Decides the requests of the connections at these places, writes their records to the log,
-/// flushes it, and only then lets their replies be sent.
+/// Decides the requests of the connections at these places, each less than `links.len()`, writes
+/// their records to the log, flushes it, and only then lets their replies be sent.
 ///
 /// At most `MAX_REQUESTS` requests of each connection are decided. `records` is room for the
 /// records. Without a record the log isn't called.

@@ -5,20 +5,8 @@ use std::alloc::Global;
 use tk_dots::DotRuns;
 use tk_handle::{Dot, RegionNumber};
 
-// Returns how far the dots of the list follow one another from one on.
-fn stretch(plain: &Plain, dot: Dot) -> Option<u64> {
-    let mut end = None;
-    for serial in dot.serial()..=LAST + 1 {
-        match Dot::new(dot.region(), serial) {
-            Some(dot) if plain.get(dot).is_some() => end = Some(serial),
-            _ => return end,
-        }
-    }
-    end
-}
-
 fn agree_at(runs: &DotRuns, plain: &Plain, dot: Dot) -> bool {
-    runs.contains(dot) == plain.get(dot).is_some() && runs.stretch(dot) == stretch(plain, dot)
+    runs.contains(dot) == plain.get(dot).is_some()
 }
 
 fn last_serial_agrees(runs: &DotRuns, plain: &Plain, region: RegionNumber) -> bool {

@@ -2,9 +2,9 @@
 //! mint.
 //!
 //! Clients have the scope `read write`; lives, if they have any, of 600, 3,600 and 604,800 seconds.
-//! A code begins at 1,000 and ends at 1,060, its family at
-//! 90,000. Its tokens begin at 1,010, the access token ends at 4,610 and the refresh token at
-//! 87,410.
+//! A code begins at 1,000 and ends at 1,060, its family at 90,000. Its tokens begin at 1,010, the
+//! access token ends at 4,610 and the refresh token at 87,410. At even serials the facts that
+//! operators make name one.
 
 use std::alloc::Global;
 use tk_fact::Fact;
@@ -236,10 +236,53 @@ fn bytes_of(alloc: Global, told: &Told) -> Option<Vec<u8>> {
     }
 }
 
-/// Reads the fact of its bytes; `None` if memory runs out.
-pub(super) fn fact(alloc: Global, told: &Told) -> Option<Fact> {
-    match &bytes_of(alloc, told) {
-        Some(bytes) => Fact::read(alloc, bytes.as_slice()).ok(),
-        None => None,
+// The kinds of facts that operators make, and the number of each in which one is named.
+const NAMED: &[(u8, u8)] = &[
+    (1, 16),
+    (13, 17),
+    (2, 18),
+    (3, 19),
+    (4, 20),
+    (8, 21),
+    (10, 22),
+    (15, 23),
+];
+
+// The operator root, at 1,010.
+const BY: &[u8] = b"\x00\x04root\x00\x00\x00\x00\x00\x00\x03\xf2";
+
+// Returns the number of a kind in which an operator is named, if operators make such facts.
+fn named_number(number: u8) -> Option<u8> {
+    for (bare, named) in NAMED {
+        if *bare == number {
+            return Some(*named);
+        }
     }
+    None
+}
+
+// Returns the bytes of a fact with the operator root, if operators make such facts.
+fn named(alloc: Global, bytes: &[u8]) -> Option<Vec<u8>> {
+    let (dot, rest) = bytes.split_first_chunk::<10>()?;
+    let (number, fields) = rest.split_first()?;
+    match named_number(*number) {
+        Some(named) => joined(alloc, &[dot, &[named], fields, BY]),
+        None => joined(alloc, &[bytes]),
+    }
+}
+
+/// Reads the fact of its bytes; `None` if memory runs out. At an even serial a fact that operators
+/// make names one.
+pub(super) fn fact(alloc: Global, told: &Told) -> Option<Fact> {
+    let bytes = bytes_of(alloc, told)?;
+    let read = if told.0.1 % 2 == 0 {
+        match &named(alloc, bytes.as_slice()) {
+            Some(bytes) => Fact::read(alloc, bytes.as_slice()).ok(),
+            None => None,
+        }
+    } else {
+        Fact::read(alloc, bytes.as_slice()).ok()
+    };
+    drop(bytes);
+    read
 }

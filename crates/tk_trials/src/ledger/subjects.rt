@@ -104,6 +104,7 @@ fn ending(facts: &[Fact], at: Dot) -> Option<TokenRevoked> {
                 },
                 digest: redeemed.refresh.digest,
                 client,
+                by: None,
             });
         }
     }
@@ -153,10 +154,25 @@ fn is_login_alike(both: &Both, now: Moment, at: Dot) -> bool {
     }
 }
 
+// Returns whether both are the same revocation, by nobody who was named, or none.
+fn is_same_ending(left: &Option<TokenRevoked>, right: &Option<TokenRevoked>) -> bool {
+    match (left, right) {
+        (Some(left), Some(right)) => {
+            left.token == right.token
+                && left.digest == right.digest
+                && left.client == right.client
+                && left.by.is_none()
+                && right.by.is_none()
+        }
+        (None, None) => true,
+        _ => false,
+    }
+}
+
 // Returns whether both ledgers end a login alike, unless its family is dead.
 fn is_ending_alike(both: &Both, at: Dot) -> bool {
     let facts = both.plain.facts();
-    is_dead(facts, at) || both.ledger.ending(at) == ending(facts, at)
+    is_dead(facts, at) || is_same_ending(&both.ledger.ending(at), &ending(facts, at))
 }
 
 /// Returns whether both ledgers have the same next consent and login of the subject above a dot, or
