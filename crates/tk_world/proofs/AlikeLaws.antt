@@ -82,9 +82,11 @@ kept_decides k place now words request = by request.endpoint
 
 module _ (n : ℕ) (settings : SettingsFields) (U : FactSet) (P : StoreFields) (k : Kept)
     (SP : StandsFor P U k.facts) (within : IsSubset k.facts U) (sound : AreSound U) where
+  -- the store that holds all facts kept
   abbrev Q : StoreFields
   Q = kept_store k
 
+  -- the region with a store
   abbrev region_of : StoreFields → RegionFields
   region_of R = record { number = n; settings = settings; facts = R }
 
@@ -100,12 +102,15 @@ module _ (n : ℕ) (settings : SettingsFields) (U : FactSet) (P : StoreFields) (
       serials_same
 
   module _ (now : ℕ) (words : List ℕ) (both : nat_lt now P.horizon ≡ nat_lt now Q.horizon) where
+    -- a moment that isn't before the horizon is at the horizon or later
     from_horizon : (h : ℕ) → nat_lt now h ≡ false → h ≤ now
     from_horizon h e = grind (arith, nat_tests)
 
+    -- the place at which the region decides
     abbrev place : Place
     place = place_in (region_of Q)
 
+    -- what a region with a store prepares, before the horizon or not
     abbrev prepared_at : Bool → StoreFields → Place → RequestFields → PreparedFields
     prepared_at t R place request = cond t (early_in place)
         (prepared_by settings.cap place (decision_of R place now words request))
@@ -119,12 +124,14 @@ module _ (n : ℕ) (settings : SettingsFields) (U : FactSet) (P : StoreFields) (
       anew : IsAnew (whole_store k.facts) place now request decision
       prepares : p ≡ prepared_by settings.cap place decision
 
+    -- the region with the store P prepares a request at that place
     at_place : (request : RequestFields)
         → prepared_of (region_of P) now words request
         ≡ prepared_at (nat_lt now P.horizon) P place request
     at_place request =
         ap (λ (x : Place). prepared_at (nat_lt now P.horizon) P x request) places_same
 
+    -- what a request prepares is the same with both stores, or is for a first revocation
     decided : (t : Bool) (request : RequestFields) → nat_lt now P.horizon ≡ t
         → (prepared_at t P place request ≡ prepared_at t Q place request)
         ⊎ Anew request (prepared_at t P place request)
@@ -143,6 +150,7 @@ module _ (n : ℕ) (settings : SettingsFields) (U : FactSet) (P : StoreFields) (
           })
         ]
 
+    -- what the region prepares is what the one with all facts does, or is for a first revocation
     prepared_tells : (request : RequestFields)
         → (prepared_of (region_of P) now words request
         ≡ prepared_of (region_of Q) now words request)
@@ -155,6 +163,7 @@ module _ (n : ℕ) (settings : SettingsFields) (U : FactSet) (P : StoreFields) (
         ⊎ Anew request (prepared_at (nat_lt now P.horizon) P place request)) both
         (decided (nat_lt now P.horizon) request refl))
 
+    -- the region's answer to what was heard, and the fact made, are those of the one with all facts
     abbrev Tells : Arrival → Type 0
     Tells heard = TellsBy (region_of Q) k.facts now words heard
         (answer_by (region_of P) now words heard) (fact_by (region_of P) now words heard)

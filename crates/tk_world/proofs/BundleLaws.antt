@@ -9,6 +9,7 @@ use Rattle.tk_bundle.specs.BundleFields.{BundleFields}
 use Rattle.tk_bundle.specs.BundleLaws.{bundle_exact}
 use Rattle.tk_world.specs.Bundles.{bundle_in_bytes, no_bundle, IsReadable}
 
+-- the bytes of a bundle that fits are read as that bundle
 spelled_bundle : (bytes : List ℕ) (b : BundleFields) → bundle.Fits b → bytes ≡ bundle_bytes b
     → whole bundle bytes ≡ Some b
 spelled_bundle bytes b fits e = ap (whole bundle) e ∙ whole_again bundle bundle_exact b fits

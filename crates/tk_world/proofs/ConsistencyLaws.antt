@@ -67,6 +67,7 @@ of_region : (s : State) (n : ℕ) (k : Kept) (r : ℕ) (j : Kept) (P : Type 0) �
 of_region s n k r j P here there h = region_of_get s.regions n k r (λ o. o ≡ Some j → P)
     (λ e q. here e (some_injective k j q)) (λ _. there) h
 
+-- a region that was put under a number is found under it
 region_here : (s : State) (n : ℕ) (k : Kept) (r : ℕ) → r ≡ n
     → map.get (map.insert s.regions n k) r ≡ Some k
 region_here s n k r same = map.get-insert nat_cmp_total s.regions n k r
@@ -188,6 +189,7 @@ consists_made s U n k d b c at own free under passes =
       low = c.low;
     }
 
+-- what holds of each bundle and of one more holds of each bundle with that one behind them
 at_end : (bs : List Sent) (b : Sent) (i : ℕ) (e : Sent) (P : Type 0) → (slice_get bs i ≡ Some e → P)
     → (b ≡ e → P) → slice_get (bs ++ b ∷ []) i ≡ Some e → P
 at_end [] b zero e P there here h = here (some_injective b e h)

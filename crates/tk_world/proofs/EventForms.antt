@@ -36,10 +36,12 @@ one [] e = absurd (omega (arith, e))
 one (x ∷ []) e = refl
 one (x ∷ y ∷ fs) e = absurd (omega (arith, e))
 
+-- the texts of two fields
 two : (fs : List (Bor (List ℕ))) → length fs ≡ 2 → texts fs ≡ text_at fs 0 ∷ text_at fs 1 ∷ []
 two [] e = absurd (omega (arith, e))
 two (x ∷ fs) e = ap (λ l. x.now ∷ l) (one fs (omega (arith, e)))
 
+-- the texts of three fields
 three : (fs : List (Bor (List ℕ))) → length fs ≡ 3
     → texts fs ≡ text_at fs 0 ∷ text_at fs 1 ∷ text_at fs 2 ∷ []
 three [] e = absurd (omega (arith, e))
@@ -51,11 +53,13 @@ pub four : (fs : List (Bor (List ℕ))) → length fs ≡ 4
 four [] e = absurd (omega (arith, e))
 four (x ∷ fs) e = ap (λ l. x.now ∷ l) (three fs (omega (arith, e)))
 
+-- the texts of five fields
 five : (fs : List (Bor (List ℕ))) → length fs ≡ 5
     → texts fs ≡ text_at fs 0 ∷ text_at fs 1 ∷ text_at fs 2 ∷ text_at fs 3 ∷ text_at fs 4 ∷ []
 five [] e = absurd (omega (arith, e))
 five (x ∷ fs) e = ap (λ l. x.now ∷ l) (four fs (omega (arith, e)))
 
+-- the texts of at least three fields
 three_up : (fs : List (Bor (List ℕ))) → 3 ≤ length fs
     → texts fs ≡ text_at fs 0 ∷ text_at fs 1 ∷ text_at fs 2 ∷ texts (drop 3 fs)
 three_up [] e = absurd (omega (arith, e))
@@ -63,6 +67,7 @@ three_up (x ∷ []) e = absurd (omega (arith, e))
 three_up (x ∷ y ∷ []) e = absurd (omega (arith, e))
 three_up (x ∷ y ∷ z ∷ fs) e = refl
 
+-- there are as many fields as texts
 count : (fs : List (Bor (List ℕ))) (l : List (List ℕ)) → texts fs ≡ l → length fs ≡ length l
 count [] [] e = refl
 count [] (a ∷ l) e = absurd (cc)
@@ -100,21 +105,6 @@ module _ (fs : List (Bor (List ℕ))) where
       let at_region = region_found (text_at fs 2) region at in
       (rw (three fs long, name, given.spelled, at_region.1) refl, given.fits, at_region.0)
 
-  -- the fields of an event that pulls
-  pub pull_there : (region : ℕ) (vector : Vector) (after : Option Dot) → length fs ≡ 4
-      → text_at fs 0 ≡ codes "pull" → region_in (text_at fs 1) ≡ Some region
-      → IsVectorText (text_at fs 2) vector → IsCursorText (text_at fs 3) after
-      → IsEventForm (texts fs) (Pull region vector after)
-  pull_there region vector after long name at is place =
-      let at_region = region_found (text_at fs 1) region at in (
-        text_at fs 2,
-        text_at fs 3,
-        rw (four fs long, name, at_region.1) refl,
-        at_region.0,
-        is,
-        place,
-      )
-
   -- the fields of an event that prunes
   pub prune_there : (region horizon : ℕ) → length fs ≡ 3 → text_at fs 0 ≡ codes "prune"
       → region_in (text_at fs 1) ≡ Some region → moment_in (text_at fs 2) ≡ Some horizon
@@ -123,6 +113,12 @@ module _ (fs : List (Bor (List ℕ))) where
       let at_region = region_found (text_at fs 1) region at in
       let at_moment = moment_found (text_at fs 2) horizon then in
       (rw (three fs long, name, at_region.1, at_moment.1) refl, at_region.0, at_moment.0)
+
+  -- four fields that begin with `pull` are those of a pull
+  pub pull_texts : length fs ≡ 4 → text_at fs 0 ≡ codes "pull"
+      → codes "pull" ∷ text_at fs 1 ∷ text_at fs 2 ∷ text_at fs 3 ∷ [] ≡ texts fs
+  pull_texts long name = ap (λ t. t ∷ text_at fs 1 ∷ text_at fs 2 ∷ text_at fs 3 ∷ []) (sym name)
+      ∙ sym (four fs long)
 
   -- five fields that begin with `prune_some` are those of a slice
   pub slice_texts : length fs ≡ 5 → text_at fs 0 ≡ codes "prune_some"
@@ -212,40 +208,6 @@ module _ (fs : List (Bor (List ℕ))) where
   prune_bad_moment long name none = prune_only long name
       (λ region horizon at is then late. no_moment (text_at fs 2) horizon none late then)
 
-  -- four fields that begin with `pull` are those of a pull or of no event
-  pull_only : length fs ≡ 4 → text_at fs 0 ≡ codes "pull"
-      → ((region : ℕ) (vector : Vector) (after : Option Dot) → text_at fs 1 ≡ decimal region
-      → IsRegion region → IsVectorText (text_at fs 2) vector → IsCursorText (text_at fs 3) after
-      → ⊥)
-      → IsNoEventForm (texts fs)
-  pull_only long name none (Open region) h = absurd (omega (arith, count fs _ h.0))
-  pull_only long name none (Request region now words request) h =
-      let parts = sym (three_up fs (omega arith)) ∙ h.2 in
-      let same : h.0 ≡ codes "pull" = cc in
-      no_request_named h.0 (codes "pull") h.1 request.items h.5 refl same
-  pull_only long name none (Pull region vector after) h =
-      let parts = sym (four fs long) ∙ h.2 in
-      let entries : h.0 ≡ text_at fs 2 = cc in
-      let place : h.1 ≡ text_at fs 3 = cc in
-      none region vector after (cc) h.3 (subst (λ t. IsVectorText t vector) entries h.4)
-      (subst (λ t. IsCursorText t after) place h.5)
-  pull_only long name none (Deliver bundle region) h = absurd (omega (arith, count fs _ h.0))
-  pull_only long name none (Prune region horizon) h = absurd (omega (arith, count fs _ h.0))
-  pull_only long name none (PruneSome region horizon after most) h =
-      absurd (omega (arith, count fs _ h.1))
-
-  -- fields of a pull without a region are no event
-  pub pull_bad_region : length fs ≡ 4 → text_at fs 0 ≡ codes "pull"
-      → region_in (text_at fs 1) ≡ None → IsNoEventForm (texts fs)
-  pull_bad_region long name none = pull_only long name
-      (λ region vector after at is entries place. no_region (text_at fs 1) region none is at)
-
-  -- fields of a pull without a vector are no event
-  pub pull_bad_vector : length fs ≡ 4 → text_at fs 0 ≡ codes "pull" → IsNoVectorText (text_at fs 2)
-      → IsNoEventForm (texts fs)
-  pull_bad_vector long name none =
-      pull_only long name (λ region vector after at is entries place. none vector entries)
-
   -- three or more fields with another name are those of a request or of no event
   pub record IsOther : Type 0 where
     pub long : 3 ≤ length fs
@@ -254,6 +216,7 @@ module _ (fs : List (Bor (List ℕ))) where
     pub prune : length fs ≡ 3 → text_at fs 0 ≢ codes "prune"
     pub slice : length fs ≡ 5 → text_at fs 0 ≢ codes "prune_some"
 
+  -- three or more fields that aren't those of a request or of another event are no event
   request_only : IsOther
       → ((region now : ℕ) (request : List ℕ) → text_at fs 1 ≡ decimal region → IsRegion region
       → text_at fs 2 ≡ decimal now → IsMoment now
@@ -318,6 +281,49 @@ module _ (fs : List (Bor (List ℕ))) where
   no_form short other (Prune region horizon) h = absurd (omega (arith, count fs _ h.0))
   no_form short other (PruneSome region horizon after most) h =
       absurd (omega (arith, count fs _ h.1))
+
+-- ---- the fields of a pull
+
+module _ (at entries place : List ℕ) where
+  -- the fields of a pull
+  abbrev pub pull_fields : List (List ℕ)
+  pull_fields = codes "pull" ∷ at ∷ entries ∷ place ∷ []
+
+  -- a region, a vector and a cursor are those of a pull
+  pub pull_there : (region : ℕ) (vector : Vector) (after : Option Dot)
+      → region_in at ≡ Some region → IsVectorText entries vector → IsCursorText place after
+      → IsEventForm pull_fields (Pull region vector after)
+  pull_there region vector after here is then =
+      let found = region_found at region here in
+      (entries, place, rw (found.1) refl, found.0, is, then)
+
+  -- four fields that begin with `pull` are those of a pull or of no event
+  pull_only : ((region : ℕ) (vector : Vector) (after : Option Dot) → at ≡ decimal region
+      → IsRegion region → IsVectorText entries vector → IsCursorText place after → ⊥)
+      → IsNoEventForm pull_fields
+  pull_only none (Open region) h = absurd (omega (arith, ap length h.0))
+  pull_only none (Request region now words request) h =
+      let parts = h.2 in
+      let same : h.0 ≡ codes "pull" = cc in
+      no_request_named h.0 (codes "pull") h.1 request.items h.5 refl same
+  pull_only none (Pull region vector after) h =
+      let parts = h.2 in
+      let texts : h.0 ≡ entries = cc in
+      let cursor : h.1 ≡ place = cc in
+      none region vector after (cc) h.3 (subst (λ t. IsVectorText t vector) texts h.4)
+      (subst (λ t. IsCursorText t after) cursor h.5)
+  pull_only none (Deliver bundle region) h = absurd (omega (arith, ap length h.0))
+  pull_only none (Prune region horizon) h = absurd (omega (arith, ap length h.0))
+  pull_only none (PruneSome region horizon after most) h = absurd (omega (arith, ap length h.1))
+
+  -- fields of a pull without a region are no event
+  pub pull_bad_region : region_in at ≡ None → IsNoEventForm pull_fields
+  pull_bad_region none =
+      pull_only (λ region vector after here is texts cursor. no_region at region none is here)
+
+  -- fields of a pull without a vector are no event
+  pub pull_bad_vector : IsNoVectorText entries → IsNoEventForm pull_fields
+  pull_bad_vector none = pull_only (λ region vector after here is texts cursor. none vector texts)
 
 -- ---- the fields of a slice
 

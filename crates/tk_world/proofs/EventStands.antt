@@ -91,15 +91,19 @@ slice_standing w r moment after count o new act standing =
 module _ (w : WorldFields) (standing : IsStanding w) (r : ℕ) (P : StoreFields)
     (at : map.get w.regions r ≡ Some P) (i : ℕ) (b : BundleFields)
     (there : slice_get w.bundles i ≡ Some b) where
+  -- all facts made
   abbrev U : FactSet
   U = standing.0
 
+  -- the state for which the world stands
   abbrev s : State
   s = standing.1
 
+  -- the region is open in the state
   open_here : OpenFor w U s r P
   open_here = open_for w U s standing.2 r P at
 
+  -- the state has a bundle at the same index, for which the world's bundle stands
   sent_here : (c : Sent) × (slice_get s.bundles i ≡ Some c) × BundleStands U b c
   sent_here = bundle_at U w.bundles s.bundles i b standing.2.bundles there
 

@@ -24,6 +24,7 @@ record RunFor (way : Way) (s : State) (es : List Event) (os : List Outcome)
   run : RunBy way s es os shown after
   stands : WorldStands new made after
 
+-- a run of a world is a run of the state that it stands for
 run_for : (way : Way) (w : WorldFields) (es : List Event) (os : List Outcome) (new : WorldFields)
     → ActsBy way w es os new → (U : FactSet) (s : State) → WorldStands w U s
     → RunFor way s es os new

@@ -5,14 +5,13 @@
 --   items_made       a region has made each dot under its own number
 use Rattle.std.proofs.Common.{◌≡◌, ◌⊎◌, inl, inr, ℕ, zero, suc, ◌+◌, ◌-◌, ◌<◌, ◌≤◌, ◌==◌, ◌&&◌}
 use Rattle.std.proofs.Common.{◌||◌, nat_le, nat_lt, max, Bool, true, false, cond, List, [], ◌∷◌}
-use Rattle.std.proofs.Common.{◌++◌, length, map, take, slice_get, Option, Some, None, is_some, refl}
+use Rattle.std.proofs.Common.{◌++◌, length, map, take, slice_get, Option, Some, None, refl}
 use Rattle.std.proofs.Common.{sym, ap, subst, ◌∙◌, arith}
-use Rattle.std.proofs.lemmas.Bool.{true≢false}
+use Rattle.std.proofs.lemmas.Bool.{true≢false, or_from}
 use Rattle.std.proofs.lemmas.Bool.Decides.{nat_tests}
 use Rattle.std.specs.FinMap as sets
 use Rattle.std.specs.List.{list_any}
 use Rattle.tk_handle.specs.declared.dot.Dot.{Dot}
-use Rattle.tk_handle.specs.declared.token_id.TokenId.{TokenId}
 use Rattle.tk_fact.specs.Keeping.{kept_for, is_passing}
 use Rattle.tk_fact.specs.declared.body.Body.{Body}
 use Rattle.tk_fact.specs.declared.body.Body.TheVariants as body
@@ -39,9 +38,11 @@ use Rattle.tk_world.specs.World.{raised_to}
 use Rattle.tk_world.specs.WorldStands.{ItemStands, ItemsStand, BundleStands, BundlesStand}
 use Rattle.tk_world.proofs.AlikeLaws.{stands_dots}
 use Rattle.tk_world.proofs.KnownLaws.{beyond_dots, length_dots, take_dots}
+use Rattle.tk_ledger.proofs.SkipLaws.{passing_kept}
 
 -- ---- pages
 
+-- the first facts of a list that is in a set are in it
 AllIn-part : {X : Type 0} (S : sets.FinMap _ X) (k : ℕ) (es : List (Dot × X)) → AllIn S es
     → AllIn S (take k es)
 AllIn-part S zero es all = tt
@@ -64,19 +65,24 @@ module _ (P : StoreFields) (U F : FactSet) (S : StandsFor P U F) where
     (subst (λ (o : Option Slot). SlotStands U P.horizon d o (sets.get F d)) at (S d)).1,
   )
 
+  -- equal lists of dots have the same first dot
   first_same : (d e : Dot) (ds es : List Dot) → d ∷ ds ≡ e ∷ es → d ≡ e
   first_same d e ds es h = cc
 
+  -- equal lists of dots have the same rest
   rest_same : (d e : Dot) (ds es : List Dot) → d ∷ ds ≡ e ∷ es → ds ≡ es
   rest_same d e ds es h = cc
 
+  -- one of two tests passes if the second does
   or_right : (a b : Bool) → b ≡ true → (a || b) ≡ true
   or_right true b h = refl
   or_right false b h = h
 
+  -- one of two tests passes if the first does
   or_left : (a b : Bool) → a ≡ true → (a || b) ≡ true
   or_left a b h = subst (λ x. (x || b) ≡ true) (sym h) refl
 
+  -- items of a store stand for facts at the same dots, if the facts stand in the store
   known_items : (horizon : Option ℕ) (is : Items) (fs : Facts)
       → (list_any is_mark is ≡ true → horizon ≡ Some P.horizon) → map dot_of is ≡ map dot_of fs
       → AllIn P.slots is → AllIn F fs → ItemsStand U horizon is fs
@@ -93,19 +99,24 @@ module _ (P : StoreFields) (U F : FactSet) (S : StandsFor P U F) where
       )
 
   module _ (v : Vector) (after : Option Dot) where
+    -- the items of a page of the store
     abbrev its_items : Items
     its_items = (bundles.page_of P v after).bundle.items
 
+    -- the facts of a page of all facts
     abbrev its_facts : Facts
     its_facts = (page_of F v after).facts
 
+    -- the dots that the vector does not cover are the same in the store and in the facts
     beyond_same : map dot_of (beyond P.slots v after) ≡ map dot_of (beyond F v after)
     beyond_same = beyond_dots P.slots F (stands_dots P U F S) v after
 
+    -- the dots of the page are the same in the store and in the facts
     page_dots : map dot_of its_items ≡ map dot_of its_facts
     page_dots = take_dots max_items (beyond P.slots v after) ∙ ap (take max_items) beyond_same
         ∙ sym (take_dots max_items (beyond F v after))
 
+    -- a page with a mark has the store's horizon
     horizon_marks : (t : Bool) → t ≡ true → cond t (Some P.horizon) None ≡ Some P.horizon
     horizon_marks true h = refl
     horizon_marks false h = absurd (true≢false (sym h))
@@ -148,11 +159,13 @@ module _ (P : StoreFields) (U F : FactSet) (S : StandsFor P U F) where
 
 -- what stands for a bundle where more facts were made
 module _ (U V : FactSet) (within : IsSubset U V) where
+  -- an item that stands for a fact still does with more facts made
   item_more : (horizon : Option ℕ) (d : Dot) (x : Slot) (b : Body) → ItemStands U horizon d x b
       → ItemStands V horizon d x b
   item_more horizon d (Held c) b h = h
   item_more horizon d Skipped b h = (h.0, h.1, may_more U V within h.0 h.0 (omega arith) d h.2)
 
+  -- items that stand for facts still do with more facts made
   items_more : (horizon : Option ℕ) (is : Items) (fs : Facts) → ItemsStand U horizon is fs
       → ItemsStand V horizon is fs
   items_more horizon [] [] h = tt
@@ -237,6 +250,7 @@ module _ (U : FactSet) (t : ℕ) where
       (sym made, may_more U U (λ q y z. z) item.0 t (late item.0 item.1) d item.2)
   joined_stands horizon late d (Some Skipped) f x b h made item = (sym made, h.1)
 
+  -- slots with an item joined stand for the facts with the item's fact
   put_stands : (S : Slots) (F : FactSet) (horizon : Option ℕ) → ((m : ℕ) → horizon ≡ Some m → m ≤ t)
       → (d : Dot) (x : Slot) (b : Body) → SlotsStand U t S F → sets.get U d ≡ Some b
       → ItemStands U horizon d x b
@@ -249,6 +263,7 @@ module _ (U : FactSet) (t : ℕ) where
       (λ q ne. subst (λ (f : Option Body). SlotStands U t q (sets.get S q) f)
       (sym (by_dot (λ o. o ≡ sets.get F q) F d b q (λ same. absurd (ne same)) refl)) (stands q))
 
+  -- slots with all items joined stand for the facts with the items' facts
   all_stand : (horizon : Option ℕ) → ((m : ℕ) → horizon ≡ Some m → m ≤ t)
       → (is : Items) (fs : Facts) (S : Slots) (F : FactSet) → ItemsStand U horizon is fs
       → AllIn U fs → SlotsStand U t S F → SlotsStand U t (with_slots S is) (with_facts F fs)
@@ -288,19 +303,7 @@ items_stand P U F (Some moment) is fs items all S =
 
 -- ---- a bundle that a region has no reason to refuse
 
-some_is : {A : Type 0} (o : Option A) (a : A) → o ≡ Some a → is_some o ≡ true
-some_is o a h = ap is_some h
-
--- a fact that is kept for a token may be skipped
-passing_kept : (d : Dot) (b : Body) (k : TokenId) → kept_for d b ≡ Some k → is_passing b ≡ true
-passing_kept d (body.CodeIssued f) k h = refl
-passing_kept d (body.CodeRedeemed f) k h = refl
-passing_kept d (body.RefreshRotated f) k h = refl
-passing_kept d (body.TokenRevoked f) k h = refl
-passing_kept d (body.ReuseSeen f) k h = refl
-passing_kept d (body.AccessRefreshed f) k h = refl
-passing_kept d b k h = absurd (none_is_not_some k h)
-
+-- a fact at a dot that may be skipped is of a kind that may be skipped
 passes_of : (U : FactSet) (t : ℕ) (d : Dot) (b : Body) → MaySkip (sets.get U) t d
     → sets.get U d ≡ Some b → is_passing b ≡ true
 passes_of U t d b may at =
@@ -308,6 +311,7 @@ passes_of U t d b may at =
     passing_kept d b may.token (ap (kept_for d) (sym same) ∙ may.kept)
 
 module _ (P : StoreFields) (U F : FactSet) (S : StandsFor P U F) where
+  -- an item that stands for a fact agrees with the slot at its dot
   agrees : (horizon : Option ℕ) (d : Dot) (o : Option Slot) (f : Option Body) (x : Slot) (b : Body)
       → SlotStands U P.horizon d o f → sets.get U d ≡ Some b → ItemStands U horizon d x b
       → SlotAgrees o (Some x)
@@ -330,9 +334,7 @@ module _ (P : StoreFields) (U F : FactSet) (S : StandsFor P U F) where
   )
   items_agree horizon is fs items all = absurd items
 
-none_of : (a b : Bool) → a ≡ false → b ≡ false → (a || b) ≡ false
-none_of a b p q = subst (λ x. (x || b) ≡ false) (sym p) q
-
+-- a dot below the next serial of a region isn't one of the region from that serial on
 before : (region r serial next : ℕ) → (region ≡ r → serial < next)
     → (region == r) && nat_le next serial ≡ false
 before region r serial next h = grind (arith, nat_tests)
@@ -348,6 +350,7 @@ module _ (s : State) (U : FactSet) (c : Consists s U) (r : ℕ) (k : Kept)
       (some_injective k home.0 (sym at ∙ ap (sets.get s.regions) (sym own) ∙ home.1))
       ∙ home.2
 
+  -- a fact under a region's own number has a serial below the next one
   own_before : (d : Dot) (b : Body) → sets.get U d ≡ Some b → d.region ≡ r
       → d.serial < next_serial k.facts r
   own_before d b h own =
@@ -361,7 +364,7 @@ module _ (s : State) (U : FactSet) (c : Consists s U) (r : ℕ) (k : Kept)
   items_made horizon [] [] items all = refl
   items_made horizon (i ∷ is) (f ∷ fs) items all =
       let next : Dot = record { region = r; serial = next_serial k.facts r } in
-      none_of (is_unmade next i.0) (has_unmade next is)
+      or_from (is_unmade next i.0) (has_unmade next is)
       (ap (is_unmade next) items.0
       ∙ before f.0.region r f.0.serial (next_serial k.facts r)
       (λ own. own_before f.0 f.1 all.0 own))

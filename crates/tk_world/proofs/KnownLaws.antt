@@ -43,17 +43,20 @@ abbrev bare : {X : Type 0} → Dot × X → Dot × ℕ
 bare e = (e.0, 0)
 
 module _ {X : Type 0} where
+  -- a dot is below all bare entries exactly if it is below all entries
   below_bare : (d : Dot) (es : List (Dot × X))
       → below_all dot_cmp d (map bare es) ≡ below_all dot_cmp d es
   below_bare d [] = refl
   below_bare d (e ∷ es) = ap (λ b. is_lt (dot_cmp d e.0) && b) (below_bare d es)
 
+  -- bare entries are sorted exactly if the entries are
   sorted_bare : (es : List (Dot × X))
       → sets.is_sorted dot_cmp (map bare es) ≡ sets.is_sorted dot_cmp es
   sorted_bare [] = refl
   sorted_bare (e ∷ es) = ap (λ b. b && sets.is_sorted dot_cmp (map bare es)) (below_bare e.0 es)
       ∙ ap (λ b. below_all dot_cmp e.0 es && b) (sorted_bare es)
 
+  -- a dot is found among bare entries exactly if the dot is found among the entries
   find_bare : (q : Dot) (es : List (Dot × X))
       → find dot_cmp q (map bare es) ≡ option_map naught (find dot_cmp q es)
   find_bare q [] = refl
@@ -69,16 +72,19 @@ module _ {X : Type 0} where
   abbrev known_of : sets.FinMap dot_cmp X → sets.FinMap dot_cmp ℕ
   known_of m = sets.from_sorted (map bare (sets.entries m))
 
+  -- the entries of the known dots are the bare entries of the map
   entries_known : (m : sets.FinMap dot_cmp X)
       → sets.entries (known_of m) ≡ map bare (sets.entries m)
   entries_known m = sets.entries-from_sorted dot_cmp _
       (subst T (sym (sorted_bare (sets.entries m))) (sets.entries_sorted m))
 
+  -- the known dots have a dot exactly if the map does
   get_known : (m : sets.FinMap dot_cmp X) (q : Dot)
       → sets.get (known_of m) q ≡ option_map naught (sets.get m q)
   get_known m q = sets.get-entries (known_of m) q ∙ ap (find dot_cmp q) (entries_known m)
       ∙ find_bare q (sets.entries m) ∙ ap (option_map naught) (sym (sets.get-entries m q))
 
+  -- bare entries have the dots of the entries
   dots_bare : (es : List (Dot × X)) → map dot_of (map bare es) ≡ map dot_of es
   dots_bare [] = refl
   dots_bare (e ∷ es) = ap (λ (l : List Dot). e.0 ∷ l) (dots_bare es)
@@ -88,6 +94,7 @@ module _ {X : Type 0} where
   length_dots [] = refl
   length_dots (e ∷ es) = ap suc (length_dots es)
 
+  -- the dots of the entries that pass a test on dots are the dots that pass
   filter_dots : (p : Dot × X → Bool) (t : Dot → Bool) → ((e : Dot × X) → p e ≡ t e.0)
       → (es : List (Dot × X)) → map dot_of (filter p es) ≡ filter t (map dot_of es)
   filter_dots p t same [] = refl
@@ -106,10 +113,12 @@ module _ {X : Type 0} where
   take_dots (suc k) [] = refl
   take_dots (suc k) (e ∷ es) = ap (λ (l : List Dot). e.0 ∷ l) (take_dots k es)
 
+  -- an entry is above a dot exactly if its dot is past that dot
   past_is : (after : Option Dot) (e : Dot × X) → is_above after e ≡ is_past after e.0
   past_is None e = refl
   past_is (Some q) e = refl
 
+  -- the dots that the vector does not cover are those of the map that pass two tests
   beyond_filtered : (m : sets.FinMap dot_cmp X) (v : Vector) (after : Option Dot)
       → map dot_of (beyond m v after)
       ≡ filter (is_uncovered v) (filter (is_past after) (map dot_of (sets.entries m)))
@@ -118,6 +127,7 @@ module _ {X : Type 0} where
       ∙ ap (filter (is_uncovered v))
       (filter_dots (is_above after) (is_past after) (past_is after) (sets.entries m))
 
+  -- the last serial of a region is the last among the dots
   last_dots : (r : ℕ) (es : List (Dot × X)) → last_serial r es ≡ last_of_dots r (map dot_of es)
   last_dots r [] = refl
   last_dots r (e ∷ es) = ap (max (if e.0.region == r then e.0.serial else 0)) (last_dots r es)
@@ -128,6 +138,7 @@ SameDots m n = (q : Dot) → is_some (sets.get m q) ≡ is_some (sets.get n q)
 
 module _ {X Y : Type 0} (m : sets.FinMap dot_cmp X) (n : sets.FinMap dot_cmp Y)
     (same : SameDots m n) where
+  -- two options of which both or neither are Some are the same without their values
   zero_as : (o : Option X) (p : Option Y) → is_some o ≡ is_some p
       → option_map naught o ≡ option_map naught p
   zero_as None None h = refl
@@ -135,6 +146,7 @@ module _ {X Y : Type 0} (m : sets.FinMap dot_cmp X) (n : sets.FinMap dot_cmp Y)
   zero_as (Some x) None h = cc
   zero_as (Some x) (Some y) h = refl
 
+  -- maps that know the same dots have the same known dots
   known_same : known_of m ≡ known_of n
   known_same = sets.same_map dot_cmp_total dot_cmp-IsAntisymmetric _ _
       (λ q. get_known m q ∙ zero_as (sets.get m q) (sets.get n q) (same q) ∙ sym (get_known n q))

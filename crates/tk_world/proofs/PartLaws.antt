@@ -49,20 +49,18 @@ use Rattle.tk_world.specs.declared.event.Outcome.TheVariants.{PrunedSome, Memory
 use Rattle.tk_world.proofs.RegionLaws.{entry_at, entries_set, entries_insert, settings_at}
 use Rattle.tk_world.proofs.RegionLaws.{settings_set, settings_insert}
 use Rattle.tk_world.proofs.StandsLaws.{same_again}
+use Rattle.tk_world.proofs.StandsLaws.{put_back as same_region}
 
 -- an edge has the settings and the terms of another, and is sealed if that one is
 abbrev IsAsOpen : EdgeFields → EdgeFields → Type 0
 IsAsOpen p q = (q.region.settings ≡ p.region.settings) × (q.sealed ≡ p.sealed) × (q.terms ≡ p.terms)
 
+-- the fields of a world with these settings, stores and bundles
 abbrev pub fields_of : SettingsFields → List (ℕ × StoreFields) → List BundleFields → WorldFields
 fields_of settings rs bs =
     record { settings = settings; regions = map.from_sorted rs; bundles = bs }
 
-same_region : (w : WorldFields) (r : ℕ) (P : StoreFields) → map.get w.regions r ≡ Some P
-    → with_store w r P ≡ w
-same_region w r P h = ap (λ (m : map.FinMap nat_cmp StoreFields).
-    record { settings = w.settings; regions = m; bundles = w.bundles }) (same_again w.regions r P h)
-
+-- an option that equals a value has one
 some_is : {A : Type 0} (o : Option A) (x : A) → o ≡ Some x → IsSome o
 some_is o x h = ap is_some h
 
@@ -120,6 +118,7 @@ pub request_steps : {F : Type 0} (way : Way) (old : WorldFields) (r now : ℕ) (
 request_steps way old r now words bytes (Ok outcome) new h = h
 request_steps way old r now words bytes (Err fault) new h = h
 
+-- a store put in place of an open region's changes that region alone
 turned : (w : WorldFields) (r : ℕ) (P Q : StoreFields) → map.get w.regions r ≡ Some P
     → Turns w r P Q (with_store w r Q)
 turned w r P Q at = record { is_open = at; changes = refl }
@@ -166,6 +165,7 @@ pull_act w r P v after o bs at p = absurd p
 
 -- ---- the fields
 
+-- the world of these edges and bundles
 abbrev pub world : SettingsFields → List EdgeFields → List BundleFields → WorldFields
 world settings rs bs = fields_of settings (entries_of rs) bs
 
@@ -229,6 +229,7 @@ module _ (settings : SettingsFields) (rs : List EdgeFields) (bs : List BundleFie
 
   module _ (at : IsAt nat_cmp (entries_of rs) r i) (all : HaveSettings settings rs) (p : EdgeFields)
       (is : p ≡ get_or rs i p) where
+    -- the entry of the edge is the one at its index
     entry_is : entry_of p ≡ get_or (entries_of rs) i (entry_of p)
     entry_is = entry_at rs i p at.in_range is
 
@@ -237,6 +238,7 @@ module _ (settings : SettingsFields) (rs : List EdgeFields) (bs : List BundleFie
     held_at = get_at_place nat_cmp_total (entries_of rs) sorted r i at (entry_of p)
         ∙ ap (λ e. Some e.1) (sym entry_is)
 
+    -- the edge at the index has that number
     number_at : p.region.number ≡ r
     number_at = ap (λ (e : ℕ × StoreFields). e.0) entry_is
         ∙ map.nat_cmp-IsAntisymmetric _ _ (at.tied (entry_of p))
@@ -259,6 +261,7 @@ module _ (settings : SettingsFields) (rs : List EdgeFields) (bs : List BundleFie
 
     module _ (q : EdgeFields) (number : q.region.number ≡ p.region.number)
         (same : IsAsOpen p q) where
+      -- writing an edge at the index writes its store in the entries
       after : entries_of (set rs i q)
           ≡ set (entries_of rs) i ((get_or (entries_of rs) i (entry_of p)).0, q.region.facts)
       after = entries_set rs i q

@@ -4,8 +4,7 @@
 --   introspect_alike    from their horizons on, regions with equal facts introspect alike
 --   revoked_inactive    a token that its client revoked is inactive
 --   families_inactive   each token of a family with a bad grant is inactive
-use Rattle.std.proofs.lemmas.Bool.Decides.{nat_tests}
-use Rattle.std.proofs.Common.{false, cond, nat_lt, arith, inl, inr, ◌≡◌, ◌≤◌, ℕ, zero, suc, List}
+use Rattle.std.proofs.Common.{cond, inl, inr, ◌≡◌, ◌≤◌, ℕ, zero, suc, List}
 use Rattle.std.proofs.Common.{[], ◌∷◌, take, slice_get, Option, Some, None, refl, sym, ap, subst}
 use Rattle.std.proofs.Common.{◌∙◌}
 use Rattle.std.specs.FinMap as map
@@ -45,7 +44,8 @@ use Rattle.tk_world.specs.State.{Kept, State, region_with}
 use Rattle.tk_world.specs.Carrying.{in_place, IsReplied}
 use Rattle.tk_world.specs.Told.{TellsBy}
 use Rattle.tk_world.specs.World.{Step, Run, state_before}
-use Rattle.tk_world.proofs.RunLaws.{run_joins, run_settings}
+use Rattle.tk_world.proofs.RunLaws.{facts_of, run_joins, run_settings}
+use Rattle.tk_retention.proofs.DecisionLaws.{never_before}
 
 -- ---- one event of a run
 
@@ -57,6 +57,7 @@ record At (old : State) (es : List Event) (os : List Outcome) (ss : List Facts) 
   run : Run old (take i es) (take i os) (take i ss) (state_before in_place old es os ss new all i)
   step : Step (state_before in_place old es os ss new all i) e o seen next
 
+-- an event of a run is a step, between what came before it and after it
 run_at : (old : State) (es : List Event) (os : List Outcome) (ss : List Facts) (new : State)
     (run : Run old es os ss new) (i : ℕ) (e : Event) (o : Outcome)
     → slice_get es i ≡ Some e → slice_get os i ≡ Some o → At old es os ss new run i e o
@@ -75,9 +76,6 @@ run_at old (x ∷ es) (y ∷ os) (s ∷ ss) new run (suc i) e o he ho =
 run_at old es os ss new run i e o he ho = absurd run
 
 -- ---- regions with equal facts introspect alike
-
-never_before : (now horizon : ℕ) → horizon ≤ now → nat_lt now horizon ≡ false
-never_before now horizon h = grind (arith, nat_tests, h)
 
 -- from the horizon on, the reply to an introspection request doesn't depend on the cap, since no
 -- fact is made
@@ -114,9 +112,7 @@ telling x F now words heard request answer fact one introspects (inr anew) =
     ∙ ap endpoint_in one ∙ ap (λ (e : Endpoint). Some e) introspects in
     absurd (cc)
 
-abbrev facts_of : Option Kept → FactSet
-facts_of o = option_map_or (λ k. k.facts) o map.empty
-
+-- the horizon of a region that may be open
 abbrev horizon_of : Option Kept → ℕ
 horizon_of o = option_map_or (λ k. k.horizon) o 0
 
@@ -162,6 +158,7 @@ introspect_alike old es os ss new run i j q r now request s t one two a b from_o
 
 -- ---- inactive tokens
 
+-- a handle that is active at no moment is inactive to everyone
 inactive : (P : StoreFields) (h : Handle) → ((now : ℕ) → ¬ IsActive (map.get (held_facts P)) now h)
     → IsInactive P h
 inactive P h never now =

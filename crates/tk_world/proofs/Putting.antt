@@ -13,6 +13,7 @@ use Rattle.tk_world.specs.declared.event.Event.{Event}
 use Rattle.tk_world.specs.declared.event.Outcome.{Outcome}
 use Rattle.tk_world.specs.Printed.{line_text, lines_text}
 
+-- the lines of events are those before an event, its line, and those after it
 lines_at : (es : List Event) (os : List Outcome) (i : ℕ) (e : Event) (o : Outcome) → i < length es
     → i < length os → e ≡ get_or es i e → o ≡ get_or os i o
     → lines_text es os
@@ -28,6 +29,7 @@ lines_at (x ∷ es) (y ∷ os) (suc i) e o l m p q =
     ∙ sym (append_assoc (line_text (x, y)) (lines_text (take i es) (take i os))
     (line_text (e, o) ++ lines_text (drop (suc i) es) (drop (suc i) os)))
 
+-- the lines before an event and its own line are those up to the event
 lines_to : (es : List Event) (os : List Outcome) (i : ℕ) (e : Event) (o : Outcome) → i < length es
     → i < length os → e ≡ get_or es i e → o ≡ get_or os i o
     → lines_text (take i es) (take i os) ++ line_text (e, o)

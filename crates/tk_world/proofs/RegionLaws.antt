@@ -24,6 +24,7 @@ use Rattle.tk_message.specs.Choices.{profile_choices}
 use Rattle.tk_region.specs.SettingsFields.{SettingsFields}
 use Rattle.tk_world.specs.Regions.{entry_of, entries_of, IsOpen, HaveSettings}
 
+-- there are as many entries as regions
 many : (rs : List EdgeFields) → length (entries_of rs) ≡ length rs
 many rs = length-map rs entry_of
 
@@ -68,12 +69,14 @@ region_of e = record {
   sealed = false;
 }
 
+-- the entry at an index, or a region's entry past the end, is that of the region at the index
 get_entry : (rs : List EdgeFields) (i : ℕ) (d : EdgeFields)
     → get_or (entries_of rs) i (entry_of d) ≡ entry_of (get_or rs i d)
 get_entry [] i d = refl
 get_entry (r ∷ rs) zero d = refl
 get_entry (r ∷ rs) (suc i) d = get_entry rs i d
 
+-- the entry at an index, or a given entry past the end, is that of the region at the index
 at_entry : (rs : List EdgeFields) (i : ℕ) (d : ℕ × StoreFields)
     → get_or (entries_of rs) i d ≡ entry_of (get_or rs i (region_of d))
 at_entry [] i d = refl
@@ -99,6 +102,7 @@ by_entries rs k (Err i) parted = λ rises.
           (p.1 j (region_of d) le (subst (λ n. j < n) (many rs) lt)),
     )
 
+-- a search result in range of the regions is in range of the entries
 in_entries : (rs : List EdgeFields) (r : Result ℕ ℕ) → IsSearchInRange r (length rs)
     → IsSearchInRange r (length (entries_of rs))
 in_entries rs r within = subst (IsSearchInRange r) (sym (many rs)) within

@@ -49,21 +49,27 @@ use Rattle.tk_world.proofs.StandsLaws.{open_for, closed_for, some_for, stands_pu
 -- what a region heard, and the fact made for it
 module _ (w : WorldFields) (U : FactSet) (s : State) (S : WorldStands w U s) (r : ℕ)
     (P : StoreFields) (at : map.get w.regions r ≡ Some P) where
+  -- the facts of the region in the state
   abbrev stood : FactSet
   stood = (open_for w U s S r P at).k.facts
 
+  -- what the state keeps of the region
   abbrev kept : Kept
   kept = (open_for w U s S r P at).k
 
+  -- the state has what is kept at the region's number
   is_kept : map.get s.regions r ≡ Some kept
   is_kept = (open_for w U s S r P at).at
 
+  -- the region's store stands for the region's facts in the state
   stands : StandsFor P U stood
   stands = (open_for w U s S r P at).stands
 
+  -- the horizon in the state is the store's
   level : kept.horizon ≡ P.horizon
   level = (open_for w U s S r P at).horizon
 
+  -- the region's facts in the state are among all facts made
   within : IsSubset stood U
   within = S.consists.held r kept is_kept
 
@@ -71,11 +77,13 @@ module _ (w : WorldFields) (U : FactSet) (s : State) (S : WorldStands w U s) (r 
   abbrev whole_at : Kept → RegionFields
   whole_at j = record { number = r; settings = w.settings; facts = kept_store j }
 
+  -- the region with all facts and the world's settings is that of the state
   whole_is : (j : Kept) → whole_at j ≡ region_with s r j
   whole_is j = ap (λ (x : SettingsFields).
       record { number = r; settings = x; facts = kept_store j }) (sym S.settings)
 
   module _ (now : ℕ) (words : List ℕ) (heard : Arrival) where
+    -- a moment is before both horizons or before neither
     both : nat_lt now P.horizon ≡ nat_lt now kept.horizon
     both = ap (nat_lt now) (sym level)
 
@@ -89,6 +97,7 @@ module _ (w : WorldFields) (U : FactSet) (s : State) (S : WorldStands w U s) (r 
         (tells_by r w.settings U P kept stands within S.sound now words both heard)
 
     module _ (soon : P.horizon ≤ now) where
+      -- a moment from the horizon on is before neither the horizon nor 0
       neither : nat_lt now P.horizon ≡ nat_lt now 0
       neither = grind (arith, nat_tests, soon)
 
@@ -120,6 +129,7 @@ module _ (w : WorldFields) (U : FactSet) (s : State) (S : WorldStands w U s) (r 
     stays : WorldStands (with_store w r (with_made P o)) made
         (with_region s r (record { facts = grown; horizon = kept.horizon }))
 
+  -- the fact that was made, if any, takes the state to one for which the world stands
   made_for : (o : Option (Dot × Body))
       → ((V : FactSet) → IfSome o (λ f. AddsOne U f.0 f.1 V → MeetsFamily U f.0 V))
       → IfSome o (IsNextFact (region_at w r P)) → MadeFor o

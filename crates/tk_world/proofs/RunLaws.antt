@@ -32,11 +32,12 @@ use Rattle.tk_world.specs.WorldFields.{WorldFields}
 abbrev pub shown : Event → Facts → ℕ → Facts
 shown e seen r = if region_of e == r then seen else []
 
+-- two numbers tie exactly if they are equal
 tied_is_equal : (a b : ℕ) → eq_by_cmp nat_cmp a b ≡ (b == a)
 tied_is_equal a b = grind (arith, nat_tests)
 
 -- the facts of a region that may be open
-abbrev facts_of : Option Kept → FactSet
+abbrev pub facts_of : Option Kept → FactSet
 facts_of o = option_map_or (λ k. k.facts) o map.empty
 
 -- after one region is set, the other regions are unchanged
@@ -63,6 +64,7 @@ same_after s new e seen r none same =
       | false ↦ joins_nothing (facts_in s r)
     ]))
 
+-- numbers that pass the test for equal ones are equal
 equal_from : (a b : ℕ) → a == b ≡ true → a ≡ b
 equal_from a b h = grind (arith, nat_tests)
 

@@ -115,6 +115,7 @@ put_back w r P at = ap (λ (m : map.FinMap nat_cmp StoreFields).
     record { settings = w.settings; regions = m; bundles = w.bundles })
     (same_again w.regions r P at)
 
+-- no facts
 abbrev pub no_facts : FactSet
 no_facts = map.empty
 
@@ -125,6 +126,7 @@ empty_stands U d = subst (λ (o : Option Slot). SlotStands U 0 d o (map.get no_f
 
 -- ---- worlds
 
+-- no region
 abbrev no_kept : map.FinMap nat_cmp Kept
 no_kept = map.empty
 

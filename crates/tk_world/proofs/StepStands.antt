@@ -165,6 +165,7 @@ record TakenFor (w : WorldFields) (U : FactSet) (s : State) (r : ℕ) (k : Kept)
       (with_region s r
       (record { facts = with_facts k.facts seen; horizon = raised_to k.horizon moment }))
 
+-- items that a region took in leave a world that stands for the state with their facts
 taken_for : (w : WorldFields) (U : FactSet) (s : State) → WorldStands w U s
     → (r : ℕ) (P Q : StoreFields) (x : OpenFor w U s r P) (horizon moment : Option ℕ) (is : _)
     (seen : Facts)

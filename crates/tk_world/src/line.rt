@@ -70,20 +70,7 @@ fn event_of(alloc: Global, fields: &[&str], words: [u64; 6]) -> Result<Event, Re
             Some(region) => Ok(Event::Open(region)),
             None => Err(ReadError::Malformed),
         },
-        ["pull", at, entries, after] => {
-            let Some(region) = region(at) else {
-                return Err(ReadError::Malformed);
-            };
-            let Some(after) = cursor(after) else {
-                return Err(ReadError::Malformed);
-            };
-            let vector = VersionVector::read_text(alloc, entries.as_bytes())?;
-            Ok(Event::Pull {
-                region,
-                vector,
-                after,
-            })
-        }
+        ["pull", at, entries, after] => pull_event(alloc, at, entries, after),
         ["deliver", bundle, to] => {
             let Some(bundle) = read_decimal(bundle.as_bytes()) else {
                 return Err(ReadError::Malformed);
@@ -106,6 +93,28 @@ fn event_of(alloc: Global, fields: &[&str], words: [u64; 6]) -> Result<Event, Re
         [name, at, now, form @ ..] => request_event(alloc, name, at, now, form, words),
         _ => Err(ReadError::Malformed),
     }
+}
+
+// Reads the pull of a line: the fields behind its name.
+fn pull_event(alloc: Global, at: &str, entries: &str, after: &str) -> Result<Event, ReadError>
+    ensures found { IfOk result (IsEventForm
+        (codes "pull" ∷ at.now ∷ entries.now ∷ after.now ∷ [])) }
+    ensures words { (words : List ℕ) → IfOk result (HasWords words) }
+    ensures malformed { IsErrOf result ReadError.Malformed → IsNoEventForm
+        (codes "pull" ∷ at.now ∷ entries.now ∷ after.now ∷ []) }
+{
+    let Some(region) = region(at) else {
+        return Err(ReadError::Malformed);
+    };
+    let Some(after) = cursor(after) else {
+        return Err(ReadError::Malformed);
+    };
+    let vector = VersionVector::read_text(alloc, entries.as_bytes())?;
+    Ok(Event::Pull {
+        region,
+        vector,
+        after,
+    })
 }
 
 // Reads the event of the fields of a slice of a prune.

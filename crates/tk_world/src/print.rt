@@ -4,10 +4,10 @@
 
 ghost use Rattle.std.specs.Prelude.{◌≡◌};
 ghost use Rattle.std.specs.Option.{option_copied};
-ghost use Rattle.tk_message.specs.StatusCode.{status_number};
-ghost use Rattle.tk_world.specs.World.{region_of as event_region};
-ghost use Rattle.tk_world.specs.Printed as spec;
 ghost use Rattle.tk_put.specs.Put.{Prints};
+ghost use Rattle.tk_message.specs.StatusCode.{status_number};
+ghost use Rattle.tk_world.specs.Printed as spec;
+ghost use Rattle.tk_world.specs.World.{region_of as event_region};
 
 use crate::event::{Event, Outcome};
 use crate::reply_parts::{body_in, location_in};

@@ -22,8 +22,8 @@ pub struct World {
 
 impl Model for World {
     ghost use Rattle.std.specs.Prelude.{T};
-    ghost use Rattle.std.specs.Ordering.{nat_cmp};
     ghost use Rattle.std.specs.FinMap as map;
+    ghost use Rattle.std.specs.Ordering.{nat_cmp};
     ghost use Rattle.tk_world.specs.Regions.{entries_of, HaveSettings};
     ghost use Rattle.tk_world.specs.WorldFields.{WorldFields, coded_world};
     ghost use Rattle.tk_world.specs.WorldStands.{IsStanding};
@@ -50,9 +50,9 @@ impl Model for World {
 ghost use Rattle.std.specs.Prelude.{◌≡◌, ◌≤◌, ◌<◌, ◌+◌, T, IfOk, IfErr, OnOk, OnErr};
 ghost use Rattle.std.specs.Prelude.{MatchResult, length, insert, [], slice_get, vec_len};
 ghost use Rattle.std.specs.Prelude.{vec_capacity, ◌++◌, ◌∷◌};
+ghost use Rattle.std.specs.FinMap as map;
 ghost use Rattle.std.specs.Option.{option_copied, option_map};
 ghost use Rattle.std.specs.Ordering.{nat_cmp};
-ghost use Rattle.std.specs.FinMap as map;
 ghost use Rattle.tk_handle.specs.SortedEntries.{IsAt, IsGap};
 ghost use Rattle.tk_store.specs.FactSet.{FactSet};
 ghost use Rattle.tk_bundle.specs.Bundle.{bundle_bytes};

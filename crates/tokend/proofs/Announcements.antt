@@ -7,9 +7,9 @@ use Rattle.std.specs.Io.KnownBytes.{Appends}
 use Rattle.tk_put.specs.Put.{AppendsFront, Prints}
 
 -- the beginning of a text begins the text with more behind it
-begins_longer : (old new : Option (List ℕ)) (text more : List ℕ) → AppendsFront old new text
+pub prints_less : (old new : Option (List ℕ)) (text more : List ℕ) → AppendsFront old new text
     → AppendsFront old new (text ++ more)
-begins_longer old new text more begun = record {
+prints_less old new text more begun = record {
   front = begun.front;
   rest = begun.rest ++ more;
   parts = ap (λ t. t ++ more) begun.parts ∙ append_assoc begun.front begun.rest more;
@@ -34,8 +34,3 @@ pub prints_then : {A E : Type 0} (old mid new : Option (List ℕ)) (text more : 
 prints_then old mid new text more (Ok x) done printed =
     Appends-trans old mid new text more done printed
 prints_then old mid new text more (Err e) done begun = begins_later old mid new text more done begun
-
--- a front of a text is a front of a longer text
-pub prints_less : (old new : Option (List ℕ)) (text more : List ℕ) → AppendsFront old new text
-    → AppendsFront old new (text ++ more)
-prints_less old new text more begun = begins_longer old new text more begun

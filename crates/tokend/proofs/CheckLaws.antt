@@ -31,12 +31,13 @@ use Rattle.tokend.specs.declared.fault.Fault.TheVariants.{BadLine, BadLogFile, B
 use Rattle.tokend.specs.declared.fault.Fault.TheVariants.{CannotListen, CannotOpen, CannotRead}
 use Rattle.tokend.specs.declared.fault.Fault.TheVariants.{CannotReadFile, Facts, Memory, Output}
 use Rattle.tokend.specs.declared.fault.Fault.TheVariants.{PruneAhead, ScriptTooLong, SharedFolder}
-use Rattle.tokend.specs.declared.fault.Fault.TheVariants.{SocketFailed, SocketInUse, Words}
+use Rattle.tokend.specs.declared.fault.Fault.TheVariants.{SocketFailed, SocketInUse, Arguments}
 
+-- the fault for a source that was refused is one of a source
 is_refused : (name : Text) (offset : ℕ) (fault : Fault) → IsRefusedSource name offset fault
     → IsSourceFault fault
 is_refused name offset (Facts why) h = tt
-is_refused name offset (Words error) h = absurd h
+is_refused name offset (Arguments error) h = absurd h
 is_refused name offset CannotRead h = absurd h
 is_refused name offset (CannotReadFile n) h = absurd h
 is_refused name offset (CannotOpen n) h = absurd h
@@ -52,6 +53,7 @@ is_refused name offset (BadLine n) h = absurd h
 is_refused name offset Memory h = absurd h
 is_refused name offset Output h = absurd h
 
+-- the fault reported for a source that wasn't loaded is one of a source
 is_told : (name : Text) (why : LoadFault) (fault : Fault) → IsReportedAs name why fault
     → IsSourceFault fault
 is_told name (load.Malformed offset) fault h = is_bad name offset fault h
@@ -59,6 +61,7 @@ is_told name (load.Refused offset) fault h = is_refused name offset fault h
 is_told name load.Read fault h = is_unread name fault h
 is_told name load.Memory fault h = subst IsSourceFault (sym h) tt
 
+-- a fault that ends the loading of a source is one of a source
 source_fault : (name : Text) (known : Option (List ℕ)) (fault : Fault) (old new : RegionFields)
     → LoadsSource name known old (Err fault) new → IsSourceFault fault
 source_fault name known fault old new (inr h) =
@@ -69,6 +72,7 @@ source_fault name known fault old new (inl h) = by h.1 h.4
     by (Ok cut) e = absurd (no_error fault cut e)
     by (Err why) told = is_told name why fault told
 
+-- a fault that ends the loading of sources in order is one of a source
 each_fault : (names : List Text) (input : Option (List ℕ)) (fault : Fault) (old new : RegionFields)
     → LoadsEach names input old (Err fault) new → IsSourceFault fault
 each_fault [] input fault old new h = absurd (no_error fault 0 h.0)
@@ -79,6 +83,7 @@ each_fault (name ∷ more) input fault old new (inr h) =
     (subst (λ (r : Result ℕ Fault). LoadsEach more h.2 h.1 r new) (later_fault h.0 h.3 fault h.7)
     h.6)
 
+-- a fault that ends the loading of the named sources, or of the input, is one of a source
 sources_fault : (s : Sources) (input : Option (List ℕ)) (fault : Fault) (old new : RegionFields)
     → LoadsSources s input old (Err fault) new → IsSourceFault fault
 sources_fault s input fault old new h = by (map string_bytes s.names.items) h
@@ -114,6 +119,7 @@ each_goes names name more input left cut later result old mid new is first kept 
     subst (λ (l : List Text). LoadsEach l input old result new) (sym is)
     (inr (cut, mid, left, later, first, kept, h, same))
 
+-- unchanged bytes are kept
 keeps_same : (bytes : Option (List ℕ)) → Keeps bytes bytes
 keeps_same None = tt
 keeps_same (Some bytes) = refl
@@ -123,7 +129,7 @@ pub check_left : (c : Check) (input : Option (List ℕ)) (fault : Fault) (old : 
     → IsSourceFault fault × ((region : RegionFields) × Checks c input (Err fault) region)
     → LeavesBegun (BeginsCheck c input fault old old) fault old old
 check_left c input (Facts why) old h = (h.1, keeps_same old)
-check_left c input (Words error) old h = absurd h.0
+check_left c input (Arguments error) old h = absurd h.0
 check_left c input CannotRead old h = absurd h.0
 check_left c input (CannotReadFile n) old h = absurd h.0
 check_left c input (CannotOpen n) old h = absurd h.0

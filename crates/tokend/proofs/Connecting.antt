@@ -23,6 +23,7 @@ use Rattle.tk_edge.specs.declared.tell.Fault.TheVariants.{Read, Write, Log, Memo
 use Rattle.tokend.specs.Growing.{Grows}
 use Rattle.tokend.proofs.Growing.{grows_same, made_grows, pushed_grows}
 
+-- a request that was answered leaves what the region knew
 answered_grows : (terms : TermsFields) (now : ℕ) (words : List ℕ) (came : Arrival)
     (answer : AnswerFields) (old new : RegionFields)
     → Answers terms old now words came (Ok answer) new → Grows old new
@@ -34,12 +35,14 @@ answered_grows terms now words (Exchange (Push sent)) answer old new h =
 answered_grows terms now words came answer old new h =
     made_grows old new (fact_by old now words came) h.1 h.2
 
+-- a region that is unchanged, or has some facts of a pushed bundle, knows what it knew
 short_grows : (reach : Reach) (terms : TermsFields) (now : ℕ) (known : Option (List ℕ))
     (old new : RegionFields)
     → IsShort reach terms now known old new → Grows old new
 short_grows reach terms now known old new (inl same) = grows_same old new same
 short_grows reach terms now known old new (inr h) = pushed_grows terms now old new h.0 h.2 h.3
 
+-- a connection for which memory ran out leaves what the region knew
 runs_out_grows : (b : Bool) (asked : Asked) (old new : RegionFields) (log : Change) (still : Type 0)
     (writer : Change) (sealed : Bool)
     → RunsOut b asked (record { before = old; after = new }) log still writer sealed → Grows old new
@@ -52,10 +55,12 @@ runs_out_grows true asked old new log still writer sealed (inr h) =
 -- a connection leaves what the region knew
 module _ (asked : Asked) (old new : RegionFields) (log : Change) (still : Type 0) (writer : Change)
     (sealed : Bool) where
+  -- the reply to what came has this result
   abbrev Replied : Option (List ℕ) → Arrival → Result StatusCode Fault → Type 0
   Replied sent came result = RepliesTo sent asked.terms asked.now asked.words came
       (record { before = old; after = new }) log still writer sealed result
 
+  -- a reply leaves what the region knew, if each reply without a bundle does
   replied_grows : (sent : Option (List ℕ)) (came : Arrival) (result : Result StatusCode Fault)
       → ((h : Replied None came result) → Grows old new) → Replied sent came result → Grows old new
   replied_grows None came result f h = f h
@@ -92,6 +97,7 @@ pub writes_less : (P Q : Type 0) (log writer : Change) (sealed : Bool) → (P �
     → WritesNothing log P writer sealed → WritesNothing log Q writer sealed
 writes_less P Q log writer sealed f h = (h.0, h.1, h.2, f h.3)
 
+-- a push whose record was logged, if any, left what follows from what it left
 logs_less : (P Q : Type 0) (logged : Option (List ℕ)) (taken : Result ℕ PushError)
     (log writer : Change) (sealed : Bool) (result : Result StatusCode Fault)
     → (P → Q)
@@ -104,6 +110,7 @@ logs_less P Q logged taken log writer sealed (Err Read) f h = (h.0, λ none. f (
 logs_less P Q logged taken log writer sealed (Err Memory) f h =
     (h.0, λ none. f (h.1 none), h.2, h.3)
 
+-- a push that was taken in and logged left what follows from what it left
 takes_less : (P Q : Type 0) (terms : TermsFields) (now : ℕ) (bytes : List ℕ)
     (old new : RegionFields) (log writer : Change) (sealed : Bool)
     (result : Result StatusCode Fault)
@@ -113,6 +120,7 @@ takes_less : (P Q : Type 0) (terms : TermsFields) (now : ℕ) (bytes : List ℕ)
 takes_less P Q terms now bytes old new log writer sealed result f h =
     (h.0, h.1, h.2, h.3, logs_less P Q h.2 h.0 log writer sealed result f h.4)
 
+-- a request with a reply left what follows from what it left
 replied_less : (P Q : Type 0) (sent : Option (List ℕ)) (terms : TermsFields) (now : ℕ)
     (words : List ℕ) (came : Arrival) (region : Step) (log writer : Change) (sealed : Bool)
     (result : Result StatusCode Fault) → (P → Q)
@@ -130,6 +138,7 @@ replied_less P Q None terms now words came region log writer sealed (Err Read) f
 replied_less P Q None terms now words came region log writer sealed (Err Memory) f h =
     (h.0, h.1, writes_less P Q log writer sealed f h.2)
 
+-- a connection for which memory ran out left what follows from what it left
 runs_out_less : (P Q : Type 0) (b : Bool) (asked : Asked) (region : Step) (log writer : Change)
     (sealed : Bool)
     → (P → Q)

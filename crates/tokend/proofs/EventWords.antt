@@ -5,6 +5,7 @@ use Rattle.tk_world.specs.declared.event.Event.{Event}
 use Rattle.tk_world.specs.Line.{HasWords}
 use Rattle.tokend.specs.Script.{AreShort, IsTooLong, words_at}
 
+-- what holds of each element of a list, and of one more, holds with that one behind them
 each_pushed : {X : Type 0} (P : ℕ → X → Type 0) (xs : List X) (x : X)
     → ((k : ℕ) → IfSome (slice_get xs k) (P k)) → P (length xs) x → (k : ℕ)
     → IfSome (slice_get (xs ++ x ∷ []) k) (P k)

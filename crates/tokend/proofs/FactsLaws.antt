@@ -24,13 +24,13 @@ use Rattle.tokend.specs.declared.fault.Fault.TheVariants.{BadLine, BadLogFile, B
 use Rattle.tokend.specs.declared.fault.Fault.TheVariants.{CannotListen, CannotOpen, CannotRead}
 use Rattle.tokend.specs.declared.fault.Fault.TheVariants.{CannotReadFile, Facts, Memory, Output}
 use Rattle.tokend.specs.declared.fault.Fault.TheVariants.{PruneAhead, ScriptTooLong, SharedFolder}
-use Rattle.tokend.specs.declared.fault.Fault.TheVariants.{SocketFailed, SocketInUse, Words}
+use Rattle.tokend.specs.declared.fault.Fault.TheVariants.{SocketFailed, SocketInUse, Arguments}
 
 -- a fault of bad bytes in a source is one of a source
 pub is_bad : (name : Text) (offset : ℕ) (fault : Fault) → IsBadSource name offset fault
     → IsSourceFault fault
 is_bad name offset (Facts why) h = tt
-is_bad name offset (Words error) h = absurd h
+is_bad name offset (Arguments error) h = absurd h
 is_bad name offset CannotRead h = absurd h
 is_bad name offset (CannotReadFile n) h = absurd h
 is_bad name offset (CannotOpen n) h = absurd h
@@ -49,7 +49,7 @@ is_bad name offset Output h = absurd h
 -- a fault of a source that can't be read is one of a source
 pub is_unread : (name : Text) (fault : Fault) → IsUnreadSource name fault → IsSourceFault fault
 is_unread name (Facts why) h = tt
-is_unread name (Words error) h = absurd h
+is_unread name (Arguments error) h = absurd h
 is_unread name CannotRead h = absurd h
 is_unread name (CannotReadFile n) h = absurd h
 is_unread name (CannotOpen n) h = absurd h
@@ -68,7 +68,7 @@ is_unread name Output h = absurd h
 -- a fault of a source is one of printing
 pub of_source : (fault : Fault) → IsSourceFault fault → IsFactsFault fault
 of_source (Facts why) h = tt
-of_source (Words error) h = absurd h
+of_source (Arguments error) h = absurd h
 of_source CannotRead h = absurd h
 of_source (CannotReadFile n) h = absurd h
 of_source (CannotOpen n) h = absurd h
@@ -84,6 +84,7 @@ of_source (BadLine n) h = absurd h
 of_source Memory h = absurd h
 of_source Output h = absurd h
 
+-- the fault reported for a source that wasn't printed is one of printing
 is_told : (name : Text) (why : PrintFault) (fault : Fault) → IsReportedAs name why fault
     → IsFactsFault fault
 is_told name (print.Malformed offset) fault h = of_source fault (is_bad name offset fault h)
@@ -91,10 +92,12 @@ is_told name print.Read fault h = of_source fault (is_unread name fault h)
 is_told name print.Memory fault h = subst IsFactsFault (sym h) tt
 is_told name print.Output fault h = subst IsFactsFault (sym h) tt
 
+-- the fault of a result, or the other fault if the result has none
 abbrev pub fault_in : Fault → Result ℕ Fault → Fault
 fault_in other (Ok n) = other
 fault_in other (Err fault) = fault
 
+-- a fault that ends the printing of a source is one of printing
 source_fault : (name : Text) (known : Option (List ℕ)) (fault : Fault) (old new : Option (List ℕ))
     → PrintsSource name known (Err fault) old new → IsFactsFault fault
 source_fault name known fault old new (inr h) =
@@ -115,6 +118,7 @@ later_fault cut (Err why) fault e = sym e
 pub no_error : (fault : Fault) (n : ℕ) → Err fault ≡ Ok n → ⊥
 no_error fault n e = absurd (cc)
 
+-- a fault that ends the printing of sources in order is one of printing
 each_fault : (names : List Text) (input : Option (List ℕ)) (fault : Fault)
     (old new : Option (List ℕ))
     → PrintsEach names input (Err fault) old new → IsFactsFault fault
@@ -166,7 +170,7 @@ fault_left s input r fault old mid new is h kept =
         → LeavesBegun (BeginsFacts s input fault old new) fault old new
     of (Facts why) f h = (Err (Facts why), mid, h, kept, refl)
     of Output f h = (Err Output, mid, h, kept, tt)
-    of (Words error) f h = absurd f
+    of (Arguments error) f h = absurd f
     of CannotRead f h = absurd f
     of (CannotReadFile n) f h = absurd f
     of (CannotOpen n) f h = absurd f

@@ -29,19 +29,24 @@ use Rattle.tokend.proofs.Connecting.{uses_less}
 abbrev Behind : List ℕ → List ℕ → Type 0
 Behind old new = (more : List ℕ) × (new ≡ old ++ more)
 
+-- bytes to which a text was appended begin with what they were
 appends_behind : (old new text : List ℕ) → Appends (Some old) (Some new) text → Behind old new
 appends_behind old new text h = (text, h)
 
+-- bytes to which the beginning of a text was appended begin with what they were
 front_behind : (old new text : List ℕ) → AppendsFront (Some old) (Some new) text → Behind old new
 front_behind old new text h = (h.front, h.appended)
 
+-- bytes that were kept begin with what they were
 keeps_behind : (old new : List ℕ) → Keeps (Some old) (Some new) → Behind old new
 keeps_behind old new h = ([], h ∙ sym (append-nil old))
 
+-- what follows the old bytes is the text that was appended
 appends_apart : (old new more text : List ℕ) → new ≡ old ++ more
     → Appends (Some old) (Some new) text → Appends (Some []) (Some more) text
 appends_apart old new more text is h = append_cancel_left old more text (sym is ∙ h)
 
+-- what follows the old bytes is the beginning of a text that was appended
 front_apart : (old new more text : List ℕ) → new ≡ old ++ more
     → AppendsFront (Some old) (Some new) text → AppendsFront (Some []) (Some more) text
 front_apart old new more text is h =
@@ -52,10 +57,12 @@ front_apart old new more text is h =
       appended = appends_apart old new more h.front is h.appended;
     }
 
+-- nothing follows the old bytes if the new ones equal them
 same_apart : (old new more : List ℕ) → new ≡ old ++ more → new ≡ old → more ≡ []
 same_apart old new more is same =
     append_cancel_left old more [] (sym is ∙ same ∙ sym (append-nil old))
 
+-- nothing follows the old bytes if they were kept
 keeps_apart : (old new more : List ℕ) → new ≡ old ++ more → Keeps (Some old) (Some new)
     → Keeps (Some []) (Some more)
 keeps_apart old new more is h = same_apart old new more is h
@@ -284,6 +291,7 @@ module _ (a n c w : List ℕ) (still : Type 0) (sealed : Bool) where
 pub clash : true ≡ false → ⊥
 clash e = cc
 
+-- edges with equal regions, terms and seals are equal
 same_edge : (old new : EdgeFields) → new.region ≡ old.region → new.terms ≡ old.terms
     → new.sealed ≡ old.sealed → new ≡ old
 same_edge old new region terms sealed =

@@ -34,10 +34,12 @@ use Rattle.tokend.specs.Growing.{Grows}
 
 -- ---- stores
 
+-- a store is below an equal one
 same_store : (P Q : StoreFields) → Q ≡ P → StoreBelow P Q
 same_store P Q same = subst (StoreBelow P) (sym same)
     (record { slots = slots_itself P.slots; horizon = omega (arith) })
 
+-- a store is below itself with a fact at a free dot
 with_fact_above : (P : StoreFields) (d : Dot) (b : Body) → map.get P.slots d ≡ None
     → StoreBelow P (with_fact P d b)
 with_fact_above P d b free = record { slots = above; horizon = omega (arith) }

@@ -1,14 +1,11 @@
--- What a connection adds to a log that gets the bundles taken in, and to the store of its region.
--- Key results:
---   decision_adds             a decision adds a bundle that fits, or nothing
---   decisions_stay, turns_stay  nothing is logged or changed by a sealed edge
-use Rattle.std.proofs.Common.{◌≡◌, ◌≢◌, ℕ, Bool, true, false, nat_lt, List, [], ◌∷◌, filter, take}
+-- What a reply or a record adds to a log that gets the bundles taken in, and to the store of its
+-- region: a bundle that fits, or nothing.
+use Rattle.std.proofs.Common.{◌≡◌, ℕ, Bool, true, false, nat_lt, List, [], ◌∷◌, filter, take}
 use Rattle.std.proofs.Common.{Option, None, Some, option_map, Result, Ok, Err, inl, inr, refl, sym}
 use Rattle.std.proofs.Common.{ap, subst, ◌∙◌, cond}
-use Rattle.std.specs.Prelude.{◌⊎◌, IfSome}
+use Rattle.std.specs.Prelude.{IfSome}
 use Rattle.std.specs.FinMap as map
 use Rattle.std.specs.Io.KnownBytes.{Appends}
-use Rattle.rand_chacha.specs.ChaCha.{ChaCha}
 use Rattle.tk_format.specs.Exact.{whole_again}
 use Rattle.tk_format.specs.Format.{whole}
 use Rattle.tk_handle.specs.declared.dot.Dot.{Dot}
@@ -23,7 +20,6 @@ use Rattle.tk_bundle.specs.BundleLaws.{bundle_exact}
 use Rattle.tk_bundle.specs.News.{changes, changes_slots, counts, is_later, news_of}
 use Rattle.tk_bundle.specs.News.{record_of as news_record}
 use Rattle.tk_message.specs.Place.{next_in}
-use Rattle.tk_message.specs.declared.status_code.StatusCode.{StatusCode}
 use Rattle.tk_message.specs.ReplyFields.{ReplyFields}
 use Rattle.tk_message.specs.RequestFields.{RequestFields}
 use Rattle.tk_region.specs.RegionFields.{RegionFields, Gains, place_in}
@@ -38,16 +34,12 @@ use Rattle.tk_region.proofs.FitsLaws.{fits_differ}
 use Rattle.tk_edge.specs.Answers.{IsRecorded, answer_at, answered_by, fact_by, metrics_by}
 use Rattle.tk_edge.specs.Answers.{notice_by}
 use Rattle.tk_edge.specs.Arrivals.{Answers}
-use Rattle.tk_edge.specs.EdgeFields.{EdgeFields}
 use Rattle.tk_edge.specs.Ahead.{refused, lifted}
-use Rattle.tk_edge.specs.Exchanges.{IsTakenReply, Pushes, PushesBy, TakesBundle}
-use Rattle.tk_edge.specs.FrontServed.{asked_by}
+use Rattle.tk_edge.specs.Exchanges.{Pushes, PushesBy, TakesBundle}
 use Rattle.tk_edge.specs.Pushes.{IsNews, bundle_to_log, kept_of, logged_of}
-use Rattle.tk_edge.specs.Served.{Asked, IsServed, RepliesTo, RunsOut}
 use Rattle.tk_edge.specs.Terms.{TermsFields}
-use Rattle.tk_edge.specs.Told.{AnswerFields, Change, record_in}
+use Rattle.tk_edge.specs.Told.{AnswerFields, record_in}
 use Rattle.tk_edge.specs.declared.edge.Served.{Served}
-use Rattle.tk_edge.specs.declared.edge.Served.TheVariants.{Nothing, Done}
 use Rattle.tk_edge.specs.declared.ahead.PushError.{PushError}
 use Rattle.tk_edge.specs.declared.ahead.PushError.TheVariants as push
 use Rattle.tk_edge.specs.declared.exchange.Exchange.TheVariants.{Vector, Pull, Push}
@@ -58,30 +50,31 @@ use Rattle.tk_edge.specs.Notices.{health_of, metadata_of}
 use Rattle.tk_edge.specs.declared.notice.Notice.{Notice as AnyNotice}
 use Rattle.tk_edge.specs.declared.notice.Notice.TheVariants.{Discovery, Health, Metrics}
 use Rattle.tk_edge.specs.declared.tell.Fault.{Fault}
-use Rattle.tk_edge.specs.declared.tell.Fault.TheVariants.{Read, Write, Log, Memory}
-use Rattle.tokend.specs.Decisions.{Asking, Ending, IsDecision, IsDecisionBy, asked_of, gains}
-use Rattle.tokend.specs.Repeats.{Repetition}
-use Rattle.tokend.specs.Draw.{past_six, six}
+use Rattle.tokend.specs.Decisions.{gains}
 use Rattle.tokend.specs.KeptLog.{IsCalm}
-use Rattle.tokend.specs.Turns.{AreDecisions, AreTurns, Endings, IsKept, IsLost, IsTurn, Running}
-use Rattle.tokend.specs.Turns.{past_each}
-use Rattle.tokend.proofs.TurnGrowth.{sealed_stays}
 use Rattle.tokend.proofs.KeptSlots.{IsFrom, below_first, below_some, fit_lower, fits_lower}
 use Rattle.tokend.proofs.KeptSlots.{from_items, first_unchanged, items_below, items_from}
-use Rattle.tokend.proofs.KeptSlots.{items_lower, neither, unchanged}
+use Rattle.tokend.proofs.KeptSlots.{items_lower, unchanged}
+use Rattle.tk_handle.proofs.TestLaws.{neither}
 use Rattle.tokend.proofs.LogBundles.{horizon_from, taken_slots}
-use Rattle.tokend.proofs.LogGains.{IsSame, Brings, Grows, keeps_nothing, sealed_clash, ok_fault}
-use Rattle.tokend.proofs.LogGains.{write_log, write_memory, one, all_items, no_earlier, short_push}
+use Rattle.tokend.proofs.LogGains.{IsSame, Brings, Grows, sealed_clash}
+use Rattle.tokend.proofs.LogGains.{one, all_items, no_earlier, short_push}
 use Rattle.tokend.proofs.LogGains.{same_late}
 
 -- what is logged of a prepared reply is the record of its fact, before the horizon too
 logged_is : (r : RegionFields) (now : ℕ) (words : List ℕ) (request : RequestFields)
-    → (prepared_of r now words request).logged ≡ option_map record_of (prepared_of r now words request).fact
+    → (prepared_of r now words request).logged
+    ≡ option_map record_of (prepared_of r now words request).fact
 logged_is r now words request = by_time (nat_lt now r.facts.horizon)
   where
     by_time : (t : Bool)
-        → (cond t (early_in (place_in r)) (prepared_by r.settings.cap (place_in r) (decision_of r.facts (place_in r) now words request))).logged
-        ≡ option_map record_of (cond t (early_in (place_in r)) (prepared_by r.settings.cap (place_in r) (decision_of r.facts (place_in r) now words request))).fact
+        → (cond t (early_in (place_in r))
+        (prepared_by r.settings.cap (place_in r)
+        (decision_of r.facts (place_in r) now words request))).logged
+        ≡ option_map record_of
+        (cond t (early_in (place_in r))
+        (prepared_by r.settings.cap (place_in r)
+        (decision_of r.facts (place_in r) now words request))).fact
     by_time true = refl
     by_time false = refl
 
@@ -93,9 +86,14 @@ module _ (end : Result Served Fault) (before after : Option (List ℕ)) (old new
   G = new.facts
 
   same_store : G ≡ F → IsSame F G
-  same_store e = record { slots = λ d. ap (λ (P : StoreFields). map.get P.slots d) e; horizon = ap (λ (P : StoreFields). P.horizon) e }
+  same_store e =
+      record {
+        slots = λ d. ap (λ (P : StoreFields). map.get P.slots d) e;
+        horizon =
+            ap (λ (P : StoreFields). P.horizon) e;
+      }
 
-  still : Appends before after [] → new ≡ old → Grows end before after F G
+  pub still : Appends before after [] → new ≡ old → Grows end before after F G
   still same e = inl (same, same_store (ap (λ (r : RegionFields). r.facts) e))
 
   gains_none : Appends before after [] → Gains old None new → Grows end before after F G
@@ -106,17 +104,21 @@ module _ (end : Result Served Fault) (before after : Option (List ℕ)) (old new
       → bundle.Fits (of_facts (f ∷ [])) → Brings end F G (of_facts (f ∷ []))
   made f free is fits = record {
     fits = fits;
-    from = λ U all d. subst (λ S. IsFrom (map.get U d) (map.get F.slots d) (map.get S d)) (sym slots_is) (items_from U F.slots (one f) all d);
+    from = λ U all d. subst (λ S. IsFrom (map.get U d) (map.get F.slots d) (map.get S d))
+        (sym slots_is) (items_from U F.slots (one f) all d);
     late = λ u low. same_late G.horizon F.horizon u (ap (λ (P : StoreFields). P.horizon) is);
     loads = λ calm L below. (
       (fit_lower (map.get L f.0) (map.get F.slots f.0) (Held f.1) (below f.0) fit.0 no_mark, tt),
-      subst (SlotsBelow (with_slots L (one f))) (sym slots_is) (items_lower all_items L F.slots (one f) (tt, tt) below fit),
+      subst (SlotsBelow (with_slots L (one f))) (sym slots_is)
+          (items_lower all_items L F.slots (one f) (tt, tt) below fit),
     );
-    known = λ calm. subst (λ S. AllBelow S (one f)) (sym slots_is) (items_below F.slots (one f) (tt, tt) fit);
+    known = λ calm. subst (λ S. AllBelow S (one f)) (sym slots_is)
+        (items_below F.slots (one f) (tt, tt) fit);
   }
     where
       slots_is : G.slots ≡ with_slots F.slots (one f)
-      slots_is = ap (λ (P : StoreFields). P.slots) is ∙ sym (ap (λ o. map.insert F.slots f.0 (joined_slot o (Held f.1))) free)
+      slots_is = ap (λ (P : StoreFields). P.slots) is
+          ∙ sym (ap (λ o. map.insert F.slots f.0 (joined_slot o (Held f.1))) free)
 
       fit : AllFit F.slots (one f)
       fit = (subst (λ o. SlotAgrees o (Some (Held f.1))) (sym free) tt, tt)
@@ -128,12 +130,14 @@ module _ (end : Result Served Fault) (before after : Option (List ℕ)) (old new
       → Gains old o new → IfSome o (IsNextFact old) → IfSome o IsRecorded
       → Grows end before after F G
   recorded None same gains next fits = gains_none same gains
-  recorded (Some f) more gains next fits = inr (of_facts (f ∷ []), more, made f (next_unknown old f next) gains.facts fits)
+  recorded (Some f) more gains next fits =
+      inr (of_facts (f ∷ []), more, made f (next_unknown old f next) gains.facts fits)
 
   logged_as : (answer told : AnswerFields) → answer ≡ told
       → Appends before after (record_in answer.logged)
       → Appends before after (record_in told.logged)
-  logged_as answer told is more = subst (λ (a : AnswerFields). Appends before after (record_in a.logged)) is more
+  logged_as answer told is more =
+      subst (λ (a : AnswerFields). Appends before after (record_in a.logged)) is more
 
   reply_unlogged : (o : Option ReplyFields) → (answered_by o).logged ≡ None
   reply_unlogged None = refl
@@ -145,124 +149,151 @@ module _ (end : Result Served Fault) (before after : Option (List ℕ)) (old new
 
   notice_unlogged : (terms : TermsFields) (now : ℕ) (notice : AnyNotice)
       → (notice_by terms old now notice).logged ≡ None
-  notice_unlogged terms now Discovery = reply_unlogged (metadata_of terms.issuer old.settings.choices.challenge)
+  notice_unlogged terms now Discovery =
+      reply_unlogged (metadata_of terms.issuer old.settings.choices.challenge)
   notice_unlogged terms now Health = reply_unlogged (health_of terms.health old.facts.horizon now)
   notice_unlogged terms now Metrics = metrics_unlogged terms.metrics
 
-  answered : (terms : TermsFields) (now : ℕ) (words : List ℕ) (came : Arrival) (answer : AnswerFields)
+  pub answered : (terms : TermsFields) (now : ℕ) (words : List ℕ) (came : Arrival)
+      (answer : AnswerFields)
       → bundle_to_log true came ≡ None → Answers terms old now words came (Ok answer) new
-      → Appends before after (record_in answer.logged) → IfSome (fact_by old now words came) IsRecorded → Grows end before after F G
-  answered terms now words (Exchange Vector) answer none h more fits = still (logged_as answer _ h.0.3 more) h.1
-  answered terms now words (Exchange (Pull pages sent)) answer none h more fits = still (logged_as answer _ h.0 more) h.1
+      → Appends before after (record_in answer.logged)
+      → IfSome (fact_by old now words came) IsRecorded → Grows end before after F G
+  answered terms now words (Exchange Vector) answer none h more fits =
+      still (logged_as answer _ h.0.3 more) h.1
+  answered terms now words (Exchange (Pull pages sent)) answer none h more fits =
+      still (logged_as answer _ h.0 more) h.1
   answered terms now words (Exchange (Push sent)) answer none h more fits = absurd (cc)
-  answered terms now words Silence answer none h more fits = gains_none (logged_as answer _ h.0 more) h.1
-  answered terms now words (Refused why) answer none h more fits = gains_none (logged_as answer _ h.0 more) h.1
+  answered terms now words Silence answer none h more fits =
+      gains_none (logged_as answer _ h.0 more) h.1
+  answered terms now words (Refused why) answer none h more fits =
+      gains_none (logged_as answer _ h.0 more) h.1
   answered terms now words (Request request) answer none h more fits =
       recorded (prepared_of old now words request).fact
-      (subst (λ o. Appends before after (record_in o)) (logged_is old now words request) (logged_as answer (answer_at terms old now words (Request request)) h.0 more)) h.1 h.2 fits
+      (subst (λ o. Appends before after (record_in o)) (logged_is old now words request)
+      (logged_as answer (answer_at terms old now words (Request request)) h.0 more)) h.1 h.2 fits
   answered terms now words (Notice notice) answer none h more fits =
-      gains_none (subst (λ o. Appends before after (record_in o)) (notice_unlogged terms now notice) (logged_as answer (notice_by terms old now notice) h.0 more)) h.1
+      gains_none
+      (subst (λ o. Appends before after (record_in o)) (notice_unlogged terms now notice)
+      (logged_as answer (notice_by terms old now notice) h.0 more)) h.1
 
   -- a bundle that was read is taken in, refused, or cut off
-  module _ (b : BundleFields) (fits : bundle.Fits b) (readable : bundle.Fits (news_of F.slots b)) where
-    -- the store with these of the bundle's items
-    abbrev IsWith : Items → Type 0
-    IsWith items = G ≡ items_taken (raised F b.horizon) items
+  module _ (b : BundleFields) (fits : bundle.Fits b) (readable : bundle.Fits (news_of F.slots b))
+    where
+      -- the store with these of the bundle's items
+      abbrev IsWith : Items → Type 0
+      IsWith items = G ≡ items_taken (raised F b.horizon) items
 
-    whole_brings : IsWith b.items → AllFit F.slots b.items → Brings end F G (news_of F.slots b)
-    whole_brings is fit = record {
-      fits = readable;
-      from = λ U all d. subst (λ S. IsFrom (map.get U d) (map.get F.slots d) (map.get S d)) (sym slots_is) (from_items F.slots F.slots U b.items (λ d at. at) all d);
-      late = λ u low. horizon_from F G b.horizon b.items u is low;
-      loads = λ calm L below. (
-        fits_lower L F.slots b.items below fit,
-        subst (SlotsBelow (with_slots L (filter (counts F.slots) b.items))) (sym slots_is) (items_lower (counts F.slots) L F.slots b.items (fits_differ b fits) below fit),
-      );
-      known = λ calm. subst (λ S. AllBelow S (filter (counts F.slots) b.items)) (sym slots_is)
-          (below_some (with_slots F.slots b.items) (counts F.slots) b.items (items_below F.slots b.items (fits_differ b fits) fit));
-    }
-      where
-        slots_is : G.slots ≡ with_slots F.slots b.items
-        slots_is = taken_slots F G b.horizon b.items is
+      whole_brings : IsWith b.items → AllFit F.slots b.items → Brings end F G (news_of F.slots b)
+      whole_brings is fit = record {
+        fits = readable;
+        from = λ U all d. subst (λ S. IsFrom (map.get U d) (map.get F.slots d) (map.get S d))
+            (sym slots_is) (from_items F.slots F.slots U b.items (λ d at. at) all d);
+        late = λ u low. horizon_from F G b.horizon b.items u is low;
+        loads = λ calm L below. (
+          fits_lower L F.slots b.items below fit,
+          subst (SlotsBelow (with_slots L (filter (counts F.slots) b.items))) (sym slots_is)
+              (items_lower (counts F.slots) L F.slots b.items (fits_differ b fits) below fit),
+        );
+        known = λ calm. subst (λ S. AllBelow S (filter (counts F.slots) b.items)) (sym slots_is)
+            (below_some (with_slots F.slots b.items) (counts F.slots) b.items
+            (items_below F.slots b.items (fits_differ b fits) fit));
+      }
+        where
+          slots_is : G.slots ≡ with_slots F.slots b.items
+          slots_is = taken_slots F G b.horizon b.items is
 
-    part_brings : (k : ℕ) → (IsCalm end → ⊥) → IsWith (take k b.items)
-        → Brings end F G (news_of F.slots b)
-    part_brings k short is = record {
-      fits = readable;
-      from = λ U all d. subst (λ S. IsFrom (map.get U d) (map.get F.slots d) (map.get S d)) (sym (taken_slots F G b.horizon (take k b.items) is))
-          (from_items F.slots F.slots U (take k b.items) (λ d at. at) (below_first U (counts F.slots) k b.items all) d);
-      late = λ u low. horizon_from F G b.horizon (take k b.items) u is low;
-      loads = λ calm. absurd (short calm);
-      known = λ calm. absurd (short calm);
-    }
+      part_brings : (k : ℕ) → (IsCalm end → ⊥) → IsWith (take k b.items)
+          → Brings end F G (news_of F.slots b)
+      part_brings k short is = record {
+        fits = readable;
+        from = λ U all d. subst (λ S. IsFrom (map.get U d) (map.get F.slots d) (map.get S d))
+            (sym (taken_slots F G b.horizon (take k b.items) is))
+            (from_items F.slots F.slots U (take k b.items) (λ d at. at)
+            (below_first U (counts F.slots) k b.items all) d);
+        late = λ u low. horizon_from F G b.horizon (take k b.items) u is low;
+        loads = λ calm. absurd (short calm);
+        known = λ calm. absurd (short calm);
+      }
 
-    none_brings : (IsCalm end → ⊥) → G ≡ F → Brings end F G (news_of F.slots b)
-    none_brings short same = record {
-      fits = readable;
-      from = λ U all d. inl (ap (λ (P : StoreFields). map.get P.slots d) same);
-      late = λ u low. same_late G.horizon F.horizon u (ap (λ (P : StoreFields). P.horizon) same);
-      loads = λ calm. absurd (short calm);
-      known = λ calm. absurd (short calm);
-    }
+      none_brings : (IsCalm end → ⊥) → G ≡ F → Brings end F G (news_of F.slots b)
+      none_brings short same = record {
+        fits = readable;
+        from = λ U all d. inl (ap (λ (P : StoreFields). map.get P.slots d) same);
+        late = λ u low. same_late G.horizon F.horizon u (ap (λ (P : StoreFields). P.horizon) same);
+        loads = λ calm. absurd (short calm);
+        known = λ calm. absurd (short calm);
+      }
 
-    -- a bundle that changes nothing
-    nothing_brought : IsWith b.items → changes F b ≡ false → IsSame F G
-    nothing_brought is none = record {
-      slots = λ d. ap (λ S. map.get S d) (taken_slots F G b.horizon b.items is) ∙ unchanged F.slots b.items each.1 d;
-      horizon = late b.horizon is each.0;
-    }
-      where
-        each : (is_later F.horizon b.horizon ≡ false) × (changes_slots F.slots b.items ≡ false)
-        each = neither (is_later F.horizon b.horizon) (changes_slots F.slots b.items) none
+      -- a bundle that changes nothing
+      nothing_brought : IsWith b.items → changes F b ≡ false → IsSame F G
+      nothing_brought is none = record {
+        slots = λ d. ap (λ S. map.get S d) (taken_slots F G b.horizon b.items is)
+            ∙ unchanged F.slots b.items each.1 d;
+        horizon = late b.horizon is each.0;
+      }
+        where
+          each : (is_later F.horizon b.horizon ≡ false) × (changes_slots F.slots b.items ≡ false)
+          each = neither (is_later F.horizon b.horizon) (changes_slots F.slots b.items) none
 
-        late : (h : Option ℕ) → G ≡ items_taken (raised F h) b.items → is_later F.horizon h ≡ false
-            → G.horizon ≡ F.horizon
-        late None is e = ap (λ (P : StoreFields). P.horizon) is
-        late (Some m) is e = ap (λ (P : StoreFields). P.horizon) is ∙ no_earlier F.horizon m e
+          late : (h : Option ℕ) → G ≡ items_taken (raised F h) b.items → is_later F.horizon h
+              ≡ false
+              → G.horizon ≡ F.horizon
+          late None is e = ap (λ (P : StoreFields). P.horizon) is
+          late (Some m) is e = ap (λ (P : StoreFields). P.horizon) is ∙ no_earlier F.horizon m e
 
-    -- the record, by whether the bundle changes the store
-    by_record : (t : Bool) → changes F b ≡ t
-        → Appends before after (logged_of (cond t (Some (bundle_bytes (news_of F.slots b))) None))
-        → (changes F b ≡ false → IsSame F G) → Brings end F G (news_of F.slots b) → Grows end before after F G
-    by_record true e more same brings = inr (news_of F.slots b, more, brings)
-    by_record false e more same brings = inl (more, same e)
+      -- the record, by whether the bundle changes the store
+      by_record : (t : Bool) → changes F b ≡ t
+          → Appends before after (logged_of (cond t (Some (bundle_bytes (news_of F.slots b))) None))
+          → (changes F b ≡ false → IsSame F G) → Brings end F G (news_of F.slots b)
+          → Grows end before after F G
+      by_record true e more same brings = inr (news_of F.slots b, more, brings)
+      by_record false e more same brings = inl (more, same e)
 
-    part_same : (k : ℕ) → IsWith (take k b.items) → changes F b ≡ false → IsSame F G
-    part_same k is none = record {
-      slots = λ d. ap (λ S. map.get S d) (taken_slots F G b.horizon (take k b.items) is) ∙ unchanged F.slots (take k b.items) (first_unchanged F.slots k b.items each.1) d;
-      horizon = late b.horizon is each.0;
-    }
-      where
-        each : (is_later F.horizon b.horizon ≡ false) × (changes_slots F.slots b.items ≡ false)
-        each = neither (is_later F.horizon b.horizon) (changes_slots F.slots b.items) none
+      part_same : (k : ℕ) → IsWith (take k b.items) → changes F b ≡ false → IsSame F G
+      part_same k is none = record {
+        slots = λ d. ap (λ S. map.get S d) (taken_slots F G b.horizon (take k b.items) is)
+            ∙ unchanged F.slots (take k b.items) (first_unchanged F.slots k b.items each.1) d;
+        horizon = late b.horizon is each.0;
+      }
+        where
+          each : (is_later F.horizon b.horizon ≡ false) × (changes_slots F.slots b.items ≡ false)
+          each = neither (is_later F.horizon b.horizon) (changes_slots F.slots b.items) none
 
-        late : (h : Option ℕ) → G ≡ items_taken (raised F h) (take k b.items)
-            → is_later F.horizon h ≡ false → G.horizon ≡ F.horizon
-        late None is e = ap (λ (P : StoreFields). P.horizon) is
-        late (Some m) is e = ap (λ (P : StoreFields). P.horizon) is ∙ no_earlier F.horizon m e
+          late : (h : Option ℕ) → G ≡ items_taken (raised F h) (take k b.items)
+              → is_later F.horizon h ≡ false → G.horizon ≡ F.horizon
+          late None is e = ap (λ (P : StoreFields). P.horizon) is
+          late (Some m) is e = ap (λ (P : StoreFields). P.horizon) is ∙ no_earlier F.horizon m e
 
-    taken_in : (taken : Result ℕ TakeError) → (lifted taken ≡ short_push → IsCalm end → ⊥)
-        → Appends before after (logged_of (kept_of (lifted taken) (news_record F b)))
-        → TakesIn F (next_in (place_in old)) (Some b) taken G → Grows end before after F G
-    taken_in (Ok n) short more k = by_record (changes F b) refl more (nothing_brought k.2.0) (whole_brings k.2.0 k.1)
-    taken_in (Err Take.Memory) short more (inl same) = by_record (changes F b) refl more (λ _. same_store same) (none_brings (short refl) same)
-    taken_in (Err Take.Memory) short more (inr k) = by_part (changes F b) refl more
-      where
-        by_part : (t : Bool) → changes F b ≡ t
-            → Appends before after (logged_of (cond t (Some (bundle_bytes (news_of F.slots b))) None))
-            → Grows end before after F G
-        by_part true e more = inr (news_of F.slots b, more, part_brings k.2.0 (short refl) k.2.1)
-        by_part false e more = inl (more, part_same k.2.0 k.2.1 e)
-    taken_in (Err OwnNumber) short same k = inl (same, same_store k.1)
-    taken_in (Err Conflict) short same k = inl (same, same_store k.2)
-    taken_in (Err Malformed) short same k = absurd k
+      taken_in : (taken : Result ℕ TakeError) → (lifted taken ≡ short_push → IsCalm end → ⊥)
+          → Appends before after (logged_of (kept_of (lifted taken) (news_record F b)))
+          → TakesIn F (next_in (place_in old)) (Some b) taken G → Grows end before after F G
+      taken_in (Ok n) short more k =
+          by_record (changes F b) refl more (nothing_brought k.2.0) (whole_brings k.2.0 k.1)
+      taken_in (Err Take.Memory) short more (inl same) =
+          by_record (changes F b) refl more (λ _. same_store same) (none_brings (short refl) same)
+      taken_in (Err Take.Memory) short more (inr k) = by_part (changes F b) refl more
+        where
+          by_part : (t : Bool) → changes F b ≡ t
+              → Appends before after
+              (logged_of (cond t (Some (bundle_bytes (news_of F.slots b))) None))
+              → Grows end before after F G
+          by_part true e more = inr (news_of F.slots b, more, part_brings k.2.0 (short refl) k.2.1)
+          by_part false e more = inl (more, part_same k.2.0 k.2.1 e)
+      taken_in (Err OwnNumber) short same k = inl (same, same_store k.1)
+      taken_in (Err Conflict) short same k = inl (same, same_store k.2)
+      taken_in (Err Malformed) short same k = absurd k
 
-  pushed : (terms : TermsFields) (now : ℕ) (bytes : List ℕ) (taken : Result ℕ PushError) (logged : Option (List ℕ))
+  pub pushed : (terms : TermsFields) (now : ℕ) (bytes : List ℕ) (taken : Result ℕ PushError)
+      (logged : Option (List ℕ))
       → (taken ≡ short_push → IsCalm end → ⊥) → Pushes terms now old bytes taken new
-      → IsNews old bytes taken logged new → Appends before after (logged_of logged) → Grows end before after F G
-  pushed terms now bytes taken logged short takes (inl none) more = still (subst (λ o. Appends before after (logged_of o)) none.0 more) none.1
+      → IsNews old bytes taken logged new → Appends before after (logged_of logged)
+      → Grows end before after F G
+  pushed terms now bytes taken logged short takes (inl none) more =
+      still (subst (λ o. Appends before after (logged_of o)) none.0 more) none.1
   pushed terms now bytes taken logged short takes (inr read) more =
-      by (refused terms now (whole bundle bytes)) taken short takes (subst (λ o. Appends before after (logged_of o)) read.1.news more)
+      by (refused terms now (whole bundle bytes)) taken short takes
+      (subst (λ o. Appends before after (logged_of o)) read.1.news more)
     where
       b : BundleFields
       b = read.0
@@ -275,7 +306,8 @@ module _ (end : Result Served Fault) (before after : Option (List ℕ)) (old new
           → Appends before after (logged_of (kept_of (lifted t) (news_record F b)))
           → Grows end before after F G
       sent t short takes more =
-          taken_in b read.1.fits read.1.readable t short more (subst (λ o. TakesIn F (next_in (place_in old)) o t G) whole_is takes.takes)
+          taken_in b read.1.fits read.1.readable t short more
+          (subst (λ o. TakesIn F (next_in (place_in old)) o t G) whole_is takes.takes)
 
       by : (r : Option PushError) (t : Result ℕ PushError) → (t ≡ short_push → IsCalm end → ⊥)
           → PushesBy r old bytes t new
@@ -287,112 +319,10 @@ module _ (end : Result Served Fault) (before after : Option (List ℕ)) (old new
       by (Some why) (Err (push.Take OwnNumber)) short same more = still more same.1
       by (Some why) (Err (push.Take Conflict)) short same more = still more same.1
       by (Some why) (Err (push.Take Take.Memory)) short same more =
-          taken_in b read.1.fits read.1.readable (Err Take.Memory) short more (inl (ap (λ (r : RegionFields). r.facts) same))
+          taken_in b read.1.fits read.1.readable (Err Take.Memory) short more
+          (inl (ap (λ (r : RegionFields). r.facts) same))
       by (Some why) (Ok n) short same more = absurd same
       by None (Ok n) short takes more = sent (Ok n) short takes more
       by None (Err (push.Take error)) short takes more = sent (Err error) short takes more
       by None (Err push.HorizonAhead) short takes more = absurd takes
       by None (Err push.OutOfRange) short takes more = absurd takes
-
-not_short : (end : Result Served Fault) (taken : Result ℕ PushError) (reply : ReplyFields)
-    → IsTakenReply taken reply → taken ≡ short_push → IsCalm end → ⊥
-not_short end taken reply told is calm = subst (λ t. IsTakenReply t reply) is told
-
-module _ (before after : Option (List ℕ)) (old new : RegionFields) (asked : Asked) (logs : asked.log_taken ≡ true) (quiet : Type 0) (writer : Change) where
-  abbrev log : Change
-  log = record { before = before; after = after }
-
-  replied : (end : Result Served Fault) (sent : Option (List ℕ)) (came : Arrival) (result : Result StatusCode Fault)
-      → bundle_to_log true came ≡ sent → result ≢ Err Log → result ≢ Err Memory
-      → RepliesTo sent asked.terms asked.now asked.words came (record { before = old; after = new }) log quiet writer false result → Grows end before after old.facts new.facts
-  replied end None came (Ok status) is not_log not_memory h = answered end before after old new asked.terms asked.now asked.words came h.0 is h.1 h.2.1 h.4
-  replied end None came (Err Write) is not_log not_memory h = answered end before after old new asked.terms asked.now asked.words came h.0 is h.1 h.2.0 h.4
-  replied end None came (Err Read) is not_log not_memory h = absurd h
-  replied end None came (Err Log) is not_log not_memory h = absurd (not_log refl)
-  replied end None came (Err Memory) is not_log not_memory h = absurd (not_memory refl)
-  replied end (Some bytes) came (Ok status) is not_log not_memory h =
-      pushed end before after old new asked.terms asked.now bytes h.0 h.2 (not_short end h.0 h.4.2.0 h.4.2.1) h.1 h.3 h.4.0
-  replied end (Some bytes) came (Err Write) is not_log not_memory h =
-      pushed end before after old new asked.terms asked.now bytes h.0 h.2 (not_short end h.0 h.4.2.0 h.4.2.1) h.1 h.3 h.4.0
-  replied end (Some bytes) came (Err Read) is not_log not_memory h = absurd h.4.2
-  replied end (Some bytes) came (Err Log) is not_log not_memory h = absurd (not_log refl)
-  replied end (Some bytes) came (Err Memory) is not_log not_memory h = absurd (not_memory refl)
-
-  ran_out : (b : Bool) → b ≡ true
-      → RunsOut b asked (record { before = old; after = new }) log quiet writer false
-      → Grows (Err Memory) before after old.facts new.facts
-  ran_out false is h = absurd (cc)
-  ran_out true is (inl same) = still (Err Memory) before after old new (keeps_nothing before after same.1.0) same.0
-  ran_out true is (inr h) = pushed (Err Memory) before after old new asked.terms asked.now h.0 h.2.0 h.2.2 (λ e calm. calm) h.2.1 h.2.3 h.2.4.0
-
-  unsealed_log : (sent : Option (List ℕ)) (came : Arrival)
-      → RepliesTo sent asked.terms asked.now asked.words came (record { before = old; after = new }) log quiet writer false (Err Log) → ⊥
-  unsealed_log None came h = sealed_clash h.2.2
-  unsealed_log (Some bytes) came h = sealed_clash h.4.2
-
-  as_logged : (came : Arrival) (result : Result StatusCode Fault)
-      → RepliesTo (bundle_to_log asked.log_taken came) asked.terms asked.now asked.words came (record { before = old; after = new }) log quiet writer false result
-      → RepliesTo (bundle_to_log true came) asked.terms asked.now asked.words came (record { before = old; after = new }) log quiet writer false result
-  as_logged came result h =
-      subst (λ b. RepliesTo (bundle_to_log b came) asked.terms asked.now asked.words came (record { before = old; after = new }) log quiet writer false result) logs h
-
-  served : (result : Result Served Fault)
-      → IsServed asked (record { before = old; after = new }) log quiet writer false result
-      → Grows result before after old.facts new.facts
-  served (Ok (Done status)) h = replied (Ok (Done status)) (bundle_to_log true h.0) h.0 (Ok status) refl (ok_fault status Log) (ok_fault status Memory) (as_logged h.0 (Ok status) h.3)
-  served (Ok Nothing) h = still (Ok Nothing) before after old new (keeps_nothing before after h.1.1.0) h.1.0
-  served (Err Log) h = absurd (unsealed_log (bundle_to_log asked.log_taken h.0) h.0 h.3)
-  served (Err Write) h = replied (Err Write) (bundle_to_log true h.0) h.0 (Err Write) refl write_log write_memory (as_logged h.0 (Err Write) h.3)
-  served (Err Read) h = still (Err Read) before after old new (keeps_nothing before after h.1.0) h.0
-  served (Err Memory) h = ran_out asked.log_taken logs h
-
--- an edge that is sealed stays sealed
-decision_stays_by : (again : Option Repetition) (words : List ℕ) (old : EdgeFields) (end : Ending) (logged : List ℕ) (new : EdgeFields)
-    → IsDecisionBy again words true old end logged new
-    → old.sealed ≡ true → new.sealed ≡ true
-decision_stays_by None words old end logged new h e = ap (λ (x : EdgeFields). x.sealed) (h.3.shut e).0 ∙ e
-decision_stays_by (Some it) words old end logged new h e = ap (λ (x : EdgeFields). x.sealed) h.0 ∙ e
-
-decision_stays : (words : List ℕ) (old : EdgeFields) (end : Ending) (logged : List ℕ) (new : EdgeFields)
-    → IsDecision words true old end logged new → old.sealed ≡ true → new.sealed ≡ true
-decision_stays words old end logged new h e = decision_stays_by end.again words old end logged new h e
-
--- an edge that is sealed stays so through the decisions of a turn
-pub decisions_stay : (words : ChaCha) (old : EdgeFields) (ends : Endings) (records : List ℕ) (new : EdgeFields)
-    → AreDecisions words true old ends records new → old.sealed ≡ true → new.sealed ≡ true
-decisions_stay words old [] records new h e = ap (λ (x : EdgeFields). x.sealed) h.0 ∙ e
-decisions_stay words old (end ∷ ends) records new h e =
-    decisions_stay (past_six words) h.0 ends h.2 new h.5 (decision_stays (six words) old end h.1 h.0 h.3 e)
-
-turn_stays : (words : ChaCha) (old : Running) (ends : Endings) (new : Running)
-    → IsTurn words true old ends new → old.edge.sealed ≡ true → new.edge.sealed ≡ true
-turn_stays words old ends new h e = of h.log
-  where
-    of : IsKept old h.edge h.records h.told new ⊎ IsLost old h.edge h.records h.told new
-        → new.edge.sealed ≡ true
-    of (inl kept) = ap (λ (x : EdgeFields). x.sealed) kept.edge ∙ decisions_stay words old.edge ends h.records h.edge h.decided e
-    of (inr lost) = ap (λ (x : EdgeFields). x.sealed) lost.edge
-
--- an edge that is sealed stays so through turns
-pub turns_stay : (words : ChaCha) (old : Running) (turns : List Endings) (new : Running)
-    → AreTurns words true old turns new → old.edge.sealed ≡ true → new.edge.sealed ≡ true
-turns_stay words old [] new same e = ap (λ (r : Running). r.edge.sealed) same ∙ e
-turns_stay words old (ends ∷ turns) new h e =
-    turns_stay (past_each words ends) h.1 turns new h.4 (sealed_stays h.0 h.1 h.3 ∙ turn_stays words old ends h.0 h.2 e)
-
-decision_adds_by : (again : Option Repetition) (words : List ℕ) (old : EdgeFields) (end : Ending) (logged : List ℕ) (new : EdgeFields)
-    → IsDecisionBy again words true old end logged new
-    → old.sealed ≡ false → new.sealed ≡ false → Grows end.end (Some []) (Some logged) old.region.facts new.region.facts
-decision_adds_by (Some it) words old end logged new h open_old open_new =
-    still end.end (Some []) (Some logged) old.region new.region (keeps_nothing (Some []) (Some logged) h.1) (ap (λ (x : EdgeFields). x.region) h.0)
-decision_adds_by None words old end logged new h open_old open_new =
-    let asking : Asking = record { words = words; log_taken = true; reach = end.reach; now = end.now; bytes = h.0; over = h.1 } in
-    let asked : Asked = asked_by (asked_of asking old) h.0 [] in
-    served (Some []) (Some logged) old.region new.region asked refl (logged ≡ []) (gains h.2) end.end
-    (subst (λ b. IsServed asked (record { before = old.region; after = new.region }) (gains logged) (logged ≡ []) (gains h.2) b end.end) open_new (h.3.served open_old [] (λ _. refl)))
-
--- what a decision logs has what it added to the region
-pub decision_adds : (words : List ℕ) (old : EdgeFields) (end : Ending) (logged : List ℕ) (new : EdgeFields)
-    → IsDecision words true old end logged new
-    → old.sealed ≡ false → new.sealed ≡ false → Grows end.end (Some []) (Some logged) old.region.facts new.region.facts
-decision_adds words old end logged new h open_old open_new = decision_adds_by end.again words old end logged new h open_old open_new

@@ -36,7 +36,8 @@ use Rattle.tokend.specs.declared.load.LoadFault.{LoadFault}
 use Rattle.tokend.specs.declared.load.LoadFault.TheVariants as load
 use Rattle.tokend.proofs.TurnGrowth.{turns_grow}
 use Rattle.tokend.proofs.KeptSlots.{IsFrom, IsLeft}
-use Rattle.tokend.proofs.SliceLaws.{held_at, none_is_some, passing_kept}
+use Rattle.tokend.proofs.SliceLaws.{held_at, none_is_some}
+use Rattle.tk_ledger.proofs.SkipLaws.{passing_kept}
 use Rattle.tokend.proofs.LogBundles.{EachBelow, NoneLater, Parted, below_among, each_below}
 use Rattle.tokend.proofs.LogBundles.{each_from, each_more, later_among, no_end, one_list, parted}
 use Rattle.tokend.proofs.LogBundles.{taken_slots}
@@ -67,6 +68,7 @@ pruned_below (Some moment) (Some n) full start pruned d = of (pruned.facts.keeps
         (subst (λ o. SlotBelow (Some (Held may.fact)) o) (sym (pruned.facts.skips d may))
         (passing_kept d may.fact may.token may.kept))
 
+-- a mark isn't a fact that is held
 skipped_held : (b : Body) → Some Skipped ≡ Some (Held b) → ⊥
 skipped_held b e = absurd (cc)
 
@@ -99,15 +101,18 @@ first_below u s t b (inr below) none at = subst (λ o. SlotBelow o u) at below
 
 -- ---- what another region has that has loaded the bundles
 
+-- what is above a slot is known
 known_above : (s : Slot) (u : Option Slot) → SlotBelow (Some s) u → u ≡ None → ⊥
 known_above s None below none = below
 known_above s (Some t) below none = none_is_some t (sym none)
 
+-- what is above a mark is a mark
 skip_above : (u : Option Slot) → SlotBelow (Some Skipped) u → u ≡ Some Skipped
 skip_above None below = absurd below
 skip_above (Some (Held b)) below = absurd below
 skip_above (Some Skipped) below = refl
 
+-- what a region logged since its start is the bundles by which its store grew
 log_from : (olds : List BundleFields) (region : RegionFields) (log : List ℕ)
     (h : HasLogged olds region log)
     → Grew h.prunes h.turns [] log h.start.facts region.facts
@@ -225,16 +230,19 @@ taken_fit old (b ∷ more) new h =
       rest.2 ∙ h.1.1.number,
     )
 
+-- of bundles that fit one after another, each fits what those before it left
 fits_behind : (L : Slots) (xs : List BundleFields) (y : BundleFields) (ys : List BundleFields)
     → FitsEach L (xs ++ y ∷ ys) → AllFit (with_each L xs) y.items
 fits_behind L [] y ys h = h.0
 fits_behind L (x ∷ xs) y ys h = fits_behind (with_slots L x.items) xs y ys h.1
 
+-- if all bundles of a list are below the slots, one in the list is
 each_behind : (U : Slots) (xs : List BundleFields) (y : BundleFields) (ys : List BundleFields)
     → EachBelow U (xs ++ y ∷ ys) → AllBelow U y.items
 each_behind U [] y ys h = h.0
 each_behind U (x ∷ xs) y ys h = each_behind U xs y ys h.1
 
+-- numbers that differ fail the test for equal ones
 no_tie : (m n : ℕ) → (m ≡ n → ⊥) → (m == n) ≡ false
 no_tie m n differ = elim (m == n) as (λ t. (m == n) ≡ t → t ≡ false) [
   | true ↦ λ e. absurd (differ (grind (e, arith, nat_tests)))
@@ -252,6 +260,7 @@ none_unmade number next region (i ∷ more) fresh at all =
     (λ same. fresh i.0 (known_above i.1 (map.get region.facts.slots i.0) all.0) (same ∙ at))))
     ∙ none_unmade number next region more fresh at all.1
 
+-- the walk over a torn end runs out of bytes
 torn_is_cut : (rest : List ℕ) → IsTorn rest → IsCut rest
 torn_is_cut rest (inl none) = subst IsCut (sym none) refl
 torn_is_cut rest (inr cut) = cut

@@ -22,10 +22,13 @@ use Rattle.tk_store.proofs.SlotOrderLaws.{below_trans, join_right}
 use Rattle.tk_bundle.specs.BundleFields.{Items}
 use Rattle.tk_bundle.specs.News.{changes_slot, changes_slots, counts}
 use Rattle.tk_region.proofs.TakeLaws.{Avoids, Differs}
+use Rattle.tk_handle.proofs.TestLaws.{neither}
 
+-- the slot of a skipped dot
 abbrev skipped : Slot
 skipped = Skipped
 
+-- slots with an item joined to them
 abbrev joined : Slots → Dot × Slot → Slots
 joined S i = map.insert S i.0 (joined_slot (map.get S i.0) i.1)
 
@@ -35,6 +38,7 @@ joined S i = map.insert S i.0 (joined_slot (map.get S i.0) i.1)
 abbrev pub IsFrom : Option Slot → Option Slot → Option Slot → Type 0
 IsFrom u s t = (t ≡ s) ⊎ SlotBelow t u
 
+-- a slot with one below U joined to it is as it was, or is below what U knows
 joined_from : (u o : Option Slot) (s : Slot) → SlotBelow (Some s) u
     → IsFrom u o (Some (joined_slot o s))
 joined_from u None s below = inr below
@@ -56,14 +60,17 @@ IsKnown u s = (s ≡ None → ⊥) ⊎ (u ≡ None → ⊥)
 abbrev pub IsLeft : Bool → Option Slot → Option Slot → Option Slot → Type 0
 IsLeft prunes u s t = IsFrom u s t ⊎ ((prunes ≡ true) × (t ≡ Some skipped) × IsKnown u s)
 
+-- a slot that is there isn't missing
 some_not_none : (s : Slot) → Some s ≡ None → ⊥
 some_not_none s e = cc
 
+-- what is above a known slot is known
 below_known : (s u : Option Slot) → SlotBelow s u → (s ≡ None → ⊥) → u ≡ None → ⊥
 below_known None u below some none = some refl
 below_known (Some x) None below some none = below
 below_known (Some x) (Some y) below some none = some_not_none y none
 
+-- if a dot is known after a change, or to U, it was known before, or to U
 known_before : (prunes : Bool) (u r s : Option Slot) → IsLeft prunes u r s → IsKnown u s
     → IsKnown u r
 known_before prunes u r s h (inr some) = inr some
@@ -83,21 +90,25 @@ left_twice prunes u r s t h (inr gone) = inr (gone.0, gone.1, known_before prune
 abbrev pub SkipsStay : Slots → Slots → Type 0
 SkipsStay B S = (d : Dot) → map.get B d ≡ Some skipped → map.get S d ≡ Some skipped
 
+-- a mark stays a mark with any slot joined to it
 joined_stays : (o : Option Slot) (s : Slot) → o ≡ Some skipped
     → Some (joined_slot o s) ≡ Some skipped
 joined_stays o s e = ap (λ p. Some (joined_slot p s)) e
 
+-- what B skipped stays skipped in S with an item joined
 stays_joined : (B S : Slots) (i : Dot × Slot) → SkipsStay B S → SkipsStay B (joined S i)
 stays_joined B S i stays d at =
     by_dot (λ o. o ≡ Some skipped) S i.0 (joined_slot (map.get S i.0) i.1) d
     (λ same. joined_stays (map.get S i.0) i.1 (stays i.0 (ap (map.get B) (sym same) ∙ at)))
     (stays d at)
 
+-- what tests as skipped is a mark
 is_mark_of : (o : Option Slot) → is_skipped_slot o ≡ true → o ≡ Some skipped
 is_mark_of None e = absurd (cc)
 is_mark_of (Some (Held b)) e = absurd (cc)
 is_mark_of (Some Skipped) e = refl
 
+-- an item that is dropped is at a skipped dot
 dropped_is : (B : Slots) (i : Dot × Slot) → counts B i ≡ false → map.get B i.0 ≡ Some skipped
 dropped_is B (d, Held b) e = is_mark_of (map.get B d) (of (is_skipped B d) e)
   where
@@ -167,6 +178,7 @@ below_first U p (suc k) (i ∷ more) all = by (λ a. below_first U p k more a) (
 
 -- ---- items that change nothing
 
+-- joining a slot that changes nothing leaves what is known of its dot
 unchanged_slot : (o : Option Slot) (s : Slot) → changes_slot o s ≡ false
     → Some (joined_slot o s) ≡ o
 unchanged_slot None s e = absurd (cc)
@@ -174,11 +186,7 @@ unchanged_slot (Some Skipped) s e = refl
 unchanged_slot (Some (Held b)) (Held c) e = refl
 unchanged_slot (Some (Held b)) Skipped e = absurd (cc)
 
--- if neither of two holds, each doesn't
-pub neither : (a b : Bool) → (a || b) ≡ false → (a ≡ false) × (b ≡ false)
-neither true b e = absurd (cc)
-neither false b e = (refl, e)
-
+-- items that change nothing in S leave each slot of T as in S, if T was equal to S
 same_items : (S T : Slots) (items : Items) → ((d : Dot) → map.get T d ≡ map.get S d)
     → changes_slots S items ≡ false → (d : Dot)
     → map.get (with_slots T items) d ≡ map.get S d
@@ -207,6 +215,7 @@ first_unchanged S (suc k) (i ∷ more) e =
 
 -- ---- what is below
 
+-- a fact that is held isn't a mark
 not_held : (b : Body) → (true ≡ true → Held b ≡ skipped) → ⊥
 not_held b h = no (h refl)
   where
@@ -227,6 +236,7 @@ fit_lower (Some Skipped) (Some (Held c)) x below agrees drop = absurd below
 fit_lower (Some Skipped) (Some Skipped) (Held y) below agrees drop = absurd (not_held y drop)
 fit_lower (Some Skipped) (Some Skipped) Skipped below agrees drop = tt
 
+-- an item at a skipped dot that isn't dropped is a mark
 kept_drop : (S : Slots) (i : Dot × Slot) → counts S i ≡ true
     → is_skipped_slot (map.get S i.0) ≡ true → i.1 ≡ skipped
 kept_drop S (d, Held b) e mark = absurd (of (is_skipped S d) e mark)
@@ -248,6 +258,7 @@ fits_lower L S (i ∷ more) below fit = by (fits_lower L S more below fit.1) (co
         (fit_lower (map.get L i.0) (map.get S i.0) i.1 (below i.0) fit.0 (kept_drop S i e), after)
     by after false e = after
 
+-- what is below stays below if a slot that agrees is joined to both
 both_joined : (l s : Option Slot) (x : Slot) → SlotBelow l s → SlotAgrees s (Some x)
     → SlotBelow (Some (joined_slot l x)) (Some (joined_slot s x))
 both_joined None None (Held y) below agrees = refl
@@ -265,6 +276,7 @@ both_joined (Some Skipped) None x below agrees = absurd below
 both_joined (Some Skipped) (Some (Held c)) x below agrees = absurd below
 both_joined (Some Skipped) (Some Skipped) x below agrees = tt
 
+-- what is below stays below if a slot that agrees is joined to the upper one
 one_joined : (l s : Option Slot) (x : Slot) → SlotBelow l s → SlotAgrees s (Some x)
     → SlotBelow l (Some (joined_slot s x))
 one_joined None s x below agrees = tt

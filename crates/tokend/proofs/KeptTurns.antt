@@ -29,8 +29,9 @@ use Rattle.tokend.proofs.TurnGrowth.{sealed_stays, turn_prunes, turns_grow}
 use Rattle.tokend.proofs.KeptSlots.{IsLeft, below_more, left_twice}
 use Rattle.tokend.proofs.SliceLaws.{Leaves, slice_above, slice_leaves}
 use Rattle.tokend.proofs.LogBundles.{EachBelow, NoneLater, each_more}
-use Rattle.tokend.proofs.KeptConnections.{decisions_stay, turns_stay, decision_adds}
+use Rattle.tokend.proofs.KeptDecisions.{decisions_stay, turns_stay, decision_adds}
 use Rattle.tokend.proofs.LogGains.{IsSame, Brings, Grows, sealed_clash, same_late}
+use Rattle.tokend.proofs.LogBundles.{both_bundles as bundles_both}
 
 -- each bundle fits what the bundles before it left
 abbrev pub FitsEach : Slots → List BundleFields → Type 0
@@ -53,6 +54,7 @@ pub record Through (prunes : Bool) (ends : Endings) (F G : StoreFields)
       → FitsEach L bundles × SlotsBelow (with_each L bundles) G.slots
   pub known : AreCalm ends → EachBelow G.slots bundles
 
+-- a store that is unchanged grew by no bundles
 same_through : (prunes : Bool) (F G : StoreFields) → G ≡ F → Through prunes [] F G []
 same_through prunes F G is = record {
   fit = tt;
@@ -62,11 +64,13 @@ same_through prunes F G is = record {
   known = λ calm. tt;
 }
 
+-- slots below a store are below one that is the same
 below_same : (L : Slots) (F G : StoreFields) → IsSame F G → SlotsBelow L F.slots
     → SlotsBelow L G.slots
 below_same L F G same below d =
     subst (λ o. SlotBelow (map.get L d) o) (sym (same.slots d)) (below d)
 
+-- a horizon that grew twice, each time up to u at most, grew up to u at most
 late_twice : (f m g u : ℕ) → g ≤ max m u → m ≤ max f u → g ≤ max f u
 late_twice f m g u h k = omega (arith, h, k)
 
@@ -102,6 +106,7 @@ after_bundle prunes end ends F M G b bundles brings rest grown = record {
       λ calm. (below_more M.slots G.slots b.items grown (brings.known calm.0), rest.known calm.1);
 }
 
+-- logs that are equal have equal bytes
 one_log : (l m : List ℕ) → Some l ≡ Some m → l ≡ m
 one_log l m e = cc
 
@@ -110,6 +115,7 @@ abbrev Logs : Bool → Endings → List ℕ → StoreFields → StoreFields → 
 Logs prunes ends records F G =
     (bundles : List BundleFields) × (records ≡ log_bytes bundles) × Through prunes ends F G bundles
 
+-- a request's record, and those of the requests behind it, show how the store grew
 more_logged : (prunes : Bool) (end : Ending) (ends : Endings) (first rest : List ℕ)
     (F M G : StoreFields)
     → Grows end.end (Some []) (Some first) F M → SlotsBelow M.slots G.slots
@@ -122,6 +128,7 @@ more_logged prunes end ends first rest F M G (inr h) grown more = (
   after_bundle prunes end ends F M G h.0 more.0 h.2 more.2 grown,
 )
 
+-- the records of decisions show how the store of their region grew
 decisions_logged : (prunes : Bool) (words : ChaCha) (old : EdgeFields) (ends : Endings)
     (records : List ℕ) (new : EdgeFields)
     → AreDecisions words true old ends records new
@@ -146,30 +153,32 @@ decisions_logged prunes words old (end ∷ ends) records new h open_old open_new
           (decisions_logged prunes (past_six words) h.0 ends h.2 new h.5 e open_new))
     ] refl
 
+-- if no connection of two lists ran out of memory, no connection of the first did
 calm_first : (xs ys : Endings) → AreCalm (xs ++ ys) → AreCalm xs
 calm_first [] ys h = tt
 calm_first (x ∷ xs) ys h = (h.0, calm_first xs ys h.1)
 
+-- if no connection of two lists ran out of memory, no connection of the second did
 calm_rest : (xs ys : Endings) → AreCalm (xs ++ ys) → AreCalm ys
 calm_rest [] ys h = h
 calm_rest (x ∷ xs) ys h = calm_rest xs ys h.1
 
-bundles_both : (xs ys : List BundleFields) → AreBundles xs → AreBundles ys → AreBundles (xs ++ ys)
-bundles_both [] ys h k = k
-bundles_both (x ∷ xs) ys h k = (h.0, bundles_both xs ys h.1 k)
-
+-- if all bundles of two lists are below the slots, those of the first are
 each_first : (U : Slots) (xs ys : List BundleFields) → EachBelow U (xs ++ ys) → EachBelow U xs
 each_first U [] ys h = tt
 each_first U (x ∷ xs) ys h = (h.0, each_first U xs ys h.1)
 
+-- if all bundles of two lists are below the slots, those of the second are
 each_rest : (U : Slots) (xs ys : List BundleFields) → EachBelow U (xs ++ ys) → EachBelow U ys
 each_rest U [] ys h = h
 each_rest U (x ∷ xs) ys h = each_rest U xs ys h.1
 
+-- if no bundle of two lists is later, none of the first is
 late_first : (u : ℕ) (xs ys : List BundleFields) → NoneLater (xs ++ ys) u → NoneLater xs u
 late_first u [] ys h = tt
 late_first u (x ∷ xs) ys h = (h.0, late_first u xs ys h.1)
 
+-- if no bundle of two lists is later, none of the second is
 late_rest : (u : ℕ) (xs ys : List BundleFields) → NoneLater (xs ++ ys) u → NoneLater ys u
 late_rest u [] ys h = h
 late_rest u (x ∷ xs) ys h = late_rest u xs ys h.1
@@ -180,6 +189,7 @@ pub each_both : (U : Slots) (xs ys : List BundleFields) → EachBelow U xs → E
 each_both U [] ys h k = k
 each_both U (x ∷ xs) ys h k = (h.0, each_both U xs ys h.1 k)
 
+-- the bundles of two lists together are joined as the first list and then the second
 with_both : (L : Slots) (xs ys : List BundleFields)
     → with_each L (xs ++ ys) ≡ with_each (with_each L xs) ys
 with_both L [] ys = refl
@@ -191,6 +201,7 @@ pub fits_both : (L : Slots) (xs ys : List BundleFields) → FitsEach L xs
 fits_both L [] ys h k = k
 fits_both L (x ∷ xs) ys h k = (h.0, fits_both (with_slots L x.items) xs ys h.1 k)
 
+-- the bytes of two lists of bundles, one behind the other, are those of both together
 log_both : (xs ys : List BundleFields) → log_bytes xs ++ log_bytes ys ≡ log_bytes (xs ++ ys)
 log_both [] ys = refl
 log_both (x ∷ xs) ys = append_assoc (bundle_bytes x) (log_bytes xs) (log_bytes ys)

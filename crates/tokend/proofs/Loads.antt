@@ -31,11 +31,13 @@ use Rattle.tokend.specs.declared.load.LoadFault.TheVariants.{Malformed, Refused,
 pub front_none : (region : RegionFields) (log : List ℕ) → TakesFront region log log region
 front_none region log = record { bundles = []; fit = tt; parts = refl; each = refl }
 
+-- bundles that fit, with one more that fits behind them, all fit
 bundles_more : (bundles : List BundleFields) (b : BundleFields) → AreBundles bundles → bundle.Fits b
     → AreBundles (bundles ++ b ∷ [])
 bundles_more [] b all fits = (fits, tt)
 bundles_more (a ∷ more) b all fits = (all.0, bundles_more more b all.1 fits)
 
+-- one more bundle is taken in behind bundles that were taken in
 each_more : (old mid new : RegionFields) (bundles : List BundleFields) (b : BundleFields)
     → TakesEach old bundles mid → ((n : ℕ) × TakesAs mid b (Ok n) new)
     → TakesEach old (bundles ++ b ∷ []) new

@@ -41,6 +41,7 @@ both_bundles (x ∷ xs) ys a b = (a.0, both_bundles xs ys a.1 b)
 pub both_bytes : (xs ys : List BundleFields) → log_bytes (xs ++ ys) ≡ log_bytes xs ++ log_bytes ys
 both_bytes xs ys = flat_map-append bundle_bytes xs ys
 
+-- a walk that succeeded didn't run out of bytes
 not_cut : (more : List ℕ) → Ok more ≡ Err front.Cut → ⊥
 not_cut more e = cc
 
@@ -117,15 +118,19 @@ pub taken_slots : (P Q : StoreFields) (horizon : Option ℕ) (items : Items)
 taken_slots P Q None items is = ap (λ (R : StoreFields). R.slots) is
 taken_slots P Q (Some moment) items is = ap (λ (R : StoreFields). R.slots) is
 
+-- the later of two moments isn't before the second
 at_least : (m n : ℕ) → m ≤ max n m
 at_least m n = omega (arith)
 
+-- the later of two moments isn't before the first
 no_earlier : (m n : ℕ) → n ≤ max n m
 no_earlier m n = omega (arith)
 
+-- with a second moment that is later, the later of two is no earlier
 no_later : (m n k : ℕ) → m ≤ k → max n m ≤ max n k
 no_later m n k h = omega (arith, h)
 
+-- the later of two moments isn't before the first, whatever the second
 itself : (n k : ℕ) → n ≤ max n k
 itself n k = omega (arith)
 
@@ -220,6 +225,7 @@ pub below_among : (U : Slots) (xs all : List BundleFields) → AreAmong xs all �
 below_among U [] all h each = tt
 below_among U (x ∷ xs) all h each = (below_in U x all h.0 each, below_among U xs all h.1 each)
 
+-- if no bundle of a list is later than a horizon, a bundle in the list isn't
 later_in : (horizon : ℕ) (b : BundleFields) (all : List BundleFields) → IsIn b all
     → NoneLater all horizon → IsNotLater b.horizon horizon
 later_in horizon b [] h late = absurd h

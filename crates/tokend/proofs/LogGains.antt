@@ -92,6 +92,7 @@ no_earlier h m e = grind (arith, nat_tests)
 abbrev pub short_push : Result ℕ PushError
 short_push = Err (push.Take Take.Memory)
 
+-- the later of two moments isn't before the first
 itself : (n u : ℕ) → n ≤ max n u
 itself n u = omega (arith)
 

@@ -30,19 +30,10 @@ use Rattle.tokend.specs.Repeats.{IsIn, MayRepeat, RepeatsFields, Repetition, for
 use Rattle.tokend.specs.Repeats.{is_repeat, most_kept, with_granted, with_room}
 use Rattle.tokend.specs.Turns.{AreAmong, AreRepeated, AreRepeats, Endings, all_granted}
 use Rattle.tokend.specs.declared.repeats.Refreshed.{Refreshed}
+use Rattle.tk_handle.proofs.TestLaws.{and_first}
+use Rattle.tk_handle.proofs.TestLaws.{and_second}
 
 -- ---- tests
-
-and_first : (a b : Bool) → (a && b) ≡ true → a ≡ true
-and_first true b h = refl
-and_first false b h = h
-
-and_second : (a b : Bool) → (a && b) ≡ true → b ≡ true
-and_second true b h = h
-and_second false b h = absurd (wrong h)
-  where
-    wrong : false ≡ true → ⊥
-    wrong e = cc
 
 -- a refresh that is repeated was granted a short time ago
 pub recent_by : (seconds now : ℕ) (parent : Dot) (request : RequestFields) (it : Refreshed)
@@ -72,9 +63,11 @@ closes_taken keeps taken outcome is off = ap goes_on is ∙ ap (λ b. b && taken
 
 -- ---- what was granted
 
+-- a test that fails doesn't hold
 wrong_status : false ≡ true → ⊥
 wrong_status e = cc
 
+-- a status that passes the test for 200 is 200
 ok_status : (status : StatusCode) → is_ok status ≡ true → status ≡ code.Ok
 ok_status code.Ok h = refl
 ok_status code.Created h = absurd (wrong_status h)
@@ -95,27 +88,32 @@ granted_done (Done status) h = ap (λ (s : StatusCode). Done s) (ok_status statu
 
 -- ---- lists of refreshes
 
+-- refreshes among others stay so with a granted one added to both
 among_more : (o : Option Refreshed) (k l : List Refreshed) → AreAmong k l
     → AreAmong (with_granted o k) (with_granted o l)
 among_more None k l h it is = h it is
 among_more (Some x) k l h it (inl same) = inl same
 among_more (Some x) k l h it (inr rest) = inr (h it rest)
 
+-- refreshes among others stay so with all that connections were granted added to both
 granted_more : (k l : List Refreshed) (ends : Endings) → AreAmong k l
     → AreAmong (all_granted k ends) (all_granted l ends)
 granted_more k l [] h = h
 granted_more k l (e ∷ es) h = granted_more (with_granted e.granted k) (with_granted e.granted l) es
     (among_more e.granted k l h)
 
+-- what two lists of connections were granted is added in their order
 granted_both : (k : List Refreshed) (xs ys : Endings)
     → all_granted k (xs ++ ys) ≡ all_granted (all_granted k xs) ys
 granted_both k [] ys = refl
 granted_both k (x ∷ xs) ys = granted_both (with_granted x.granted k) xs ys
 
+-- a refresh in a list without its first is in the list
 in_drop : (x : Refreshed) (k : List Refreshed) → IsIn x (drop 1 k) → IsIn x k
 in_drop x [] is = is
 in_drop x (y ∷ ys) is = inr is
 
+-- a refresh that is left when room is made was there before
 in_room : (x : Refreshed) (k : List Refreshed) → IsIn x (with_room k) → IsIn x k
 in_room x k is = elim (cases_Bool (nat_lt (length k) most_kept)) [
   | inl few ↦ subst (IsIn x) (cond-true (nat_lt (length k) most_kept) k (drop 1 k) few) is
@@ -123,6 +121,7 @@ in_room x k is = elim (cases_Bool (nat_lt (length k) most_kept)) [
       in_drop x k (subst (IsIn x) (cond-false (nat_lt (length k) most_kept) k (drop 1 k) many) is)
 ]
 
+-- a refresh in a list with one more at its end is in it with that one in front
 in_behind : (x it : Refreshed) (k : List Refreshed) → IsIn x (k ++ it ∷ []) → IsIn x (it ∷ k)
 in_behind x it [] is = is
 in_behind x it (y ∷ ys) (inl same) = inr (inl same)
@@ -132,13 +131,16 @@ in_behind x it (y ∷ ys) (inr rest) = swapped (in_behind x it ys rest)
     swapped (inl same) = inl same
     swapped (inr more) = inr (inr more)
 
+-- a refresh that is kept once room is made for a new one was kept before, or is the new one
 in_kept : (x it : Refreshed) (k : List Refreshed) → IsIn x (it ∷ with_room k) → IsIn x (it ∷ k)
 in_kept x it k (inl same) = inl same
 in_kept x it k (inr rest) = inr (in_room x k rest)
 
+-- a refresh that is there isn't missing
 none_some : (it : Refreshed) → None ≡ Some it → ⊥
 none_some it e = cc
 
+-- refreshes that are equal as options are equal
 same_some : (x it : Refreshed) → Some x ≡ Some it → x ≡ it
 same_some x it e = cc
 
@@ -193,11 +195,13 @@ forgotten_empty seconds now (y ∷ ys) none = absurd (omega (arith, none))
 
 -- ---- requests
 
+-- what may be repeated of some refreshes may be of more
 may_more : (seconds : ℕ) (k l : List Refreshed) (o : Option Repetition) → AreAmong k l
     → MayRepeat seconds k o → MayRepeat seconds l o
 may_more seconds k l None h m = m
 may_more seconds k l (Some it) h m = (m.0, h it.refreshed m.1, m.2)
 
+-- requests that repeat some refreshes repeat some of more
 repeats_more : (seconds : ℕ) (k l : List Refreshed) (ends : Endings) → AreAmong k l
     → AreRepeats seconds k ends → AreRepeats seconds l ends
 repeats_more seconds k l [] h r = r
@@ -207,6 +211,7 @@ repeats_more seconds k l (e ∷ es) h r = (
       (among_more e.granted k l h) r.1,
 )
 
+-- two lists of requests that repeat what may be repeated do so one behind the other
 repeats_both : (seconds : ℕ) (k m : List Refreshed) (xs ys : Endings)
     → AreAmong m (all_granted k xs) → AreRepeats seconds k xs → AreRepeats seconds m ys
     → AreRepeats seconds k (xs ++ ys)

@@ -40,7 +40,7 @@ use Rattle.tokend.specs.declared.fault.Fault.TheVariants.{BadLine, BadLogFile, B
 use Rattle.tokend.specs.declared.fault.Fault.TheVariants.{CannotListen, CannotOpen, CannotRead}
 use Rattle.tokend.specs.declared.fault.Fault.TheVariants.{CannotReadFile, Facts, Memory, Output}
 use Rattle.tokend.specs.declared.fault.Fault.TheVariants.{PruneAhead, ScriptTooLong, SharedFolder}
-use Rattle.tokend.specs.declared.fault.Fault.TheVariants.{SocketFailed, SocketInUse, Words}
+use Rattle.tokend.specs.declared.fault.Fault.TheVariants.{SocketFailed, SocketInUse, Arguments}
 use Rattle.tokend.specs.declared.fault.FactsFault.TheVariants as facts
 
 -- the run of a script that was read, if the input's bytes are known
@@ -90,7 +90,7 @@ read_fault longest input script (Err fault) short whole h = of fault h
     of : (fault : Fault) → IsFaultOf longest script fault → IsReadFault longest input fault
     of Memory h = tt
     of (BadLine number) h = first number h input whole
-    of (Words error) h = absurd h
+    of (Arguments error) h = absurd h
     of CannotRead h = absurd h
     of (CannotReadFile name) h = absurd h
     of (CannotOpen name) h = absurd h
@@ -108,20 +108,20 @@ read_fault longest input script (Err fault) short whole h = of fault h
 -- the faults of a task are those of the program
 task_fault : (words : List Text) (input : Option (List ℕ)) (fault : Fault)
     → FailsToServe words fault ⊎ FailsToRun words input fault → IsFaultFor words input fault
-task_fault words input (Words error) h = absurd (none h)
+task_fault words input (Arguments error) h = absurd (none h)
   where
-    none : FailsToServe words (Words error) ⊎ FailsToRun words input (Words error) → ⊥
+    none : FailsToServe words (Arguments error) ⊎ FailsToRun words input (Arguments error) → ⊥
     none (inl serves) = serves.2
     none (inr (inl runs)) = by runs.2
       where
-        by : IsScriptFault (in_world runs.0) input (Words error) → ⊥
+        by : IsScriptFault (in_world runs.0) input (Arguments error) → ⊥
         by (inl h) = h
         by (inr (inl e)) = absurd (cc)
         by (inr (inr e)) = absurd (cc)
     none (inr (inr (inr tells))) = tells.1
     none (inr (inr (inl runs))) = by runs.2
       where
-        by : IsScriptFault (by_loopback runs.0) input (Words error) → ⊥
+        by : IsScriptFault (by_loopback runs.0) input (Arguments error) → ⊥
         by (inl h) = h
         by (inr (inl h)) = h
         by (inr (inr e)) = absurd (cc)
@@ -153,7 +153,7 @@ faults_of_task words input P (Err fault) f h = task_fault words input fault (f f
 pub begun_less : (A B : Type 0) (fault : Fault) (old new : Option (List ℕ)) → (A → B)
     → LeavesBegun A fault old new → LeavesBegun B fault old new
 begun_less A B Output old new f h = f h
-begun_less A B (Words error) old new f h = h
+begun_less A B (Arguments error) old new f h = h
 begun_less A B CannotRead old new f h = h
 begun_less A B (CannotReadFile name) old new f h = h
 begun_less A B (CannotOpen name) old new f h = h
@@ -241,7 +241,7 @@ module _ {L : Type 0} (kept : List ℕ → Option (List ℕ)) (holds : L → Opt
 
 -- the status of a fault isn't 0
 no_status : (fault : Fault) → status_of fault ≡ 0 → ⊥
-no_status (Words error) e = absurd (cc)
+no_status (Arguments error) e = absurd (cc)
 no_status CannotRead e = absurd (cc)
 no_status (CannotReadFile name) e = absurd (cc)
 no_status (CannotOpen name) e = absurd (cc)

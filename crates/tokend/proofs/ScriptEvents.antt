@@ -1,4 +1,9 @@
 -- The events of a script's lines, as the lists of lines and of events grow, and its first bad line.
+-- Key results:
+--   told_line    a line that isn't empty and doesn't begin with # is an event's
+--   all_lines    the items of a script are its lines, numbered
+--   grown_told   the events of the items so far, with one more item that is an event
+--   first_bad    the line after those that have their events is the first bad one, if it is bad
 use Rattle.std.proofs.Common.{◌≡◌, ◌≢◌, ℕ, ◌+◌, ◌<◌, true, cond, List, [], ◌∷◌, ◌++◌, length}
 use Rattle.std.proofs.Common.{get_or, map, take, drop, Option, Bor, refl, sym, ap, subst, ◌∙◌}
 use Rattle.std.proofs.Common.{arith}
@@ -14,6 +19,7 @@ use Rattle.tokend.specs.Script.{lines_of, is_told, AreEvents, IsBadLine, IsFirst
 
 -- ---- one more line
 
+-- two lists that are related one by one stay so with a related element added to each
 all_zip_pushed : {A B : Type 0} (R : A → B → Type 0) (xs : List A) (ys : List B) (x : A) (y : B)
     → AllZip R xs ys → R x y → AllZip R (xs ++ x ∷ []) (ys ++ y ∷ [])
 all_zip_pushed R [] [] x y all one = (one, tt)
@@ -45,16 +51,20 @@ told_line (b ∷ rest) long other = grind (arith, nat_tests)
 abbrev pub Item : Type 0
 Item = ℕ × Bor (List ℕ)
 
+-- the index of a line, and its bytes
 abbrev pub numbered : Item → ℕ × List ℕ
 numbered item = (item.0, item.1.now)
 
+-- the bytes of each line
 abbrev pub lines_in : List Item → List (List ℕ)
 lines_in items = map (λ item. item.1.now) items
 
+-- numbered lines without their numbers are the lines
 unnumbered : (n : ℕ) (ls : List (List ℕ)) → map (λ p. p.1) (enumerate_from n ls) ≡ ls
 unnumbered n [] = refl
 unnumbered n (l ∷ ls) = ap (λ t. l ∷ t) (unnumbered (n + 1) ls)
 
+-- items without their numbers are the lines in them
 both_maps : (items : List Item) → map (λ p. p.1) (map numbered items) ≡ lines_in items
 both_maps [] = refl
 both_maps (i ∷ items) = ap (λ t. i.1.now ∷ t) (both_maps items)
@@ -65,6 +75,7 @@ pub all_lines : (ls : List (List ℕ)) (items : List Item) → map numbered item
 all_lines ls items all =
     sym (both_maps items) ∙ ap (map (λ (p : ℕ × List ℕ). p.1)) all ∙ unnumbered 0 ls
 
+-- items that are the first lines of a script, numbered, have these lines
 first_lines : (ls : List (List ℕ)) (items : List Item) (n : ℕ)
     → map numbered items ≡ take n (enumerate_from 0 ls) → lines_in items ≡ take n ls
 first_lines ls items n some =
@@ -72,6 +83,7 @@ first_lines ls items n some =
     ∙ sym (take-map (λ (p : ℕ × List ℕ). p.1) n (enumerate_from 0 ls))
     ∙ ap (take n) (unnumbered 0 ls)
 
+-- the lines before an index, the line there, and those behind it are all lines
 cut_at : (ls : List (List ℕ)) (i : ℕ) (d : List ℕ) → i < length ls
     → take i ls ++ get_or ls i d ∷ drop (i + 1) ls ≡ ls
 cut_at ls i d lt = grind (arith, common_steps)

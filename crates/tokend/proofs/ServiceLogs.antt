@@ -33,6 +33,7 @@ abbrev Brought : {A : Type 0} → (List ℕ → Option (List ℕ)) → Option (S
 Brought kept name old new =
     (olds : List BundleFields) × AreBundles olds × TakesEach old olds new × AreOld kept name olds
 
+-- a load that succeeds doesn't fail
 ok_err : (n : ℕ) (f : Fault) → Ok n ≡ Err f → ⊥
 ok_err n f e = absurd (cc)
 
@@ -41,6 +42,7 @@ abbrev Fronts : Option (List ℕ) → RegionFields → RegionFields → Type 0
 Fronts known old new = (olds : List BundleFields) × AreBundles olds × TakesEach old olds new
     × IfSome known (λ bytes. AreLogged bytes olds)
 
+-- a file that was loaded brought the bundles in its bytes
 from_file : (known : Option (List ℕ)) (name : List ℕ) (old new : RegionFields) (dropped : ℕ)
     → LoadsFile known name old (Ok dropped) new → Fronts known old new
 from_file known name old new dropped (inl h) = absurd h.0
@@ -70,6 +72,7 @@ from_file known name old new dropped (inr h) = of h.1 h.3 h.4
     of (Err load.Memory) loads told = absurd (ok_err dropped _ told)
     of (Err load.Read) loads told = absurd told
 
+-- an old log that was loaded, if one was named, brought its bundles
 from_old : {A : Type 0} (kept : List ℕ → Option (List ℕ)) (name : Option (String A))
     (old new : RegionFields) (dropped : ℕ)
     → LoadsOld kept name old (Ok dropped) new → Brought kept name old new
@@ -77,6 +80,7 @@ from_old kept None old new dropped h = ([], tt, h.1, refl)
 from_old kept (Some name) old new dropped h =
     from_file (kept (string_bytes name)) (string_bytes name) old new dropped h
 
+-- a decision, on a request or on one that repeats a refresh, leaves the terms
 decision_refuses : (again : Option Repetition) (words : List ℕ) (log_taken : Bool)
     (old : EdgeFields) (end : Ending) (logged : List ℕ) (new : EdgeFields)
     → IsDecisionBy again words log_taken old end logged new
@@ -85,6 +89,7 @@ decision_refuses None words log_taken old end logged new h = h.3.terms
 decision_refuses (Some it) words log_taken old end logged new h =
     ap (λ (e : EdgeFields). e.terms) h.0
 
+-- the decisions of a turn leave the terms
 decisions_refuse : (words : ChaCha) (log_taken : Bool) (old : EdgeFields) (ends : Endings)
     (records : List ℕ) (new : EdgeFields)
     → AreDecisions words log_taken old ends records new
@@ -94,6 +99,7 @@ decisions_refuse words log_taken old (end ∷ ends) records new h =
     decisions_refuse (past_six words) log_taken h.0 ends h.2 new h.5
     ∙ decision_refuses end.again (six words) log_taken old end h.1 h.0 h.3
 
+-- a turn leaves the terms
 turn_refuses : (words : ChaCha) (log_taken : Bool) (old : Running) (ends : Endings) (new : Running)
     → IsTurn words log_taken old ends new → new.edge.terms ≡ old.edge.terms
 turn_refuses words log_taken old ends new h =
@@ -104,6 +110,7 @@ turn_refuses words log_taken old ends new h =
     of (inl kept) = ap (λ (e : EdgeFields). e.terms) kept.edge
     of (inr lost) = ap (λ (e : EdgeFields). e.terms) lost.edge
 
+-- turns keep the terms, whatever happens between them
 refusing_stays : (words : ChaCha) (log_taken : Bool) (old : Running) (turns : List Endings)
     (new : Running)
     → AreTurns words log_taken old turns new
@@ -117,11 +124,13 @@ refusing_stays words log_taken old (ends ∷ turns) new h =
     (terms_stay h.0 h.1 h.3))
     (refusing_stays (past_each words ends) log_taken h.1 turns new h.4)
 
+-- an edge that isn't sealed, with given terms, is that of its region with these terms
 as_edge : (terms : TermsFields) (edge : EdgeFields) → edge.terms ≡ terms → edge.sealed ≡ false
     → edge ≡ edge_of terms edge.region
 as_edge terms edge ahead sealed =
     λ i. record { region = edge.region; terms = ahead i; sealed = sealed i }
 
+-- an empty log whose bytes are known has no bytes
 known_empty : (o : Option (List ℕ)) (bytes : List ℕ) → o ≡ Some bytes → IsEmptyLog o → o ≡ Some []
 known_empty None bytes is empty = absurd (cc)
 known_empty (Some xs) bytes is empty = ap (λ l. Some l) empty

@@ -26,12 +26,13 @@ use Rattle.tokend.specs.declared.fault.Fault.TheVariants.{BadLine, BadLogFile, B
 use Rattle.tokend.specs.declared.fault.Fault.TheVariants.{CannotListen, CannotOpen, CannotRead}
 use Rattle.tokend.specs.declared.fault.Fault.TheVariants.{CannotReadFile, Facts, Memory, Output}
 use Rattle.tokend.specs.declared.fault.Fault.TheVariants.{PruneAhead, ScriptTooLong, SharedFolder}
-use Rattle.tokend.specs.declared.fault.Fault.TheVariants.{SocketFailed, SocketInUse, Words}
+use Rattle.tokend.specs.declared.fault.Fault.TheVariants.{SocketFailed, SocketInUse, Arguments}
 use Rattle.tokend.specs.Turns.{Course, ServesLogged, ServesWith, keeps_in}
 use Rattle.tokend.specs.declared.address.Addresses.{Addresses}
 use Rattle.tokend.specs.declared.listen.Opening.{Opening}
 use Rattle.tokend.specs.declared.options.Service.{Service}
 
+-- a fault of listening is one of starting a service
 listen_fault : (service : Service) (fault : Fault) → IsListenFault fault
     → IsStartFault service fault
 listen_fault service CannotListen h = tt
@@ -42,7 +43,7 @@ listen_fault service Output h = tt
 listen_fault service Memory h = tt
 listen_fault service (CannotOpen name) h = absurd h
 listen_fault service BadLogFile h = absurd h
-listen_fault service (Words error) h = absurd h
+listen_fault service (Arguments error) h = absurd h
 listen_fault service CannotRead h = absurd h
 listen_fault service SocketFailed h = absurd h
 listen_fault service (CannotReadFile name) h = absurd h
@@ -67,7 +68,7 @@ bind_fault Output h = absurd h
 bind_fault Memory h = absurd h
 bind_fault (CannotOpen name) h = absurd h
 bind_fault BadLogFile h = absurd h
-bind_fault (Words error) h = absurd h
+bind_fault (Arguments error) h = absurd h
 bind_fault CannotRead h = absurd h
 bind_fault SocketFailed h = absurd h
 bind_fault (CannotReadFile name) h = absurd h
@@ -87,7 +88,7 @@ bind_left opening at Output output h = absurd h
 bind_left opening at Memory output h = absurd h
 bind_left opening at (CannotOpen name) output h = absurd h
 bind_left opening at BadLogFile output h = absurd h
-bind_left opening at (Words error) output h = absurd h
+bind_left opening at (Arguments error) output h = absurd h
 bind_left opening at CannotRead output h = absurd h
 bind_left opening at SocketFailed output h = absurd h
 bind_left opening at (CannotReadFile name) output h = absurd h

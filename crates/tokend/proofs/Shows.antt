@@ -17,7 +17,7 @@ use Rattle.tokend.specs.Task.{misnames_word, missing_kind}
 use Rattle.tk_edge.specs.Told.{Change}
 use Rattle.tokend.specs.Telling.{Writer}
 use Rattle.tokend.specs.declared.fault.Fault.{Fault}
-use Rattle.tokend.specs.declared.fault.Fault.TheVariants.{Memory, Output, Words}
+use Rattle.tokend.specs.declared.fault.Fault.TheVariants.{Memory, Output, Arguments}
 
 -- why clap refused the arguments
 abbrev Ends : List Text → ErrorKind → Type 0
@@ -31,25 +31,28 @@ Shows kind = (kind ≡ DisplayHelp) ⊎ (kind ≡ DisplayVersion)
 abbrev Refuses : Error → Option (List ℕ) → Option (List ℕ) → Fault → Type 0
 Refuses error old new fault = ((fault ≡ Output) × Shows (kind_of error))
     ⊎ (((fault ≡ Memory)
-    ⊎ ((fault ≡ Words error) × (kind_of error ≢ OutOfMemory) × IsNoShow (kind_of error)))
+    ⊎ ((fault ≡ Arguments error) × (kind_of error ≢ OutOfMemory) × IsNoShow (kind_of error)))
     × Keeps old new)
 
 -- the kind of arguments that name no task is neither help nor the version
 abbrev IsMissing : ErrorKind → Type 0
 IsMissing k = (k ≡ MissingRequiredArgument) ⊎ ((k ≡ InvalidValue) ⊎ (k ≡ MissingSubcommand))
 
+-- arguments that name no task have one of three kinds of fault
 missing_else : (lacks misnames : Bool) (k : ErrorKind) → kind_missing lacks misnames ≡ k
     → IsMissing k
 missing_else true misnames k e = inl (sym e)
 missing_else false true k e = inr (inl (sym e))
 missing_else false false k e = inr (inr (sym e))
 
+-- a kind that isn't one of the three isn't that of arguments that name no task
 no_missing : (words : List Text) (k : ErrorKind) → (IsMissing k → ⊥)
     → missing_kind (subcommand_of tokend_app words) ≡ k → ⊥
 no_missing words k not_missing e = not_missing
     (missing_else (lacks_option (subcommand_of tokend_app words))
     (misnames_word (subcommand_of tokend_app words)) k e)
 
+-- the kind of a refusal is among the faults, unless memory ran out or no task is named
 among : (words : List Text) (kind k : ErrorKind) → Ends words kind → kind ≡ k
     → (k ≡ OutOfMemory → ⊥) → (IsMissing k → ⊥) → IsAmong k (fault_of tokend_app words)
 among words kind k (inl memory) e not_memory not_missing = absurd (not_memory (sym e ∙ memory))
@@ -58,6 +61,7 @@ among words kind k (inr (inl found)) e not_memory not_missing =
 among words kind k (inr (inr missing)) e not_memory not_missing =
     absurd (no_missing words k not_missing (sym missing.0 ∙ e))
 
+-- if clap's refusal is of the kind of help or the version, the arguments request one of them
 asks_to_show : (words : List Text) (kind : ErrorKind) → Ends words kind → Shows kind
     → AsksToShow words
 asks_to_show words kind ends (inl help) =
@@ -105,7 +109,7 @@ refused_fault words error (Err fault) input old new ends (inr h) = of ends h.0
   where
     of : Ends words (kind_of error)
         → (fault ≡ Memory)
-        ⊎ ((fault ≡ Words error) × (kind_of error ≢ OutOfMemory) × IsNoShow (kind_of error))
+        ⊎ ((fault ≡ Arguments error) × (kind_of error ≢ OutOfMemory) × IsNoShow (kind_of error))
         → IsFaultFor words input fault
     of ends (inl memory) = subst (IsFaultFor words input) (sym memory) tt
     of (inl memory) (inr told) = absurd (told.1 memory)
@@ -123,7 +127,7 @@ refused_left kept words error (Err fault) input old new ends (inl h) =
 refused_left kept words error (Err fault) input old new ends (inr h) = of h.0
   where
     of : (fault ≡ Memory)
-        ⊎ ((fault ≡ Words error) × (kind_of error ≢ OutOfMemory) × IsNoShow (kind_of error))
+        ⊎ ((fault ≡ Arguments error) × (kind_of error ≢ OutOfMemory) × IsNoShow (kind_of error))
         → Leaves kept words input fault old new
     of (inl memory) = subst (λ f. Leaves kept words input f old new) (sym memory) h.1
     of (inr told) = subst (λ f. Leaves kept words input f old new) (sym told.0) h.1

@@ -18,6 +18,8 @@ use Rattle.tk_store.proofs.SlotLaws.{get_held}
 use Rattle.tk_store.proofs.SlotOrderLaws.{below_itself, slots_itself, slots_trans}
 use Rattle.tk_ledger.specs.Slices.{Goes, PrunesSome, Steps}
 use Rattle.tk_ledger.specs.declared.slices.Slice.{Slice}
+use Rattle.tk_ledger.proofs.SkipLaws.{passing_kept}
+use Rattle.tk_ledger.proofs.SlicePassLaws.{names_passing as passing_named}
 
 -- a slot with a body holds it
 pub held_at : (o : Option Slot) (b : Body) → held_slot o ≡ Some b → o ≡ Some (Held b)
@@ -32,40 +34,11 @@ held_at (Some Skipped) b e = absurd (cc)
 pub none_is_some : (s : Slot) → None ≡ Some s → ⊥
 none_is_some s e = cc
 
--- a fact that is kept for a token is of a kind that passes
-pub passing_kept : (d : Dot) (b : Body) (k : TokenId) → kept_for d b ≡ Some k → is_passing b ≡ true
-passing_kept d (bodies.ClientAdded f) k e = absurd (cc)
-passing_kept d (bodies.ClientRetired f) k e = absurd (cc)
-passing_kept d (bodies.ConsentGiven f) k e = absurd (cc)
-passing_kept d (bodies.ConsentWithdrawn f) k e = absurd (cc)
-passing_kept d (bodies.CodeIssued f) k e = refl
-passing_kept d (bodies.CodeRedeemed f) k e = refl
-passing_kept d (bodies.RefreshRotated f) k e = refl
-passing_kept d (bodies.TokenRevoked f) k e = refl
-passing_kept d (bodies.ReuseSeen f) k e = refl
-passing_kept d (bodies.SubjectOut f) k e = absurd (cc)
-passing_kept d (bodies.AccessRefreshed f) k e = refl
-passing_kept d (bodies.SecretSet f) k e = absurd (cc)
-
--- a fact that names a dot may be skipped
-passing_named : (b : Body) (q : Dot) → names_of b ≡ Some q → is_passing b ≡ true
-passing_named (bodies.ClientAdded f) q e = absurd (cc)
-passing_named (bodies.ClientRetired f) q e = absurd (cc)
-passing_named (bodies.ConsentGiven f) q e = absurd (cc)
-passing_named (bodies.ConsentWithdrawn f) q e = absurd (cc)
-passing_named (bodies.CodeIssued f) q e = absurd (cc)
-passing_named (bodies.CodeRedeemed f) q e = refl
-passing_named (bodies.RefreshRotated f) q e = refl
-passing_named (bodies.TokenRevoked f) q e = refl
-passing_named (bodies.ReuseSeen f) q e = refl
-passing_named (bodies.SubjectOut f) q e = absurd (cc)
-passing_named (bodies.AccessRefreshed f) q e = refl
-passing_named (bodies.SecretSet f) q e = absurd (cc)
-
 -- a fact that may go is held, and is of a kind that may be skipped
 abbrev IsPassing : StoreFields → Dot → Type 0
 IsPassing P d = (b : Body) × (map.get P.slots d ≡ Some (Held b)) × (is_passing b ≡ true)
 
+-- a fact that goes is held, and is of a kind that may be skipped
 goes_passing : (P : StoreFields) (d : Dot) → Goes P d → IsPassing P d
 goes_passing P d (inl may) = (
   may.fact,
@@ -86,6 +59,7 @@ skipped_above P d passing q = by_dot (λ o. SlotBelow (map.get P.slots q) o) P.s
     passing.2)
     (below_itself (map.get P.slots q))
 
+-- a store knows after the steps of a slice what it knew before
 steps_above : (P : StoreFields) (ds : List Dot) (Q : StoreFields) → Steps P ds Q → StoreBelow P Q
 steps_above P [] Q same = subst (StoreBelow P) (sym same)
     (record { slots = slots_itself P.slots; horizon = omega (arith) })
@@ -109,6 +83,7 @@ slice_above P moment after count slice Q h =
 abbrev pub Leaves : Option Slot → Option Slot → Type 0
 Leaves s t = (t ≡ s) ⊎ ((t ≡ Some Skipped) × (s ≡ None → ⊥))
 
+-- the steps of a slice leave each slot, or a mark in its place
 steps_leave : (P : StoreFields) (ds : List Dot) (Q : StoreFields) → Steps P ds Q → (d : Dot)
     → Leaves (map.get P.slots d) (map.get Q.slots d)
 steps_leave P [] Q same d = inl (ap (λ (R : StoreFields). map.get R.slots d) same)

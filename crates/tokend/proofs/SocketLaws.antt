@@ -65,13 +65,16 @@ module _ (now : ℕ) (words bytes : List ℕ) (old new : EdgeFields) (still : Ty
     → IsFrontServed (asked_at now words old) bytes true
     (record { before = old.region; after = new.region }) unlogged still writer new.sealed result)
     (shut : old.sealed ≡ true → new ≡ old) (terms : new.terms ≡ old.terms) where
+  -- the front of the bytes was served with this result
   abbrev Fronts : Result (Option (Served × Taken)) Fault → Type 0
   Fronts r = IsFrontServed (asked_at now words old) bytes true
       (record { before = old.region; after = new.region }) unlogged still writer new.sealed r
 
+  -- yes is not no
   clash : true ≡ false → ⊥
   clash e = absurd (cc)
 
+  -- bytes that an unsealed edge serves to this end are a connection with this end
   connection : (end : Result Served Fault)
       → (old.sealed ≡ false
       → IsServedBy (asked_at now words old) bytes true
@@ -88,6 +91,7 @@ module _ (now : ℕ) (words bytes : List ℕ) (old new : EdgeFields) (still : Ty
     terms = terms;
   }
 
+  -- bytes whose front an unsealed edge serves are a connection with the end of the result
   of : (r : Result (Option (Served × Taken)) Fault) → (old.sealed ≡ false → Fronts r)
       → IsConnection now words bytes old new (end_of r)
   of (Ok (Some end)) f = connection (Ok end.0) (λ unsealed. (f unsealed).1)

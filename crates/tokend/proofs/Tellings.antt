@@ -13,9 +13,11 @@ use Rattle.tk_edge.specs.Failures.{CountsFailure, Rose, greatest_count, one_more
 use Rattle.tokend.specs.Telling.{Writer, Writes}
 use Rattle.tokend.proofs.Announcements.{prints_then}
 
+-- a count below the greatest is raised by one more failure
 one_greater : (a : ℕ) → nat_lt a greatest_count ≡ true → a < one_more a
 one_greater a e = grind (e, arith, nat_tests)
 
+-- a count that isn't below the greatest is at its greatest with one more failure
 greatest : (a : ℕ) → nat_lt a greatest_count ≡ false → one_more a ≡ greatest_count
 greatest a e = grind (e, arith, nat_tests)
 
@@ -34,10 +36,12 @@ pub say_writes : {A E : Type 0} (r : Result A E) (old new : Writer) (text : List
 say_writes (Ok x) old new text prints counts = inl (prints, counts)
 say_writes (Err e) old new text prints counts = inr (prints, rose old.failed new.failed counts)
 
+-- as many elements as a list has are the whole list
 take_all : {A : Type 0} (xs : List A) → take (length xs) xs ≡ xs
 take_all [] = refl
 take_all (x ∷ xs) = ap (λ ys. x ∷ ys) (take_all xs)
 
+-- one less than the number after n is n
 one_less : (n : ℕ) → suc n - 1 ≡ n
 one_less n = omega arith
 

@@ -30,6 +30,7 @@ decisions_grow words log_taken old (end ∷ ends) records new h =
     (decision_grows (six words) log_taken old end h.1 h.0 h.3)
     (decisions_grow (past_six words) log_taken h.0 ends h.2 new h.5)
 
+-- a turn leaves what the region knew
 turn_grows : (words : ChaCha) (log_taken : Bool) (old : Running) (ends : Endings) (new : Running)
     → IsTurn words log_taken old ends new → Grows old.edge.region new.edge.region
 turn_grows words log_taken old ends new h =

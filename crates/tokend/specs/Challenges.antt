@@ -1,4 +1,4 @@
--- What is required of the challenge of a code, by the words of `--challenge`.
+-- What is required of the challenge of a code, by the words of `--challenge` (own).
 --   rules_named          the rules of challenges
 --   are_rules_misnamed   `--challenge` has another word
 use Rattle.std.specs.Prelude.{

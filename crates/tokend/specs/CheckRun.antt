@@ -1,4 +1,4 @@
--- What checking whether sources can be loaded does.
+-- What checking whether sources can be loaded does (own).
 --   IsRefusedSource   the fault of a source with a bundle that is refused
 --   IsReportedAs      the program's fault for that of loading a source
 --   LoadsSource       a source is loaded, or isn't to its end

@@ -1,4 +1,4 @@
--- What a service does if the profile leaves a choice, by the words of its options.
+-- What a service does if the profile leaves a choice, by the words of its options (own).
 --   unseen_named         who may revoke a token that is not seen, by the value of `--revoke-unseen`
 --   is_unseen_misnamed   `--revoke-unseen` has none of its three values
 --   consent_named        what is done if a consent is given again, by the value of `--consent`

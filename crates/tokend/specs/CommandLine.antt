@@ -1,4 +1,4 @@
--- The command line, as clap's contracts see it.
+-- The command line, as clap's contracts see it (own).
 --   tokend_app      the whole program for clap
 --   IsDecimal       a text that stands for a number
 --   HasFlag         whether an option without a value was given

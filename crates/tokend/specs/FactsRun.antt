@@ -1,4 +1,4 @@
--- What printing the facts of sources does.
+-- What printing the facts of sources does (own).
 --   known_of         the bytes of a source, if they are known
 --   IsBadSource      the fault of a source with bad bytes
 --   IsUnreadSource   the fault of a source that can't be read

@@ -1,4 +1,4 @@
--- The kinds of redirection URIs, by the words of `--redirects`.
+-- The kinds of redirection URIs, by the words of `--redirects` (own).
 --   words_of       the words between commas
 --   kinds_named    the kinds that a client's redirection URIs may be of
 --   are_misnamed   `--redirects` has another word

@@ -1,4 +1,4 @@
--- What a run of the program does.
+-- What a run of the program does (own).
 --   TellsFacts      facts were printed, or sources were checked
 --   PrintsLines     the lines of a script were written
 --   BeginsLines     a beginning of the lines of a script, or of facts, was written
@@ -35,7 +35,7 @@ use Rattle.tokend.specs.Starting.{first_region}
 use Rattle.tokend.specs.Status.{fault_text, LeavesBegun}
 use Rattle.tokend.specs.Telling.{Writer, Writes, Writing}
 use Rattle.tokend.specs.declared.fault.Fault.{Fault}
-use Rattle.tokend.specs.declared.fault.Fault.TheVariants.{Memory, Output, Words}
+use Rattle.tokend.specs.declared.fault.Fault.TheVariants.{Memory, Output, Arguments}
 use Rattle.tokend.specs.declared.options.Check.{Check as CheckValue}
 use Rattle.tokend.specs.declared.options.Service.{Service}
 use Rattle.tokend.specs.declared.options.Sources.{Sources}
@@ -125,7 +125,8 @@ IsDone kept holds opens words input output faults =
 -- The faults that a run may have. Memory and the output may fail in any run. Other faults are those
 -- of the arguments, of the script that they request, or of the service that they request.
 abbrev pub IsFaultFor : List Text → Option (List ℕ) → Fault → Type 0
-IsFaultFor words input (Words error) = IsRefusalOf words (kind_of error) × IsNoShow (kind_of error)
+IsFaultFor words input (Arguments error) = IsRefusalOf words (kind_of error)
+    × IsNoShow (kind_of error)
 IsFaultFor words input Memory = ⊤
 IsFaultFor words input Output = ⊤
 IsFaultFor words input fault = FailsToServe words fault ⊎ FailsToRun words input fault

@@ -1,4 +1,4 @@
--- The lines of a script that the program runs.
+-- The lines of a script that the program runs (own).
 --   Mode             how a script is run
 --   in_world         a script is run in a new world
 --   IsScript         the events of a script

@@ -1,4 +1,4 @@
--- The faults of the program.
+-- The faults of the program (own).
 --   status_of     the exit status of a fault
 --   facts_status  the exit status of a source whose facts weren't printed or loaded to its end
 --   facts_text    the line of such a source
@@ -27,7 +27,7 @@ use Rattle.std.specs.declared.io.ErrorKind.{ErrorKind}
 use Rattle.std.specs.declared.io.ErrorKind.TheVariants.{OutOfMemory}
 use Rattle.tokend.specs.declared.fault.Fault.{Fault}
 use Rattle.tokend.specs.declared.fault.Fault.TheVariants.{
-  Words,
+  Arguments,
   CannotRead,
   CannotReadFile,
   CannotOpen,
@@ -62,7 +62,7 @@ facts_status NoMemory = 1
 -- the exit status: 1 for memory and devices, 2 for arguments, scripts, seeds and logs, 3 for a
 -- socket that another server has
 abbrev pub status_of : Fault → ℕ
-status_of (Words error) = 2
+status_of (Arguments error) = 2
 status_of ScriptTooLong = 2
 status_of (BadLine number) = 2
 status_of BadSeedFile = 2
@@ -97,7 +97,7 @@ facts_text NoMemory = codes "tokend: memory" ++ 10 ∷ []
 
 -- the line of a fault; clap writes the faults of arguments, and an output that failed has no line
 abbrev pub fault_text : Fault → Option (List ℕ)
-fault_text (Words error) = None
+fault_text (Arguments error) = None
 fault_text CannotRead = Some (codes "tokend: cannot read -" ++ 10 ∷ [])
 fault_text (CannotReadFile name) =
     Some (codes "tokend: cannot read " ++ (string_bytes name ++ 10 ∷ []))

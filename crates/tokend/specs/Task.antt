@@ -1,4 +1,4 @@
--- The task that the arguments request.
+-- The task that the arguments request (own).
 --   script_task     a script with these settings
 --   loopback_task   a script by sockets with these settings
 --   IsTask          the subcommand and its values are those of this task
@@ -34,7 +34,7 @@ use Rattle.tokend.specs.Kinds.{are_misnamed}
 use Rattle.tokend.specs.Notices.{is_issuer_misnamed}
 use Rattle.tokend.specs.Ranges.{is_accept_misnamed, is_range_misnamed}
 use Rattle.tokend.specs.declared.fault.Fault.{Fault}
-use Rattle.tokend.specs.declared.fault.Fault.TheVariants.{Memory, Words}
+use Rattle.tokend.specs.declared.fault.Fault.TheVariants.{Memory, Arguments}
 use Rattle.tokend.specs.declared.options.Check.{Check as CheckValue}
 use Rattle.tokend.specs.declared.options.Service.{Service}
 use Rattle.tokend.specs.declared.options.Task.{Task}
@@ -176,5 +176,5 @@ IsRefusalOf words kind = IsAmong kind (fault_of tokend_app words)
 -- the fault of arguments that aren't UTF-8: memory ran out, or clap reports an invalid value
 abbrev pub IsNoText : Fault → Type 0
 IsNoText Memory = ⊤
-IsNoText (Words error) = kind_of error ≡ InvalidValue
+IsNoText (Arguments error) = kind_of error ≡ InvalidValue
 IsNoText fault = ⊥

@@ -21,7 +21,7 @@ pub enum Address {
 
 impl Address {
     /// The greatest port.
-    pub const GREATEST_PORT: u64 = 65_535;
+    pub const MAX_PORT: u64 = 65_535;
 }
 
 /// The sockets at which a service listens.
@@ -105,7 +105,7 @@ fn read_port(matches: &ArgMatches<'_>) -> Option<Address>
     ensures address { IfSome result (HasAddress (rows_of (found_of matches.now))) }
     ensures none { IfNone result (IsNoAddress (rows_of (found_of matches.now))) }
 {
-    match number(matches, "port", 0, Address::GREATEST_PORT) {
+    match number(matches, "port", 0, Address::MAX_PORT) {
         Some(port) => Some(Address::Port(port as u16)),
         None => None,
     }

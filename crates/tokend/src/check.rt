@@ -4,10 +4,10 @@ ghost use Rattle.std.specs.Prelude.{◌≡◌, None, Ok, Err, OnErr, OnOk, IfErr
 ghost use Rattle.std.specs.Prelude.{codes, string_bytes};
 ghost use Rattle.std.specs.FinMap as sets;
 ghost use Rattle.std.specs.Str.{bytes_eq};
-ghost use Rattle.tk_handle.specs.Ranges.{IsRegion};
 ghost use Rattle.tk_put.specs.Put.{Prints};
-ghost use Rattle.tk_region.specs.RegionFields.{RegionFields};
+ghost use Rattle.tk_handle.specs.Ranges.{IsRegion};
 ghost use Rattle.tk_store.specs.StoreFields.{held_facts};
+ghost use Rattle.tk_region.specs.RegionFields.{RegionFields};
 ghost use Rattle.tokend.specs.CheckRun.{
   BeginsCheck,
   Checks,
@@ -36,6 +36,7 @@ use std::io::{self, Read, Write};
 use std::rt::Files;
 use tk_edge::Sink;
 use tk_handle::RegionNumber;
+use tk_message::Lives;
 use tk_put::put_all;
 use tk_region::Region;
 use tk_world::Settings;
@@ -136,14 +137,13 @@ fn load_all<R: AllocGlobal + Files, I: Read>(
 fn settings() -> Settings
     ensures { result ≡ greatest_settings }
 {
-    Settings::new(
-        Settings::GREATEST_CODE,
-        Settings::GREATEST_ACCESS,
-        Settings::GREATEST_REFRESH,
-        Settings::GREATEST_FAMILY,
-        Settings::GREATEST_CAP,
-    )
-    .unwrap()
+    let lives = Lives {
+        code: Settings::MAX_CODE,
+        access: Settings::MAX_ACCESS,
+        refresh: Settings::MAX_REFRESH,
+        family: Settings::MAX_FAMILY,
+    };
+    Settings::new(lives, Settings::MAX_CAP).unwrap()
 }
 
 // Loads the sources, or the standard input if there are none.

@@ -64,7 +64,7 @@ fn with_check<'a>(alloc: Global, command: Command<'a>) -> Result<Command<'a>, Al
     let choices: [Choice<'a>; 2] = [
         ("check", Takes::Nothing,
             "Prints no facts, only whether all can be loaded, and how many they are"),
-        ("region", Takes::Number(Service::GREATEST_REGION, "65535"),
+        ("region", Takes::Number(Service::MAX_REGION, "65535"),
             "The number of the region that loads them for --check, 1 to 65535, unused in them"),
     ];
     with_choices(alloc, command, &choices)
@@ -108,7 +108,7 @@ fn events_command<'a>(alloc: Global) -> Result<Command<'a>, AllocError>
 {
     let program = Command::new(alloc, "tokend")
         .version("0.1.0")
-        .about("An authorisation server whose regions merge")
+        .about("An authorization server whose regions merge")
         .subcommand_required(true);
     match with_made(program, script_command(alloc)) {
         Ok(program) => with_made(program, loopback_command(alloc)),
@@ -173,10 +173,10 @@ fn serve_command<'a>(alloc: Global) -> Result<Command<'a>, AllocError>
 // The options of a service alone.
 #[rattlefmt::skip]
 const SERVICE_CHOICES: [Choice<'static>; 26] = [
-    ("region", Takes::Range(1, Service::GREATEST_REGION, true),
+    ("region", Takes::Range(1, Service::MAX_REGION, true),
         "The number of the region that is served, 1 to 65535, like no other's and never used again \
         [required]"),
-    ("port", Takes::Range(0, Address::GREATEST_PORT, false),
+    ("port", Takes::Range(0, Address::MAX_PORT, false),
         "The port that is listened on, 0 to 65535, 0 for a free one [required, or --socket]"),
     ("socket", Takes::File(false),
         "The Unix socket that is listened on in place of a port"),
@@ -189,12 +189,12 @@ const SERVICE_CHOICES: [Choice<'static>; 26] = [
         "A new file that each fact made is appended to before its reply [default: none]"),
     ("log-taken", Takes::Nothing,
         "Appends each bundle taken in to the log too, before its reply; requires --log"),
-    ("log-part", Takes::Range(Service::LEAST_PART, Service::GREATEST_PART, false),
+    ("log-part", Takes::Range(Service::MIN_PART, Service::MAX_PART, false),
         "Goes on in a next file once the log has this number of bytes, 65536 to 1099511627776; \
         requires --log [default: one file]"),
     ("load", Takes::File(false),
         "The log of an earlier run, whose facts are taken in first [default: none]"),
-    ("prune", Takes::Range(0, Moment::GREATEST, false),
+    ("prune", Takes::Range(0, Moment::MAX, false),
         "Skips all facts of families that are over at this moment, in seconds since 1970, 0 to \
         253402300799 [default: none]"),
     ("ahead", Takes::Word("taken"),
@@ -219,17 +219,17 @@ const SERVICE_CHOICES: [Choice<'static>; 26] = [
     ("challenge", Takes::List,
         "What is required of PKCE: all, a challenge of every client; S256, that method [default: a \
         challenge of public clients]"),
-    ("connections", Takes::Number(Service::GREATEST_CONNECTIONS, "1024"),
+    ("connections", Takes::Number(Service::MAX_CONNECTIONS, "1024"),
         "How many connections are open at once at most, 1 to 65536"),
-    ("requests", Takes::Range(0, Service::GREATEST_REQUESTS, false),
+    ("requests", Takes::Range(0, Service::MAX_REQUESTS, false),
         "How many connections are served, 0 to 4294967295 [default: without end]"),
-    ("keep", Takes::Range(0, Service::GREATEST_KEEP, false),
+    ("keep", Takes::Range(0, Service::MAX_KEEP, false),
         "How many seconds a connection stays open between its requests, 0 to 3600, 0 for one \
         request each [default: 0]"),
-    ("repeat", Takes::Range(0, Service::GREATEST_REPEAT, false),
+    ("repeat", Takes::Range(0, Service::MAX_REPEAT, false),
         "For how many seconds a refresh that is repeated gets its reply again, 0 to 60 [default: \
         0]"),
-    ("prune-margin", Takes::Range(Service::LEAST_MARGIN, Service::GREATEST_MARGIN, false),
+    ("prune-margin", Takes::Range(Service::MIN_MARGIN, Service::MAX_MARGIN, false),
         "Skips the facts of families that have been over for this many seconds, between requests, \
         86400 to 999999999 [default: none]"),
     ("issuer", Takes::Url,
@@ -248,15 +248,15 @@ fn with_settings<'a>(alloc: Global, command: Command<'a>) -> Result<Command<'a>,
     ensures local { IfOk result (λ c. (out-Command c).has_globals ≡ false) }
 {
     let choices: [Choice<'a>; 5] = [
-        ("code", Takes::Number(Settings::GREATEST_CODE, "60"),
+        ("code", Takes::Number(Settings::MAX_CODE, "60"),
             "How many seconds a code lives, 1 to 600"),
-        ("access", Takes::Number(Settings::GREATEST_ACCESS, "3600"),
+        ("access", Takes::Number(Settings::MAX_ACCESS, "3600"),
             "How many seconds an access token lives, 1 to 86400"),
-        ("refresh", Takes::Number(Settings::GREATEST_REFRESH, "86400"),
+        ("refresh", Takes::Number(Settings::MAX_REFRESH, "86400"),
             "How many seconds a refresh token lives, 1 to 31536000"),
-        ("family", Takes::Number(Settings::GREATEST_FAMILY, "2592000"),
+        ("family", Takes::Number(Settings::MAX_FAMILY, "2592000"),
             "How many seconds a code and all tokens that descend from it live, 1 to 315360000"),
-        ("cap", Takes::Number(Settings::GREATEST_CAP, "9223372036854775806"),
+        ("cap", Takes::Number(Settings::MAX_CAP, "9223372036854775806"),
             "The greatest serial of a fact that a region makes, 1 to 9223372036854775806"),
     ];
     with_choices(alloc, command, &choices)

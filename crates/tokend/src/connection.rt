@@ -11,7 +11,7 @@ use tk_turn::{Link, send};
 
 /// How long a client is waited for, in milliseconds: for its request since it was accepted, and for
 /// the end of its side since its reply.
-const LONGEST_MILLIS: u64 = 5_000;
+const MAX_MILLIS: u64 = 5_000;
 
 /// How many bytes a client may send behind its request. They are dropped.
 const MAX_DROPPED: usize = 65_536;
@@ -122,7 +122,7 @@ impl Connection {
         let longest = if self.is_between(link) {
             keep
         } else {
-            LONGEST_MILLIS
+            MAX_MILLIS
         };
         now.saturating_sub(self.since) >= longest
     }

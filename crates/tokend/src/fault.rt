@@ -2,11 +2,11 @@
 
 ghost use Rattle.std.specs.Prelude.{◌≡◌, ◌++◌, ◌∷◌, [], codes, decimal, string_bytes};
 ghost use Rattle.std.specs.IoError.{error_kind};
-ghost use Rattle.tokend.specs.declared.fault.Fault.TheVariants as fault;
-ghost use Rattle.tokend.specs.Status.{facts_status, facts_text, input_fault};
 ghost use Rattle.tokend.specs.ProgramRun.{ReportsFault};
+ghost use Rattle.tokend.specs.Status.{facts_status, facts_text, input_fault};
 ghost use Rattle.tokend.specs.Status.{status_of, IsUnopened, IsUnread};
 ghost use Rattle.tokend.specs.Telling.{Writes, writer_of};
+ghost use Rattle.tokend.specs.declared.fault.Fault.TheVariants as fault;
 
 use crate::telling::{Formatted, say};
 use itoa::Buffer;
@@ -18,7 +18,7 @@ use tk_edge::Sink;
 #[derive(Drop)]
 pub enum Fault {
     /// The arguments are wrong. clap has the text of the fault.
-    Words(clap::Error),
+    Arguments(clap::Error),
     /// Reading the standard input failed or was interrupted.
     CannotRead,
     /// The file of this name can't be read.
@@ -88,7 +88,7 @@ impl Fault {
             Fault::Memory | Fault::CannotRead | Fault::CannotReadFile(_) => 1,
             Fault::CannotOpen(_) | Fault::CannotListen | Fault::SocketFailed => 1,
             Fault::Output => 1,
-            Fault::Words(_) | Fault::ScriptTooLong | Fault::BadLine(_) => 2,
+            Fault::Arguments(_) | Fault::ScriptTooLong | Fault::BadLine(_) => 2,
             Fault::BadSeedFile | Fault::BadLogFile => 2,
             Fault::SharedFolder | Fault::PruneAhead => 2,
             Fault::SocketInUse => 3,
@@ -106,7 +106,7 @@ pub(crate) fn tell<F: Sink>(faults: &mut F, fault: &Fault)
         (writer_of F.holds F.failed faults.new) }
 {
     match fault {
-        Fault::Words(error) => show(faults, error),
+        Fault::Arguments(error) => show(faults, error),
         Fault::CannotRead => say(faults, &[b"tokend: cannot read -\n"]),
         Fault::ScriptTooLong => say(faults, &[b"tokend: script too long\n"]),
         Fault::BadLine(number) => tell_bad_line(faults, *number),

@@ -44,17 +44,12 @@ pub(crate) fn read_files(
     };
     let log = read_text(alloc, matches, "log")?;
     let log_taken = flag(matches, "log-taken");
-    let log_part = number(
-        matches,
-        "log-part",
-        Service::LEAST_PART,
-        Service::GREATEST_PART,
-    );
+    let log_part = number(matches, "log-part", Service::MIN_PART, Service::MAX_PART);
     if (log_taken || log_part.is_some()) && log.is_none() {
         return Ok(None);
     }
     let load = read_text(alloc, matches, "load")?;
-    let prune = number(matches, "prune", 0, Moment::GREATEST);
+    let prune = number(matches, "prune", 0, Moment::MAX);
     Ok(Some(FileOptions {
         seed,
         log,

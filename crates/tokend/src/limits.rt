@@ -26,46 +26,46 @@ pub struct LimitOptions {
 
 impl Service {
     /// The greatest number of a region.
-    pub const GREATEST_REGION: u64 = 65_535;
+    pub const MAX_REGION: u64 = 65_535;
 
     /// The greatest number of connections that are open at once.
-    pub const GREATEST_CONNECTIONS: u64 = 65_536;
+    pub const MAX_CONNECTIONS: u64 = 65_536;
 
     /// The least number of bytes of a log's part.
-    pub const LEAST_PART: u64 = 65_536;
+    pub const MIN_PART: u64 = 65_536;
 
     /// The greatest such number.
-    pub const GREATEST_PART: u64 = 1_099_511_627_776;
+    pub const MAX_PART: u64 = 1_099_511_627_776;
 
     /// The greatest number of connections to serve.
-    pub const GREATEST_REQUESTS: u64 = 4_294_967_295;
+    pub const MAX_REQUESTS: u64 = 4_294_967_295;
 
     /// The greatest number of seconds for which a connection stays open between its requests.
-    pub const GREATEST_KEEP: u64 = 3_600;
+    pub const MAX_KEEP: u64 = 3_600;
 
     /// The greatest number of seconds for which a refresh that is repeated gets its reply again.
-    pub const GREATEST_REPEAT: u64 = 60;
+    pub const MAX_REPEAT: u64 = 60;
 
     /// The least number of seconds for which a family must be over before the server skips its
     /// facts: a day.
-    pub const LEAST_MARGIN: u64 = 86_400;
+    pub const MIN_MARGIN: u64 = 86_400;
 
     /// The greatest such number.
-    pub const GREATEST_MARGIN: u64 = 999_999_999;
+    pub const MAX_MARGIN: u64 = 999_999_999;
 }
 
 /// Reads the limits of a service.
 pub(crate) fn read_limits(matches: &ArgMatches<'_>) -> LimitOptions
     ensures { HasLimits (rows_of (found_of matches.now)) result }
 {
-    let requests = number(matches, "requests", 0, Service::GREATEST_REQUESTS);
-    let keep = number(matches, "keep", 0, Service::GREATEST_KEEP);
-    let repeat = number(matches, "repeat", 0, Service::GREATEST_REPEAT);
+    let requests = number(matches, "requests", 0, Service::MAX_REQUESTS);
+    let keep = number(matches, "keep", 0, Service::MAX_KEEP);
+    let repeat = number(matches, "repeat", 0, Service::MAX_REPEAT);
     let prune_margin = number(
         matches,
         "prune-margin",
-        Service::LEAST_MARGIN,
-        Service::GREATEST_MARGIN,
+        Service::MIN_MARGIN,
+        Service::MAX_MARGIN,
     );
     LimitOptions {
         requests,

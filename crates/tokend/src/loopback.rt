@@ -19,7 +19,7 @@ use tk_world::{Carrier, Event, Outcome, RunError, Settings, World};
 
 /// The greatest length of a request, in bytes. A socket takes that many before the other side
 /// reads.
-pub(crate) const LONGEST: u64 = 16_384;
+pub(crate) const MAX_REQUEST: u64 = 16_384;
 
 /// For how many bytes of a reply memory is taken before its request is served.
 const REPLY_ROOM: usize = 4_096;

@@ -1,4 +1,4 @@
-//! The program `tokend`: an authorisation server in several regions, whose sets of facts merge.
+//! The program `tokend`: an authorization server in several regions, whose sets of facts merge.
 //!
 //! `tokend serve` replies to the HTTP requests of one region and writes the log before each reply.
 //! `tokend script` runs events in a world of regions, `tokend loopback` the same with each request
@@ -10,7 +10,7 @@
 //!
 //! In reading order:
 //!
-//! - `command_line`, what clap knows; `words`, `options`: the arguments, and their task.
+//! - `command_line`, what clap knows; `arguments`, `options`: the arguments, and their task.
 //! - `draw`, random words; `address`, where a service listens; `folder`, `log_file`, `parted`,
 //!   `part_name`, `load`: logs. `start`, a service before its first connection; `bind`, `listen`,
 //!   its sockets; `serve`, its connections; `turns`, a turn at a time; `server`, what is decided of
@@ -23,6 +23,7 @@
 mod accepting;
 mod address;
 mod ahead;
+mod arguments;
 mod bind;
 mod challenges;
 mod check;
@@ -68,8 +69,8 @@ mod sources;
 mod start;
 mod telling;
 mod turns;
-mod words;
 
+use arguments::arguments;
 use fault::Fault;
 use folder::Disk;
 use program::{finish, run_program};
@@ -77,17 +78,16 @@ use std::io::BufWriter;
 use std::process::ExitCode;
 use telling::Steady;
 use tk_edge::Counted;
-use words::words;
 
 fn main(rt: HostRuntime) -> ExitCode {
     let (mut input, mut faults) = (rt.stdin(), Counted::new(Steady { inner: rt.stderr() }));
     let folder = Disk { rt: &rt };
-    let status = match (words(&rt), BufWriter::new(rt.alloc(), rt.stdout())) {
-        (Ok(words), Ok(mut output)) => {
+    let status = match (arguments(&rt), BufWriter::new(rt.alloc(), rt.stdout())) {
+        (Ok(arguments), Ok(mut output)) => {
             let status = run_program(
                 &rt,
                 &folder,
-                words.as_slice(),
+                arguments.as_slice(),
                 &mut input,
                 &mut output,
                 &mut faults,

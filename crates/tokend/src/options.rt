@@ -4,8 +4,6 @@ ghost use Rattle.std.specs.Prelude.{◌≡◌, ◌⊎◌, ◌<◌, ◌^◌, ℕ,
 ghost use Rattle.std.specs.Prelude.{map, false};
 ghost use Rattle.clap.specs.Words.{kind_of, rows_of, found_of, subcommand_rows_of};
 ghost use Rattle.clap.specs.declared.error.kind.ErrorKind.TheVariants as kind;
-ghost use Rattle.tokend.specs.declared.options.Service.{Service as ServiceValue};
-ghost use Rattle.tokend.specs.declared.options.Task.TheVariants as task;
 ghost use Rattle.tk_region.specs.SettingsFields.{IsSettings};
 ghost use Rattle.tokend.specs.CommandLine.{
   settings_of,
@@ -20,6 +18,8 @@ ghost use Rattle.tokend.specs.Task.{lacks_option};
 ghost use Rattle.tokend.specs.Task.{Asks, IsTask, IsNoService, IsNoTask, IsRefusalOf};
 ghost use Rattle.tokend.specs.Task.{kind_missing, lacks_log, missing_kind, wants_log};
 ghost use Rattle.tokend.specs.declared.options.Numbers.{Numbers as NumbersValue};
+ghost use Rattle.tokend.specs.declared.options.Service.{Service as ServiceValue};
+ghost use Rattle.tokend.specs.declared.options.Task.TheVariants as task;
 
 use crate::address::{Addresses, is_unplaced, read_addresses};
 use crate::choices::{misnamed_word, read_choices};
@@ -33,7 +33,7 @@ use clap::error::ErrorKind;
 use clap::{ArgMatches, Command, Error};
 use std::alloc::{AllocError, Global};
 use std::convert::AsStr;
-use tk_message::Choices;
+use tk_message::{Choices, Lives};
 use tk_world::Settings;
 
 /// A task of the program.
@@ -220,7 +220,13 @@ impl Numbers {
             family,
             cap,
         } = *self;
-        Settings::new(code, access, refresh, family, cap).unwrap()
+        let lives = Lives {
+            code,
+            access,
+            refresh,
+            family,
+        };
+        Settings::new(lives, cap).unwrap()
     }
 }
 
@@ -278,13 +284,13 @@ fn read_service(alloc: Global, matches: &ArgMatches<'_>) -> Result<Option<Servic
     let Some(numbers) = read_numbers(matches) else {
         return Ok(None);
     };
-    let Some(region) = number(matches, "region", 1, Service::GREATEST_REGION) else {
+    let Some(region) = number(matches, "region", 1, Service::MAX_REGION) else {
         return Ok(None);
     };
     let Some(at) = read_addresses(alloc, matches)? else {
         return Ok(None);
     };
-    let Some(connections) = number(matches, "connections", 1, Service::GREATEST_CONNECTIONS) else {
+    let Some(connections) = number(matches, "connections", 1, Service::MAX_CONNECTIONS) else {
         return Ok(None);
     };
     let Some(pushes) = read_pushes(alloc, matches)? else {
@@ -319,11 +325,11 @@ fn read_numbers(matches: &ArgMatches<'_>) -> Option<Numbers>
         → ¬ (HasNumbers (rows_of (found_of matches.now)) n)) }
 {
     Some(Numbers {
-        code: number(matches, "code", 1, Settings::GREATEST_CODE)?,
-        access: number(matches, "access", 1, Settings::GREATEST_ACCESS)?,
-        refresh: number(matches, "refresh", 1, Settings::GREATEST_REFRESH)?,
-        family: number(matches, "family", 1, Settings::GREATEST_FAMILY)?,
-        cap: number(matches, "cap", 1, Settings::GREATEST_CAP)?,
+        code: number(matches, "code", 1, Settings::MAX_CODE)?,
+        access: number(matches, "access", 1, Settings::MAX_ACCESS)?,
+        refresh: number(matches, "refresh", 1, Settings::MAX_REFRESH)?,
+        family: number(matches, "family", 1, Settings::MAX_FAMILY)?,
+        cap: number(matches, "cap", 1, Settings::MAX_CAP)?,
     })
 }
 

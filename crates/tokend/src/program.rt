@@ -15,12 +15,12 @@ ghost use Rattle.std.specs.Prelude.{
   map,
 };
 ghost use Rattle.std.specs.Io.KnownBytes.{Appends, Keeps};
-ghost use Rattle.tk_world.specs.Printed.{lines_text};
 ghost use Rattle.clap.specs.Words.{Text, kind_of};
 ghost use Rattle.clap.specs.declared.error.kind.ErrorKind.TheVariants as kind;
-ghost use Rattle.tokend.specs.ProgramRun.{IsDone, IsFaultFor, Leaves, ReportsFault};
 ghost use Rattle.tk_put.specs.Put.{AppendsFront, Prints};
+ghost use Rattle.tk_world.specs.Printed.{lines_text};
 ghost use Rattle.tokend.specs.LoopbackRun.{by_loopback};
+ghost use Rattle.tokend.specs.ProgramRun.{IsDone, IsFaultFor, Leaves, ReportsFault};
 ghost use Rattle.tokend.specs.ScriptRun.{
   in_world,
   IsReadFault,
@@ -39,7 +39,7 @@ use crate::check::check_facts;
 use crate::facts::print_facts;
 use crate::fault::{Fault, tell};
 use crate::folder::Folder;
-use crate::loopback::{LONGEST, run_by_sockets};
+use crate::loopback::{MAX_REQUEST, run_by_sockets};
 use crate::options::{Task, options};
 use crate::script::{read_events, read_script};
 use crate::serve::serve;
@@ -226,7 +226,8 @@ fn show_or_refuse<O: Write>(output: &mut O, error: Error) -> Result<(), Fault>
         (λ f. ((f ≡ fault.Output)
         × ((kind_of error ≡ kind.DisplayHelp) ⊎ (kind_of error ≡ kind.DisplayVersion)))
         ⊎ (((f ≡ fault.Memory)
-        ⊎ ((f ≡ fault.Words error) × (kind_of error ≢ kind.OutOfMemory) × IsNoShow (kind_of error)))
+        ⊎ ((f ≡ fault.Arguments error) × (kind_of error ≢ kind.OutOfMemory)
+        × IsNoShow (kind_of error)))
         × Keeps (O.contents output.old) (O.contents output.new))) }
 {
     match error.kind() {
@@ -235,7 +236,7 @@ fn show_or_refuse<O: Write>(output: &mut O, error: Error) -> Result<(), Fault>
             Err(_) => Err(Fault::Output),
         },
         ErrorKind::OutOfMemory => Err(Fault::Memory),
-        _ => Err(Fault::Words(error)),
+        _ => Err(Fault::Arguments(error)),
     }
 }
 
@@ -289,7 +290,7 @@ where
         (λ fault. LeavesScript (by_loopback settings) (I.remaining input.old) fault
         (O.contents output.old) (O.contents output.new)) }
 {
-    let events = match read_input(rt.alloc(), input, Some(LONGEST)) {
+    let events = match read_input(rt.alloc(), input, Some(MAX_REQUEST)) {
         Ok(events) => events,
         Err(fault) => return Err(fault),
     };

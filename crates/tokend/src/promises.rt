@@ -2,7 +2,7 @@
 //!
 //! The contract of a function is the promise. Its body is one call of `tk_world`, and the promise
 //! is proved from the public contract of that call alone. The program calls none of these
-//! functions. The last three promises are about a service and its log: they have no body, and are
+//! functions. The last three promises are about a service and its log: they call nothing, and are
 //! proved from what contracts say of services, of connections and of loading a log.
 //!
 //! A world stands for a state with all facts that its regions made and took in, whatever they

@@ -1,7 +1,7 @@
 //! What a service takes of a push: `PushOptions`, and the terms of the service.
 
-ghost use Rattle.std.specs.Option.{option_map};
 ghost use Rattle.std.specs.Prelude.{◌≡◌, IfOk, IfSome, IfNone};
+ghost use Rattle.std.specs.Option.{option_map};
 ghost use Rattle.clap.specs.Words.{found_of, rows_of};
 ghost use Rattle.tokend.specs.CommandLine.{HasPushes, IsNoPushes};
 ghost use Rattle.tokend.specs.Ranges as spec;

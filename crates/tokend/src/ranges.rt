@@ -160,7 +160,7 @@ fn first_dash(text: &[u8]) -> Option<usize>
 fn range_at(first: u64, last: u64) -> Option<RegionRange>
     ensures { result ≡ spec.range_at first last }
 {
-    if 1 <= first && first <= last && last <= Service::GREATEST_REGION {
+    if 1 <= first && first <= last && last <= Service::MAX_REGION {
         Some(RegionRange {
             first: first as u16,
             last: last as u16,

@@ -26,7 +26,7 @@ pub(crate) struct Refreshed {
 pub(crate) struct Repeats {
     /// For how many seconds a refresh may be repeated. 0: it never is.
     pub seconds: u64,
-    // The refreshes, at most `MOST_KEPT`.
+    // The refreshes, at most `MAX_KEPT`.
     kept: VecDeque<Refreshed>,
 }
 
@@ -46,7 +46,7 @@ use std::alloc::Global;
 use tk_grant::is_again;
 
 /// How many refreshes are kept at most. One more takes the place of the oldest.
-const MOST_KEPT: usize = 4_096;
+const MAX_KEPT: usize = 4_096;
 
 impl Repeats {
     /// Returns the repeats of a server that granted no refresh yet.
@@ -78,7 +78,7 @@ impl Repeats {
         if self.kept.reserve(1).is_err() {
             return false;
         }
-        if self.kept.len() >= MOST_KEPT {
+        if self.kept.len() >= MAX_KEPT {
             self.kept.pop_front();
         }
         self.kept.push_back(refreshed).is_ok()

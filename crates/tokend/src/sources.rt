@@ -26,7 +26,7 @@ pub(crate) fn read_facts(
     if !flag(matches, "check") {
         return Ok(Some(Task::Facts(sources)));
     }
-    match number(matches, "region", 1, Service::GREATEST_REGION) {
+    match number(matches, "region", 1, Service::MAX_REGION) {
         Some(region) => {
             let region = region as u16;
             Ok(Some(Task::Check(Check { sources, region })))

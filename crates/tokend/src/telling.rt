@@ -2,8 +2,8 @@
 
 ghost use Rattle.std.specs.Io.{WritesAtMost};
 ghost use Rattle.std.specs.Io.KnownBytes.{WriteAppends};
-ghost use Rattle.tk_edge.specs.Failures.{CountsFailure};
 ghost use Rattle.tk_put.specs.Put.{Prints, joined_text};
+ghost use Rattle.tk_edge.specs.Failures.{CountsFailure};
 ghost use Rattle.tokend.specs.Telling.{Writes, writer_of};
 
 use std::io::{self, ErrorKind, Write};

@@ -266,7 +266,7 @@ pub(crate) fn millis<C: Clock>(clock: &C) -> io::Result<u64> {
 
 // Returns the clock's moment in whole seconds, brought into the range of moments.
 fn moment<C: Clock>(clock: &C) -> io::Result<Moment> {
-    let seconds = clock.since_1970()?.as_secs().min(Moment::GREATEST);
+    let seconds = clock.since_1970()?.as_secs().min(Moment::MAX);
     match Moment::new(seconds) {
         Some(moment) => Ok(moment),
         None => unreachable!("the seconds are at most the greatest moment's"),

@@ -2,12 +2,11 @@ use Rattle.std.proofs.Common.{sym, ap, subst, ◌∙◌, IfOk, arith, rules}
 use borrow.Author.Tests.{tests}
 use Rattle.std.proofs.lemmas.Grind.{common_steps}
 use Rattle.tk_format.specs.Decimals.{decimal_in}
-use Rattle.tk_vector.specs.VectorText.{IsNoVectorText}
 use Rattle.tk_world.specs.Line.{IsEventForm, IsNoEventForm}
-use Rattle.tk_world.proofs.EventForms.{open_there, deliver_there, pull_there, prune_there}
-use Rattle.tk_world.proofs.EventForms.{with_rest, slice_texts, open_bad, deliver_bad_region}
-use Rattle.tk_world.proofs.EventForms.{prune_bad_region, prune_bad_moment, pull_bad_region}
-use Rattle.tk_world.proofs.EventForms.{pull_bad_vector, IsOther, request_bad, no_form}
+use Rattle.tk_world.proofs.EventForms.{open_there, deliver_there, prune_there, with_rest}
+use Rattle.tk_world.proofs.EventForms.{pull_texts, slice_texts, open_bad, deliver_bad_region}
+use Rattle.tk_world.proofs.EventForms.{prune_bad_region, prune_bad_moment, IsOther, request_bad}
+use Rattle.tk_world.proofs.EventForms.{no_form}
 use Rattle.tk_world.proofs.line.event_of.Goals as goal
 
 pub returns-in_default-region-clause-malformed : goal.returns-in_default-region-clause-malformed
@@ -31,17 +30,10 @@ returns-in-prune_some-clause-malformed c e =
     subst IsNoEventForm (slice_texts c.args.fields.now (omega arith) (search (rules, tests)))
     (c.slice_event.ensures.malformed e)
 
-pub returns-in_default-region-2-clause-malformed : goal.returns-in_default-region-2-clause-malformed
-returns-in_default-region-2-clause-malformed c _ =
-    pull_bad_region c.args.fields.now (omega arith) (search (rules, tests))
-    (sym c.region-in-pull.ensures ∙ c.in_default-region-2.is)
-
-pub returns-in_err-vector-in-pull-clause-malformed
-    : goal.returns-in_err-vector-in-pull-clause-malformed
-returns-in_err-vector-in-pull-clause-malformed c e =
-    pull_bad_vector c.args.fields.now (omega arith) (search (rules, tests))
-    (subst IsNoVectorText c.as_bytes-in-pull.ensures.value
-    (c.read_text.ensures.malformed (grind arith)))
+pub returns-in-pull-clause-malformed : goal.returns-in-pull-clause-malformed
+returns-in-pull-clause-malformed c e =
+    subst IsNoEventForm (pull_texts c.args.fields.now (omega arith) (search (rules, tests)))
+    (c.pull_event.ensures.malformed e)
 
 pub returns-in-Some-clause-found : goal.returns-in-Some-clause-found
 returns-in-Some-clause-found c =
@@ -62,11 +54,6 @@ pub returns-in-None-region-clause-malformed : goal.returns-in-None-region-clause
 returns-in-None-region-clause-malformed c _ =
     deliver_bad_region c.args.fields.now (omega arith) (search (rules, tests))
     (sym c.region-in-deliver.ensures ∙ c.in-None-region.is)
-
-pub returns-in_ok-vector-in-pull-clause-found : goal.returns-in_ok-vector-in-pull-clause-found
-returns-in_ok-vector-in-pull-clause-found c =
-    pull_there c.args.fields.now _ _ _ (omega arith) (search (rules, tests))
-    (sym c.region-in-pull.ensures ∙ c.in-Some-region-3.is) (search rules) (search rules)
 
 pub returns-in-len3-up-clause-malformed : goal.returns-in-len3-up-clause-malformed
 returns-in-len3-up-clause-malformed c e =

@@ -1,6 +1,6 @@
 use Rattle.std.proofs.Common.{rules}
 use Rattle.clap.specs.Words.{found_of, rows_of, subcommand_rows_of}
-use Rattle.tokend.proofs.Tasks.{unplaced_given}
+use Rattle.tokend.proofs.TaskOptions.{unplaced_given}
 use Rattle.tokend.proofs.address.is_unplaced.Goals as goal
 
 pub returns-in-Some : goal.returns-in-Some

@@ -1,6 +1,6 @@
 use Rattle.std.proofs.Common.{rules, ◌∙◌}
 use Rattle.clap.specs.Words.{found_of}
-use Rattle.tokend.proofs.Tasks.{unplaced_else, unplaced_then}
+use Rattle.tokend.proofs.TaskOptions.{unplaced_else, unplaced_then}
 use Rattle.tokend.proofs.address.is_unplaced_in.Goals as goal
 
 pub returns-then-is_some : goal.returns-then-is_some

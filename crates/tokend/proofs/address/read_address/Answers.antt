@@ -2,7 +2,7 @@ use Rattle.std.proofs.Common.{rules}
 use Rattle.std.specs.Prelude.{string_bytes}
 use Rattle.clap.specs.Words.{found_of}
 use Rattle.tokend.specs.declared.address.Address.TheVariants.{Socket}
-use Rattle.tokend.proofs.Tasks.{socket_read, socket_unread}
+use Rattle.tokend.proofs.TaskOptions.{socket_read, socket_unread}
 use Rattle.tokend.proofs.address.read_address.Goals as goal
 
 pub returns-in-Some-clause-address : goal.returns-in-Some-clause-address

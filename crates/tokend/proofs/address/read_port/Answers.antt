@@ -1,5 +1,5 @@
 use Rattle.clap.specs.Words.{found_of, rows_of}
-use Rattle.tokend.proofs.Tasks.{no_port}
+use Rattle.tokend.proofs.TaskOptions.{no_port}
 use Rattle.tokend.proofs.address.read_port.Goals as goal
 
 pub returns-in-None-clause-none : goal.returns-in-None-clause-none

@@ -1,7 +1,7 @@
 use Rattle.std.proofs.Common.{rules}
 use Rattle.std.specs.Prelude.{is_some}
 use Rattle.clap.specs.Words.{found_of, rows_of, subcommand_rows_of}
-use Rattle.tokend.proofs.Tasks.{misnamed_given}
+use Rattle.tokend.proofs.TaskOptions.{misnamed_given}
 use Rattle.tokend.proofs.choices.misnamed_word.Goals as goal
 
 pub returns-in-Some : goal.returns-in-Some

@@ -1,7 +1,7 @@
 use Rattle.std.proofs.Common.{None, Some, codes, rules, ◌∙◌}
 use Rattle.clap.specs.Words.{found_of}
 use Rattle.tokend.specs.Choices.{refresh_seen_named}
-use Rattle.tokend.proofs.Tasks.{by_text}
+use Rattle.tokend.proofs.TaskOptions.{by_text}
 use Rattle.tokend.proofs.choices.read_refresh_seen.Goals as goal
 
 pub returns-in-Some : goal.returns-in-Some

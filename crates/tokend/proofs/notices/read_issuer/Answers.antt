@@ -1,7 +1,7 @@
 use Rattle.std.proofs.Common.{◌≡◌, IfOk, None, Some, codes, subst, rules}
 use Rattle.clap.specs.Words.{found_of}
 use Rattle.tokend.specs.Notices.{issuer_named}
-use Rattle.tokend.proofs.Tasks.{by_text}
+use Rattle.tokend.proofs.TaskOptions.{by_text}
 use Rattle.tokend.proofs.notices.read_issuer.Goals as goal
 
 pub returns-in-Some : goal.returns-in-Some

@@ -1,6 +1,6 @@
 use Rattle.std.proofs.Common.{rules}
 use Rattle.clap.specs.Words.{found_of}
-use Rattle.tokend.proofs.Tasks.{flag_absent, flag_given}
+use Rattle.tokend.proofs.TaskOptions.{flag_absent, flag_given}
 use Rattle.tokend.proofs.options.flag.Goals as goal
 
 pub returns-in-Some : goal.returns-in-Some

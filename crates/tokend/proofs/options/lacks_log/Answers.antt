@@ -1,6 +1,6 @@
 use Rattle.std.proofs.Common.{rules, codes, ◌∙◌}
 use Rattle.clap.specs.Words.{found_of, rows_of, subcommand_rows_of}
-use Rattle.tokend.proofs.Tasks.{lacks_given, text_missing}
+use Rattle.tokend.proofs.TaskOptions.{lacks_given, text_missing}
 use Rattle.tokend.proofs.options.lacks_log.Goals as goal
 
 pub returns-then-wants_log : goal.returns-then-wants_log

@@ -1,6 +1,6 @@
 use Rattle.std.proofs.Common.{rules, map}
 use Rattle.clap.specs.Words.{app_of}
-use Rattle.tokend.proofs.Tasks.{asked_by, fails_by, found_by, refused_by, unasked_by}
+use Rattle.tokend.proofs.TaskOptions.{asked_by, fails_by, found_by, refused_by, unasked_by}
 use Rattle.tokend.proofs.options.options.Goals as goal
 
 pub returns-in-Err-clause-refused : goal.returns-in-Err-clause-refused

@@ -1,7 +1,9 @@
 use Rattle.std.proofs.Common.{codes, refl, rules}
 use Rattle.clap.specs.Words.{found_of, rows_of, subcommand_rows_of}
-use Rattle.tokend.proofs.Tasks.{differs, is_facts, is_no_check, is_no_service, no_loopback}
-use Rattle.tokend.proofs.Tasks.{no_script, no_subcommand}
+use Rattle.tokend.proofs.Tasks.{is_facts, is_no_check, is_no_service, no_loopback}
+use Rattle.tokend.proofs.TaskOptions.{differs}
+use Rattle.tokend.proofs.Tasks.{no_script}
+use Rattle.tokend.proofs.TaskOptions.{no_subcommand}
 use Rattle.tokend.proofs.options.read_matches.Goals as goal
 
 pub returns-in-None-clause-none : goal.returns-in-None-clause-none

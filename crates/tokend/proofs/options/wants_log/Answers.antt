@@ -1,6 +1,6 @@
 use Rattle.std.proofs.Common.{rules, codes, ◌∙◌}
 use Rattle.clap.specs.Words.{found_of, rows_of}
-use Rattle.tokend.proofs.Tasks.{text_found}
+use Rattle.tokend.proofs.TaskOptions.{text_found}
 use Rattle.tokend.proofs.MissingOptions.{wants_parts}
 use Rattle.tokend.proofs.options.wants_log.Goals as goal
 

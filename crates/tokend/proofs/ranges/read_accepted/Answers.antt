@@ -4,7 +4,7 @@ use Rattle.std.specs.Option.{option_map}
 use Rattle.clap.specs.Words.{found_of}
 use Rattle.tk_edge.specs.declared.terms.RegionRange.{RegionRange}
 use Rattle.tokend.specs.Ranges.{accepted_named}
-use Rattle.tokend.proofs.Tasks.{by_text}
+use Rattle.tokend.proofs.TaskOptions.{by_text}
 use Rattle.tokend.proofs.ranges.read_accepted.Goals as goal
 
 pub returns-in-Some : goal.returns-in-Some

@@ -1,7 +1,7 @@
 use Rattle.std.proofs.Common.{None, Some, codes, rules, ◌∙◌}
 use Rattle.clap.specs.Words.{first_of, found_of, rows_of}
 use Rattle.tokend.specs.Ranges.{range_named}
-use Rattle.tokend.proofs.Tasks.{by_text}
+use Rattle.tokend.proofs.TaskOptions.{by_text}
 use Rattle.tokend.proofs.ranges.read_range.Goals as goal
 
 pub returns-in-Some : goal.returns-in-Some

@@ -1,4 +1,4 @@
-use Rattle.tokend.proofs.Deciding.{replied_over, replied_same}
+use Rattle.tokend.proofs.ServerDeciding.{replied_over, replied_same}
 use Rattle.tokend.proofs.server.reply_over.Goals as goal
 
 pub returns-then-stays : goal.returns-then-stays

@@ -1,4 +1,5 @@
-use Rattle.tokend.proofs.Turning.{goes_both, goes_untaken}
+use Rattle.tokend.proofs.Turning.{goes_both}
+use Rattle.tokend.proofs.BehindTurns.{goes_untaken}
 use Rattle.tokend.proofs.turns.tell_losses.Goals as goal
 
 pub returns : goal.returns

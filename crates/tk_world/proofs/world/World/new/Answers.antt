@@ -24,6 +24,7 @@ invariant_of-result c = (
       ))),
 )
 
+-- the world of no edges and no bundles is a new one
 is_new : (settings : _) (rs : _) (bs : _) → rs ≡ [] → bs ≡ []
     → world settings rs bs ≡ new_world settings
 is_new settings rs bs none nothing =

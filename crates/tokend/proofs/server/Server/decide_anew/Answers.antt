@@ -3,8 +3,10 @@ use Rattle.tk_turn.specs.Outcomes.{goes_on}
 use Rattle.tokend.specs.Decisions.{Asking, IsReplied, asking_of, ended_if, outcome_by, reach_by}
 use Rattle.tokend.specs.Draw.{six, past_six}
 use Rattle.tokend.specs.declared.server.Server.{Server}
-use Rattle.tokend.proofs.Deciding.{as_served, fault_ends, front_stays, front_within, may_grant}
-use Rattle.tokend.proofs.Deciding.{outcome_some, outcome_within, served_ends}
+use Rattle.tokend.proofs.Deciding.{as_served, front_stays, front_within, may_grant}
+use Rattle.tokend.proofs.ServerDeciding.{fault_ends}
+use Rattle.tokend.proofs.Deciding.{outcome_some, outcome_within}
+use Rattle.tokend.proofs.ServerDeciding.{served_ends}
 use Rattle.tokend.proofs.server.Server.decide_anew.Goals as goal
 
 pub reply_over-requires : goal.reply_over-requires

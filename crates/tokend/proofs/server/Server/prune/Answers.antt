@@ -1,5 +1,5 @@
 use Rattle.std.proofs.Common.{rules}
-use Rattle.tokend.proofs.Turning.{goes_pruned}
+use Rattle.tokend.proofs.BehindTurns.{goes_pruned}
 use Rattle.tokend.proofs.server.Server.prune.Goals as goal
 
 pub returns-clause-sliced : goal.returns-clause-sliced

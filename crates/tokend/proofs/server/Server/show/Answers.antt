@@ -1,6 +1,6 @@
 use Rattle.std.proofs.Common.{ap, sym, ◌∙◌}
 use Rattle.tokend.specs.Exposition.{exposition}
-use Rattle.tokend.proofs.Turning.{due_shown, goes_shown}
+use Rattle.tokend.proofs.BehindTurns.{due_shown, goes_shown}
 use Rattle.tokend.proofs.server.Server.show.Goals as goal
 
 pub returns-clause-shown : goal.returns-clause-shown

@@ -1,6 +1,7 @@
 use Rattle.std.proofs.Common.{List, ℕ, [], append-nil, subst, sym, ◌∙◌}
 use Rattle.tokend.specs.Repeating.{GivesAgain}
-use Rattle.tokend.proofs.Deciding.{again_decides, again_some, again_within, none_of, short_decides}
+use Rattle.tokend.proofs.Deciding.{none_of}
+use Rattle.tokend.proofs.ServerDeciding.{again_decides, again_some, again_within, short_decides}
 use Rattle.tokend.proofs.server.ServerService.decide.Goals as goal
 
 pub returns-in-Again-clause-within : goal.returns-in-Again-clause-within

@@ -1,4 +1,4 @@
-//! The arguments of the process: `words` reads them.
+//! The arguments of the process: `arguments` reads them.
 
 ghost use Rattle.std.specs.Prelude.{IfErr};
 ghost use Rattle.tokend.specs.Task.{IsNoText};
@@ -13,20 +13,20 @@ use std::{env, io};
 
 /// Returns the arguments of the process. Arguments that aren't UTF-8 are a mistake in the
 /// arguments.
-pub(crate) fn words<R: Env + AllocGlobal>(rt: &R) -> Result<Vec<String>, Fault>
+pub(crate) fn arguments<R: Env + AllocGlobal>(rt: &R) -> Result<Vec<String>, Fault>
     ensures { IfErr result IsNoText }
 {
     match env::args(rt) {
-        Ok(words) => match words.collect(rt.alloc()) {
-            Ok(words) => Ok(words),
+        Ok(arguments) => match arguments.collect(rt.alloc()) {
+            Ok(arguments) => Ok(arguments),
             Err(_) => Err(Fault::Memory),
         },
-        Err(error) => Err(unread_words(rt.alloc(), error.kind())),
+        Err(error) => Err(unread_arguments(rt.alloc(), error.kind())),
     }
 }
 
 // Returns the fault of arguments that couldn't be read.
-fn unread_words(alloc: Global, kind: io::ErrorKind) -> Fault
+fn unread_arguments(alloc: Global, kind: io::ErrorKind) -> Fault
     ensures { IsNoText result }
 {
     if kind == io::ErrorKind::OutOfMemory {
@@ -44,7 +44,7 @@ fn no_text(command: &mut Command<'_>) -> Fault
 {
     let message = "invalid UTF-8 was detected in one or more arguments";
     match command.error(ErrorKind::InvalidValue, message) {
-        Ok(error) => Fault::Words(error),
+        Ok(error) => Fault::Arguments(error),
         Err(_) => Fault::Memory,
     }
 }
