@@ -8,6 +8,7 @@ from markdown import everything
 from texts import differ, rows, same, text_of
 
 INDEX, GATE, DOCUMENT = "check/README.md", "check/run", "docs/GATE.md"
+COMMAND = r"^%scheck/(\w+)/(?:run|prove)"  # of the gate
 
 
 def folders():
@@ -30,11 +31,11 @@ def compare():
     """Compares the index of checks with their folders, the gate, and the paths in documents."""
     listed = {re.search(r"\w+", it[0])[0]: it[-2] for it in rows(text_of(INDEX), "check | ")}
     same(INDEX, "the checks", folders(), sorted(listed))
-    run = list(dict.fromkeys(re.findall(r"^check/(\w+)/run", text_of(GATE), re.M)))
+    run = list(dict.fromkeys(re.findall(COMMAND % "", text_of(GATE), re.M)))
     same(INDEX, "the checks of the gate", sorted(run),
          sorted(name for name, part in listed.items() if part.startswith("yes")))
     same(DOCUMENT, "the checks of the gate", run,
-         re.findall(r"^\| `check/(\w+)/run", text_of(DOCUMENT), re.M))
+         re.findall(COMMAND % r"\| `", text_of(DOCUMENT), re.M))
     for name in folders():
         if not os.path.exists(os.path.join(TOP, "check", name, "README.md")):
             differ("check/" + name, "has no README.md")

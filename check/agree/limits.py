@@ -14,7 +14,7 @@ DERIVED = {"docs/OPERATING.md": {8191}, "docs/FORMATS.md": {1020}}
 PHRASES = (
     (r"\b(\d+) fields\b", "fields of a head"),
     (r"\b(?:first|of|most) (\d+) (?:facts|items)\b", "items of a bundle without runs"),
-    (r"\b1 to (\d+) (?:visible bytes|bytes of visible)", "subject, bytes"),
+    (r"\b1 to (\d+) (?:visible bytes|bytes of visible)", "subject, and operator, bytes"),
     (r"\b(\d+) to \d+ unreserved", "challenge and verifier, least bytes"),
     (r"\b\d+ to (\d+) unreserved", "challenge and verifier, bytes"),
     (r"\b1 to (\d+) absolute URIs", "redirection URIs of a client"),

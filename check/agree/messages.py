@@ -37,7 +37,7 @@ def of_sources():
     for place in re.findall(r'tell_place\(faults, b"([^"]*)"', fault):
         errors[place + "N of FILE"] = bad
     errors[re.search(r'b"(tokend: dropped )"', text_of(FACTS))[1] + "N bytes"] = None
-    same(FAULT, "faults without a line of their own", {"Words": 2, "Output": 1}, statuses)
+    same(FAULT, "faults without a line of their own", {"Arguments": 2, "Output": 1}, statuses)
     for name in re.findall(r'EdgeFault::\w+ => say\(faults, &\[b"([^"\\]*)\\n"\]\)', losses):
         errors[name] = None
     names = re.findall(r"fn put_(dropped_bytes|pruned_facts|inner|port|path)<", listen)

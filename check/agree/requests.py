@@ -133,6 +133,7 @@ def compare_methods(server):
 
 
 TWICE = ["X-Subject: a", "X-Subject: b"]
+OPERATORS = ["X-Operator: a", "X-Operator: a"]
 BASIC = "Authorization: Basic YTpi"
 BEFORE = (
     ("no such path", 404, "not_found", ("GET", "/nothing", (), None)),
@@ -140,6 +141,7 @@ BEFORE = (
     ("65 fields", 400, "bad_request", ("POST", "/token", ["X: y"] * 64, b"")),
     ("a long head", 400, "bad_request", ("GET", "/" + "x" * 8192, (), None)),
     ("a field twice", 400, "bad_request", ("GET", "/authorize", TWICE, None)),
+    ("two operators", 400, "bad_request", ("POST", "/admin/retire", OPERATORS, b"")),
     ("no length", 411, "length_required", ("POST", "/token", (), None)),
     ("chunks", 411, "length_required",
      ("POST", "/token", ["Transfer-Encoding: chunked"], b"")),
@@ -154,11 +156,16 @@ ASKS = (
     ("two places", 400, "invalid_request",
      ("POST", "/token", [BASIC], b"client_id=a&client_secret=b")),
     ("nobody", 401, "invalid_client", ("POST", "/revoke", FORM, b"token=a")))
+ADMINISTERS = (
+    ("an operator", 404, "not_found",
+     ("POST", "/admin/retire", OPERATORS[:1], b"client_id=c1-1")),
+    ("an operator that is none", 400, "invalid_request",
+     ("POST", "/admin/retire", ["X-Operator: a b"], b"client_id=c1-1")))
 
 
 def compare_cases(server, table, cases):
     """Cases that a table names, each by a request."""
-    known = {(int(c[0]), coded(c[1])[0]) for c in rows(table, "reply | error")}
+    known = {(int(c[0]), it) for c in rows(table, "reply | error") for it in coded(c[1])}
     for what, status, name, (method, target, fields, body) in cases:
         if (status, name) not in known:
             differ(HTTP, "its tables have no %d `%s`, for: %s" % (status, name, what))
@@ -169,14 +176,27 @@ def compare_cases(server, table, cases):
             differ("a request with " + what, "the reply has no WWW-Authenticate")
 
 
+def compare_fields(server):
+    """The fields that count: those that are read, and refused if they come twice."""
+    said = re.search(r"The fields that count are ([^.]*)\.", text_of(HTTP))
+    read = re.findall(r'value_named\(buf, headers, b"([a-z-]+)"\)',
+                      text_of("crates/tk_edge/src/field.rt"))
+    refused = [it for it in read
+               if server.ask("GET", "/sync/vector", ["%s: 0" % it] * 2)[0] == 400]
+    same(HTTP, "the fields that count", sorted(refused),
+         sorted(it.lower() for it in re.findall("`([^`]+)`", said[1] if said else "")))
+
+
 def compare(program):
     compare_examples(program)
     compare_exchange(program)
     before, behind = text_of(HTTP).split("## Who asks")
     with Server(program, "--health", "--metrics") as server:
         compare_methods(server)
+        compare_fields(server)
         compare_cases(server, before, BEFORE)
         compare_cases(server, behind.split("\n## ")[0], ASKS)
+        compare_cases(server, behind.split("\n## Administration")[1], ADMINISTERS)
     sources = text_of("crates/tk_message/src/error_code.rt")
     names = set(re.findall(r'ErrorCode::\w+ => "(\w+)"', sources))
     for name in sorted(names - set(re.findall(r"`([a-z]+(?:_[a-z]+)*)`", text_of(HTTP)))):

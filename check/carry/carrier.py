@@ -11,7 +11,7 @@ import time
 import unittest
 
 from lib.cases import Case
-from lib.facts import EMPTY_VECTOR, bundle, client, clients, mark
+from lib.facts import EMPTY_VECTOR, bundle, client, clients, each_administered, mark
 from lib.peer import proxy, without_query
 from lib.tls import OPENSSL, make_certificate
 from lib.waiting import until
@@ -50,6 +50,14 @@ class Servers(Case):
         all_of_them = [self.tokend(it, client(10 + it, 1)) for it in (1, 2, 3)]
         self.assertEqual(self.carry(*(it.url for it in all_of_them))[0], 0)
         self.assertEqual(len({it.vector() for it in all_of_them}), 1)
+
+    def test_facts_are_carried_with_their_operators(self):
+        facts = each_administered(3)
+        one, two = self.tokend(1, *facts), self.tokend(2)
+        status, output, errors = self.carry(two.url, one.url)
+        self.assertEqual((status, errors), (0, ""))
+        self.assertIn("8 facts in 1 pages, 8 new", output)
+        self.assertEqual(two.held(), facts)
 
     def test_marks_are_carried_with_their_horizon(self):
         one, two = self.tokend(1, client(3, 1)), self.tokend(2)
@@ -116,7 +124,7 @@ class Servers(Case):
         self.assertEqual((status, errors.count("\n")), (3, 10))
         self.assertIn("40 facts in 1 pages, 1 new, 39 refused", output)
 
-    def test_own_number(self):
+    def test_a_region_refuses_a_fact_of_its_own_number(self):
         one, two = self.tokend(1, client(2, 1)), self.tokend(2)
         status, _, errors = self.carry(two.url, one.url)
         self.assertEqual(status, 3)
@@ -198,7 +206,7 @@ class Misbehaving(Case):
         threading.Thread(target=say, daemon=True).start()
         self.assertRegex(self.run_with(url)[0], r"/sync/pull: \?\[31mx{100,196} \(tries: 4\)\n$")
 
-    def test_no_peer(self):
+    def test_a_peer_that_is_gone_is_tried_four_times(self):
         it, url = self.listener()
         it.close()
         errors, seconds = self.run_with(url)
@@ -218,7 +226,7 @@ class Misbehaving(Case):
             with self.subTest(why):
                 self.assertIn(why, self.run_with(self.peer(reply).url)[0])
 
-    def test_malformed_pages(self):
+    def test_a_malformed_page_is_named_and_nothing_is_pushed(self):
         wrong = bundle(clients(4, 1)) + b"\0"
         for why, said in {
                 "not a bundle: 1 bytes behind its last item": wrong,
@@ -324,7 +332,7 @@ class Runs(Case):
             child.send_signal(number)
             self.assertEqual(child.wait(5), 1)
 
-    def test_wrong_arguments(self):
+    def test_wrong_arguments_end_carry_with_status_2(self):
         for words in ([], ["http://127.0.0.1:1"], ["http://a.test", "ftp://b.test"],
                       ["http://a.test", "http://b.test?c"], ["http://a.test", "http://x:99999"]):
             self.assertEqual(self.carry(*words)[0], 2)

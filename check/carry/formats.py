@@ -21,7 +21,9 @@ LIMITED = bytes.fromhex("4f5442340001004300010000000000000007"
 CHANGED = bytes.fromhex("4f544234000100450001000000000000000a0f00020000000000000001"
                         "0000000000000001264a7f2eb0de4fdf2aecac04f24a1c0cc7234d4b522b94db"
                         "f6193dcdf61dec81000000000000041a")
-ALL = ADDED, RETIRED, SIGNED_OUT, SKIPPED, REFRESHED, LIMITED, CHANGED
+ADMINISTERED = bytes.fromhex("4f544234000100260001000000000000000b160003626f620000000000000424"
+                             "0004726f6f740000000000000424")
+ALL = ADDED, RETIRED, SIGNED_OUT, SKIPPED, REFRESHED, LIMITED, CHANGED, ADMINISTERED
 VECTOR = bytes.fromhex("4f54563100020001000000000000000400020000000000000001")
 
 
@@ -41,20 +43,20 @@ def bundle(*items, magic=b"OTB1", horizon=None):
 
 class Bundles(unittest.TestCase):
     def test_examples_are_read_and_written(self):
-        counts = [(1, 0, None)] * 3 + [(0, 2, 1100)] + [(1, 0, None)] * 3
+        counts = [(1, 0, None)] * 3 + [(0, 2, 1100)] + [(1, 0, None)] * 4
         for data, wanted in zip(ALL, counts):
             it = read_bundle(data)
             self.assertEqual((it.facts, it.marks, it.horizon), wanted)
             self.assertEqual(it.write(), data)
         self.assertEqual(read_bundle(bundle()).write(), bundle())
 
-    def test_limits(self):
+    def test_bundles_at_the_limits_are_read(self):
         most = bundle(*(fact(n, 8192) for n in range(1, 129)))
         self.assertEqual(len(read_bundle(most).items), 128)
         greatest = bundle(Dot(65535, 2**63 - 1).write(), magic=b"OTB3", horizon=253402300799)
         self.assertEqual(read_bundle(greatest).horizon, 253402300799)
 
-    def test_no_bundles(self):
+    def test_bytes_that_are_no_bundle_are_refused_with_the_reason(self):
         mark = Dot(1, 7).write()
         for why, data in {
                 "no version": b"OTB7" + ADDED[4:],
@@ -68,7 +70,7 @@ class Bundles(unittest.TestCase):
                 "1:9223372036854775808 is no dot": bundle(fact(2**63)),
                 "kind 11": bundle(fact(1, kind=11)),
                 "kind 14": bundle(fact(1, kind=14)),
-                "kind 16": bundle(fact(1, kind=16)),
+                "kind 24": bundle(fact(1, kind=24)),
                 "items of b'OTB1'": bundle(fact(1), magic=b"OTB2"),
                 "items of b'OTB2'": bundle(fact(1, kind=10)),
                 "items of b'OTB3' in a bundle b'OTB5'": bundle(mark, magic=b"OTB5", horizon=7),
@@ -121,6 +123,18 @@ class Bundles(unittest.TestCase):
         self.assertEqual(mixed.facts_alone().version, b"OTB4")
         self.assertEqual([it.version for it in mixed.halves()], [b"OTB4", b"OTB3"])
 
+    def test_versions_of_facts_in_which_an_operator_is_named(self):
+        for kind in range(16, 24):
+            with self.subTest(kind):
+                mixed = Bundle((fact(1), fact(2, kind=kind), fact(3), Dot(1, 4).write()), 1100)
+                self.assertEqual(mixed.version, b"OTB5")
+                self.assertEqual(read_bundle(mixed.write()), mixed)
+                self.assertEqual(mixed.facts_alone().version, b"OTB4")
+                self.assertEqual([it.version for it in mixed.halves()], [b"OTB4", b"OTB3"])
+                for magic in b"OTB1", b"OTB2":
+                    with self.assertRaises(Malformed):
+                        read_bundle(bundle(fact(2, kind=kind), magic=magic))
+
     def test_a_log_in_pieces(self):
         log = b"".join(ALL)
         for size in 1, 7, len(log):
@@ -139,23 +153,23 @@ class Bundles(unittest.TestCase):
 
 
 class Vectors(unittest.TestCase):
-    def test_example(self):
+    def test_the_example_of_a_vector_is_read_and_written(self):
         it = read_vector(VECTOR)
         self.assertEqual(it, Vector((Dot(1, 4), Dot(2, 1))))
         self.assertEqual(it.write(), VECTOR)
 
-    def test_no_vectors(self):
+    def test_bytes_that_are_no_vector_are_refused(self):
         swapped = VECTOR[:6] + VECTOR[16:] + VECTOR[6:16]
         for data in b"", VECTOR[:-1], VECTOR + b"\0", b"OTV2" + VECTOR[4:], swapped:
             with self.subTest(data), self.assertRaises(Malformed):
                 read_vector(data)
 
-    def test_within(self):
+    def test_a_vector_is_within_one_that_has_more(self):
         one, two = Vector((Dot(1, 4),)), read_vector(VECTOR)
         self.assertTrue(one.is_within(two))
         self.assertFalse(two.is_within(one))
 
-    def test_pulls(self):
+    def test_pulls_are_read_if_their_cursor_is_valid(self):
         it = read_vector(VECTOR)
         for cursor in FROM_THE_START, Dot(1, 4).write():
             self.assertEqual(read_pull(write_pull(cursor, it)), (cursor, it))

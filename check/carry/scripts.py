@@ -8,7 +8,7 @@ from pathlib import Path
 
 from bundles import Records, read_bundle, read_vector
 from carrier import empty, saying
-from formats import ALL, CHANGED, LIMITED, REFRESHED, RETIRED, SKIPPED
+from formats import ADMINISTERED, ALL, CHANGED, LIMITED, REFRESHED, RETIRED, SKIPPED
 from lib import TOP
 from lib.cases import Case
 from lib.facts import EMPTY_VECTOR, bundle, bundle_with_runs, client, clients, mark, run
@@ -65,7 +65,7 @@ class Backup(Case):
         self.assertEqual((status, list(folder.glob("[!.]*"))), (1, []))
         self.assertIn("the server was started anew", errors)
 
-    def test_faults(self):
+    def test_a_fault_is_status_1_and_wrong_arguments_are_status_2(self):
         folder = str(Path(self.folder) / "kept")
         peer = self.peer(saying(vector=(502, {}, b"")))
         self.assertEqual(self.backup(peer.url, folder, BACKUP_TRIES="0")[0], 1)
@@ -134,9 +134,9 @@ class Follow(Case):
         (self.live / "1.otb").write_bytes(b"".join(ALL) + RETIRED)
         found = self.taken(self.logs())
         self.assertEqual([it.write() for it in found[-2:]],
-                         [SKIPPED, b"OTB4\0\4" + REFRESHED[6:] + LIMITED[6:] + CHANGED[6:]
-                          + RETIRED[6:]])
-        self.assertEqual([len(it.items) for it in found], [2, 1, 2, 4])
+                         [SKIPPED, b"OTB4\0\5" + REFRESHED[6:] + LIMITED[6:] + CHANGED[6:]
+                          + ADMINISTERED[6:] + RETIRED[6:]])
+        self.assertEqual([len(it.items) for it in found], [2, 1, 2, 5])
 
     def test_records_with_runs(self):
         """A long one is a message of its own, and a short one joins others."""

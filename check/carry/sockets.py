@@ -162,7 +162,7 @@ class Sockets(Case):
             self.assertEqual(status, 2)
             self.assertIn("not a base URL: " + wrong, errors)
 
-    def test_backup(self):
+    def test_a_backup_reads_a_server_at_a_socket(self):
         one, folder = self.served(1, *clients(3, 1, 2)), os.path.join(self.folder, "kept")
         for words, environ in ([one.url], {}), (["own"], self.environ(one)):
             status, output, errors = self.run_script("two-regions/backup", *words, folder,

@@ -32,7 +32,7 @@ class Formats(unittest.TestCase):
         self.assertEqual((it.horizon, it.has_runs, it.is_full), (1100, True, False))
         self.assertEqual(it.write(), EXAMPLE)
 
-    def test_pieces(self):
+    def test_a_bundle_of_facts_marks_and_runs_is_read(self):
         pieces = [run(1, 1, 5), fact(6), mark(1, 7), run(1, 9, 10), run(2, 11, 12)]
         data = bundle_with_runs(pieces)
         it = read_bundle(data)
@@ -40,7 +40,7 @@ class Formats(unittest.TestCase):
         self.assertEqual([one for piece in pieces for one in items_of(piece)], list(it.items))
         self.assertEqual(it.cursor, mark(2, 12))
 
-    def test_full_pages(self):
+    def test_a_page_is_full_at_1024_dots_or_128_pieces(self):
         most = bundle_with_runs([run(1, 1, 1024)])
         self.assertTrue(read_bundle(most).is_full)
         self.assertFalse(read_bundle(bundle_with_runs([run(1, 1, 1023)])).is_full)
@@ -51,7 +51,7 @@ class Formats(unittest.TestCase):
         self.assertTrue(read_bundle(bundle_with_runs(two)).is_full)
         self.assertFalse(read_bundle(bundle_with_runs(two[1:])).is_full)
 
-    def test_no_bundles(self):
+    def test_bytes_that_are_no_bundle_with_runs_are_refused(self):
         pair = run(1, 3, 4)
         for why, pieces in {
                 "a run from 3 to 3": [run(1, 3, 3)],
@@ -84,7 +84,7 @@ class Formats(unittest.TestCase):
             with self.assertRaises(Cut):
                 read_front(EXAMPLE[:size])
 
-    def test_parts(self):
+    def test_parts_of_a_bundle_with_runs_lose_no_item(self):
         it = read_bundle(bundle_with_runs([run(1, 1, 300), fact(301), run(1, 302, 303)]))
         parts = list(it.plain())
         self.assertEqual(tuple(one for part in parts for one in part.items), it.items)

@@ -92,6 +92,10 @@ class CellsCase(Case):
         """A site's vector, by region."""
         return self.server(name).held_to()
 
+    def pages(self, name):
+        """All facts of a site, as bundles."""
+        return b"".join(self.server(name).pages())
+
     def regions(self, name):
         """The regions of all facts on a site's first page."""
         return {int.from_bytes(it[:2], "big") for it in self.server(name).held()}

@@ -2,6 +2,7 @@
 import json
 import urllib.parse
 
+from lib.listing import listed
 from lib.waiting import until
 from machine import CellsCase
 from tables import slot_of
@@ -107,7 +108,8 @@ class Moves(Subjects):
 class SignOuts(Subjects):
     def outs(self, name):
         """The regions whose sign-outs a site has."""
-        return {int.from_bytes(it[:2], "big") for it in self.server(name).held() if it[10] == 10}
+        return {int(it["dot"].partition(":")[0]) for it in listed(self.pages(name))
+                if it["kind"] == "subject_out"}
 
     def test_each_cell_has_it_at_once(self):
         self.up("dir1", "a1", "a2", "b1")

@@ -3,6 +3,7 @@ import base64
 import threading
 
 from lib.facts import ACCESS, MARK, REFRESH, facts_of
+from lib.reading import WITH_OPERATOR, Bytes
 
 DOT, NAME = slice(0, 10), slice(11, 22)  # of a fact: its dot, and the token that it names
 ROTATED, REVOKED, REUSED, SUBJECT_OUT = 7, 8, 9, 10  # the kinds of facts that end tokens
@@ -16,7 +17,7 @@ class Family:
     def __init__(self, subject=None):
         self.tokens, self.may_end, self.subject = [], False, subject
         if subject:
-            self.by_subject[subject.encode()] = self
+            self.by_subject[subject] = self
 
 
 class Token:
@@ -131,9 +132,9 @@ class Answers:
         for fact in facts_of(page):
             if len(fact) == MARK:
                 continue
-            kind, name = fact[10], fact[NAME]
+            kind, name = WITH_OPERATOR.get(fact[MARK], fact[MARK]), fact[NAME]
             if kind == SUBJECT_OUT:
-                self.say_signed_out(Family.by_subject[fact[13:-8]])
+                self.say_signed_out(Family.by_subject[Bytes(fact, MARK + 1).text()])
             elif kind == ROTATED:
                 self.say_used(Token.by_name[name[DOT] + bytes([REFRESH])])
             elif kind in (REVOKED, REUSED):

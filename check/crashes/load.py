@@ -1,16 +1,19 @@
 """load: clients and a carrier at work between two sites, until one is killed or they must stop."""
 import itertools
+import json
 import random
 import threading
 import time
 
 from answers import Family, Token
+from lib.asking import body_of, request
 from sites import carry
 
 PAUSES = 0.02, 0.02, 0.6  # at most, in seconds, between two carries: for short and full pages
 LONGEST_WAIT = 1  # seconds for the reply that a kill waits for
 SUBJECTS = itertools.count(1)
 RECENT = 300  # tokens among which a look chooses
+OPERATOR = ["X-Operator: root"]
 
 
 class Moment:
@@ -90,7 +93,8 @@ class Pair:
 
 
 class Client(Worker):
-    """Logs in, refreshes, revokes, reuses and introspects at both sites.
+    """Logs in, refreshes, revokes, reuses and introspects at both sites. An operator gives
+    consents, signs out and ends logins.
 
     Each family has one client, so a refresh token is used twice only if that client means it.
     """
@@ -103,7 +107,8 @@ class Client(Worker):
         """Sends one request of a random kind, or a login if no tokens are left."""
         way, = random.choices(*zip(
             (self.log_in, 20), (self.log_in_anew, 5), (self.look, 22), (self.refresh, 35),
-            (self.revoke, 12), (self.revoke_family, 3), (self.reuse, 3), (self.sign_out, 6)))
+            (self.revoke, 12), (self.revoke_family, 3), (self.reuse, 3), (self.sign_out, 6),
+            (self.log_out, 6)))
         if way in (self.log_in, self.log_in_anew, self.look):
             way()
         elif pair := self.take():
@@ -131,7 +136,7 @@ class Client(Worker):
         if subject:
             site.server.form("/admin/consent", {
                 "client_id": site.enrolled.client_id, "subject": subject, "scope": "read write",
-            }, status=201)
+            }, status=201, more=OPERATOR)
             header = "X-Subject: " + subject
         self.keep(Pair(site.server.log_in(header), Family(subject), site))
 
@@ -172,8 +177,19 @@ class Client(Worker):
             return
         pair.family.may_end = True
         site = random.choice(self.sites)
-        site.server.form("/admin/signout", {"subject": pair.family.subject})
+        site.server.form("/admin/signout", {"subject": pair.family.subject}, more=OPERATOR)
         site.answers.say_signed_out(pair.family)
+
+    def log_out(self, pair):
+        """Ends the login of a subject that has no other one, where it is known."""
+        if not pair.family.subject:
+            self.refresh(pair)
+            return
+        pair.family.may_end = True
+        asked = request("GET", "/admin/subject?subject=" + pair.family.subject)
+        login, = json.loads(body_of(pair.site.server.wanted(200, asked)))["logins"]
+        pair.site.server.form("/admin/logout", {"login_id": login["login_id"]}, more=OPERATOR)
+        pair.site.answers.say_family_ended(pair.family)
 
     def look(self):
         if self.recent:

@@ -10,7 +10,8 @@ from lib.server import Server, push
 CUT = 0.5  # how often a log gets a cut end
 PARTED = 0.7  # how often a log has parts
 PARTS = "--log-part", "65536"  # of as few bytes as may be
-LOOKS = b'{"active":', b"\r\nContent-Type: application/octet-stream"  # in replies of look-ups
+# in replies of look-ups
+LOOKS = b'{"active":', b'{"consents":', b"\r\nContent-Type: application/octet-stream"
 VECTOR = request("GET", "/sync/vector")
 
 

@@ -4,12 +4,15 @@ import re
 import shutil
 import subprocess
 import tempfile
+import threading
 
 import edit
-from lib import TOP
 
 PARTS = ("src", "specs", "proofs")
 PROVED, REFUSED, HIDDEN = "proved", "refused", "hidden"
+# `rt ci` may run beside a check: its own come first, for processors and for memory
+BEHIND = ("nice", "-n", "10", "choom", "-n", "500", "--")
+RUNNING, ENDING = set(), threading.Event()  # the checks that run; whether no more may begin
 
 
 class Failed(Exception):
@@ -22,44 +25,53 @@ def kit():
     return os.path.dirname(page.strip())
 
 
-def wanted_by():
-    """What each crate stands on, as crates.txt says."""
-    with open(os.path.join(TOP, "crates.txt"), encoding="utf-8") as f:
-        lines = [it.split("#")[0].partition(":") for it in f]
-    return {name.strip(): wanted.split() for name, _, wanted in lines if name.strip()}
+class Tree:
+    """The repository, or a copy of it, where `rt ci` left what it built, or will leave it."""
 
+    def __init__(self, top):
+        self.top = top
+        with open(os.path.join(top, "crates.txt"), encoding="utf-8") as f:
+            lines = [it.split("#")[0].partition(":") for it in f]
+        self.wanted = {name.strip(): wanted.split() for name, _, wanted in lines if name.strip()}
 
-def below(name, wanted):
-    """The crates of the repository that one stands on, at once or by others."""
-    found = []
-    for it in wanted[name]:
-        if it in wanted:
-            found += [more for more in [*below(it, wanted), it] if more not in found]
-    return found
+    def with_edits(self):
+        """The crates that have edits, the lowest first."""
+        return [it for it in self.wanted
+                if os.path.isdir(os.path.join(self.folder(it), edit.FOLDER))]
 
+    def below(self, name):
+        """The crates of the repository that one stands on, at once or by others."""
+        found = []
+        for it in self.wanted[name]:
+            if it in self.wanted:
+                found += [more for more in [*self.below(it), it] if more not in found]
+        return found
 
-def library(name):
-    return os.path.join(TOP, "crates", name, "out/rlib")
+    def folder(self, name):
+        return os.path.join(self.top, "crates", name)
 
+    def library(self, name):
+        return os.path.join(self.folder(name), "out/rlib")
 
-def kept_of(name):
-    """What the last `rt check` in the crate's folder kept."""
-    return os.path.join(TOP, "crates", name, "out/incremental")
+    def kept_of(self, name):
+        """What the last `rt check` in the crate's folder kept."""
+        return os.path.join(self.folder(name), "out/incremental")
 
+    def is_program(self, name):
+        return os.path.exists(os.path.join(self.folder(name), "src/main.rt"))
 
-def command(name):
-    """The words that check the crate whose copy is the working directory."""
-    wanted, home = wanted_by(), kit()
-    program = os.path.exists(os.path.join(TOP, "crates", name, "src/main.rt"))
-    words = [os.path.join(home, "bin/rattle"), "check", "--crate-name", name,
-             "src/main.rt" if program else "src/lib.rt"]
-    for it in ["std", *wanted[name]]:
-        place = library(it) if it in wanted else os.path.join(home, "rlibs")
-        words += ["--extern", "%s=%s/%s.rlib" % (it, place, it)]
-    for place in [os.path.join(home, "rlibs"), *map(library, below(name, wanted))]:
-        words += ["-L", "dependency=" + place]
-    return words + ["--antt-project", os.path.join(home, "rattle/logic/antt-project.json"),
-                    "--logic-built", os.path.join(home, "logic_built"), "--links", name + "="]
+    def command(self, name):
+        """The words that check the crate whose copy is the working directory."""
+        home = kit()
+        words = [os.path.join(home, "bin/rattle"), "check", "--crate-name", name,
+                 "src/main.rt" if self.is_program(name) else "src/lib.rt"]
+        for it in ["std", *self.wanted[name]]:
+            place = self.library(it) if it in self.wanted else os.path.join(home, "rlibs")
+            words += ["--extern", "%s=%s/%s.rlib" % (it, place, it)]
+        for place in [os.path.join(home, "rlibs"), *map(self.library, self.below(name))]:
+            words += ["-L", "dependency=" + place]
+        return words + ["--antt-project", os.path.join(home, "rattle/logic/antt-project.json"),
+                        "--logic-built", os.path.join(home, "logic_built"), "--links", name + "="]
 
 
 def copied(crate, to):
@@ -85,10 +97,28 @@ def checked(words, crate, kept, edits=(), jobs=1):
         edit.apply_all(edits, room)
         flags = ["--incremental", kept, "--jobs", str(jobs)]
         flags += ["--allow-holes"] if len(edits) > 1 else []
-        ran = subprocess.run([*words, *flags], cwd=room,
-                             stdin=subprocess.DEVNULL, stdout=subprocess.PIPE, text=True,
-                             stderr=subprocess.STDOUT, errors="replace", check=False)
-    return ran.returncode, ran.stdout.split("\n")
+        return output_of([*BEHIND, *words, *flags], room)
+
+
+def output_of(words, folder):
+    """Status and lines of a command."""
+    if ENDING.is_set():
+        raise Failed("the trials ended")
+    with subprocess.Popen(words, cwd=folder, stdin=subprocess.DEVNULL, stdout=subprocess.PIPE,
+                          stderr=subprocess.STDOUT, text=True, errors="replace") as child:
+        RUNNING.add(child)
+        try:
+            said = child.communicate()[0]
+        finally:
+            RUNNING.discard(child)
+    return child.returncode, said.split("\n")
+
+
+def stop():
+    """Ends all checks."""
+    ENDING.set()
+    for it in list(RUNNING):
+        it.kill()
 
 
 def verdicts_in(lines):

@@ -27,11 +27,12 @@ class Edit:
                   for at, old, _ in changed if not old.startswith("ghost use ")]
         return places[0] if places and None not in places and len(set(places)) == 1 else None
 
-    def places(self):
-        """Where each pair changes the crate, by file: None if one changes what another made."""
+    def places(self, folder=None):
+        """Where each pair changes the crate, or a copy of it, by file: None if one changes what
+        another made."""
         found = {}
         for at, old, new in self.pairs:
-            text = text_of(self.crate, at)
+            text = text_of(folder or self.crate, at)
             if text.count(old) != 1:
                 return None
             found.setdefault(at, []).append((text.index(old), old, new))
@@ -45,13 +46,20 @@ class Edit:
             for path, places in self.places().items() for start, old, _ in places
             for at, text, _ in theirs.get(path, ()))
 
-    def apply(self, folder):
-        """Changes a copy of the crate, pair by pair."""
+    def texts(self, folder):
+        """The files that the edit makes of those of a crate, pair by pair."""
+        found = {}
         for at, old, new in self.pairs:
-            text = text_of(folder, at)
+            text = found.get(at) or text_of(folder, at)
             if text.count(old) != 1:
                 raise Bad("%s: `%s` is %d times in %s" % (self.name, old, text.count(old), at))
-            write(folder, at, text.replace(old, new))
+            found[at] = text.replace(old, new)
+        return found
+
+    def apply(self, folder):
+        """Changes a copy of the crate."""
+        for at, text in self.texts(folder).items():
+            write(folder, at, text)
 
 
 def text_of(folder, at):
@@ -71,7 +79,7 @@ def apply_all(edits, folder):
         return
     changes = {}
     for it in edits:
-        for at, places in it.places().items():
+        for at, places in it.places(folder).items():
             changes.setdefault(at, []).extend(places)
     for at, places in changes.items():
         text = text_of(folder, at)
@@ -98,10 +106,13 @@ def pairs_in(path):
 
 
 def edits_of(crate):
-    """The edits of a crate's folder, by name."""
+    """The edits of a crate's folder, by name, each of which can be applied."""
     folder = os.path.join(crate, FOLDER)
     names = os.listdir(folder) if os.path.isdir(folder) else []
-    return [Edit(os.path.join(folder, it)) for it in sorted(names) if it.endswith(".edit")]
+    found = [Edit(os.path.join(folder, it)) for it in sorted(names) if it.endswith(".edit")]
+    for it in found:
+        it.texts(crate)
+    return found
 
 
 FOLDER = "must-fail"

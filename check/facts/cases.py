@@ -10,9 +10,12 @@ import tempfile
 import unittest
 
 from lib import TOP
+from lib.asking import body_of, request
 from lib.command import GIVEN
-from lib.reading import Region, lines_of, printed
-from lib.writing import (BUNDLES, LAST, bundle, dot, fact, marks, number, secret_set, sign_out,
+from lib.facts import MARK, facts_of, retirement
+from lib.reading import KINDS, WITH_OPERATOR, Region, lines_of, printed
+from lib.server import Server
+from lib.writing import (BUNDLES, LAST, bundle, by, dot, fact, marks, number, secret_set, sign_out,
                          text, vector)
 
 BAD = b"OTBX\0\0\0\0\0\0"
@@ -26,6 +29,11 @@ EACH_BAD = (
     bundle([secret_set(0)], b"OTB4"), bundle([secret_set(1000001)], b"OTB4"),
     bundle([secret_set(1)]), bundle([secret_set(1)[:-1]], b"OTB4"),
     bundle([secret_set(1) + b"\0"], b"OTB4"), bundle([secret_set(1, LAST + 1)], b"OTB4"),
+    *(bundle([fact(18, dot(1, 1) + it)], b"OTB4") for it in (
+        b"", by(b""), by(b"a b"), by(b"a" * 129), by(b"\x7f"), by(b"\x80"), by()[:-1],
+        by() + b"\0", by(moment=LAST + 1))),
+    bundle([fact(18, dot(1, 1) + by())]), bundle([fact(18, dot(1, 1) + by())], b"OTB2"),
+    bundle([fact(2, dot(1, 1) + by())]), bundle([fact(24, dot(1, 1) + by())], b"OTB4"),
     vector((2, 1), (1, 1)), vector((1, 1), (1, 2)), vector((1, 0)),
     b"OTB1" + number(129, 2), b"OTB1\0\1" + number(8193, 2))
 
@@ -74,28 +82,68 @@ class Kinds(unittest.TestCase):
         for line in output.splitlines():
             self.assertIn("kind", json.loads(line))
 
-    def test_known_line(self):
+    def test_a_sign_out_is_printed_as_a_known_line(self):
         line = (b'{"dot":"1:5","kind":"subject_out","subject":"ann",'
                 b'"moment":"1970-01-01T00:17:00Z","moment_seconds":1020}\n')
         data = bytes.fromhex("4f5442320001001800010000000000000005"
                              "0a0003616e6e00000000000003fc")
         self.assertEqual(run(data), (line, "", 0))
 
-    def test_known_marks(self):
+    def test_two_marks_are_printed_as_known_lines(self):
         data = bytes.fromhex("4f544233000000000000044c0002000a00010000000000000003"
                              "000a00010000000000000004")
         line = ('{"dot":"1:%d","kind":"mark","horizon":"1970-01-01T00:18:20Z",'
                 '"horizon_seconds":1100}\n')
         self.assertEqual(run(data), ((line % 3 + line % 4).encode(), "", 0))
 
+    def test_the_line_of_a_fact_names_its_operator(self):
+        line = (b'{"dot":"1:11","kind":"subject_out","subject":"bob",'
+                b'"moment":"1970-01-01T00:17:40Z","moment_seconds":1060,'
+                b'"by":{"operator":"root","moment":"1970-01-01T00:17:40Z",'
+                b'"moment_seconds":1060}}\n')
+        data = bytes.fromhex("4f544234000100260001000000000000000b"
+                             "160003626f6200000000000004240004726f6f740000000000000424")
+        self.assertEqual(run(data), (line, "", 0))
+
     def test_records_of_the_document(self):
         records = list(records_in_document())
-        self.assertEqual([record[10] for _, record in records], [2, 3, 4, 5, 6, 7, 8, 15])
-        for name, record in records:
-            with self.subTest(name):
-                data = bundle([record], b"OTB4" if record[10] == 15 else b"OTB1")
+        self.assertEqual([record[10] for _, _, record in records],
+                         [2, 3, 4, 5, 6, 7, 8, 15, 16, 17, 18, 19, 20, 21, 23])
+        for name, more, record in records:
+            with self.subTest(name + more):
+                data = bundle([record], version_for(record[10]))
                 self.assertEqual(run(data), expected(data))
-                self.assertEqual(json.loads(run(data)[0])["kind"], snake(name))
+                line = json.loads(run(data)[0])
+                self.assertEqual(line["kind"], snake(name))
+                self.assertEqual("access_life" in line, "with lives" in more)
+                self.assertEqual(line.get("by", {}).get("operator"),
+                                 "root" if "by root" in more else None)
+
+    def test_each_kind_is_in_the_document(self):
+        facts = [record for _, _, record in records_in_document()]
+        for data in bytes_in_document():
+            if data[:3] == b"OTB":
+                facts += [it for it in facts_of(data) if len(it) > MARK]
+            elif data[:3] != b"OTV" and not is_pull(data):
+                facts.append(data)
+        self.assertEqual({it[MARK] for it in facts}, set(KINDS) | set(WITH_OPERATOR))
+
+    def test_pull_of_the_document(self):
+        body, = filter(is_pull, bytes_in_document())
+        dots = [(1, serial) for serial in range(1, 7)] + [(2, 1), (2, 2)]
+        with Server(GIVEN.program, region=3) as server:
+            server.push([retirement(it, (1, 1)) for it in dots])
+            said = body_of(server.wanted(200, request("POST", "/sync/pull", body)))
+        self.assertEqual([it[:MARK] for it in facts_of(said)], [dot(1, 5), dot(1, 6), dot(2, 2)])
+
+    def test_bytes_of_the_document(self):
+        found = [data for data in bytes_in_document() if not is_pull(data)]
+        self.assertGreater(len(found), 10)
+        for data in found:
+            with self.subTest(data.hex()):
+                whole = data if data[:2] == b"OT" else bundle([data], version_for(data[10]))
+                self.assertEqual(run(whole), expected(whole))
+                self.assertEqual(run(whole)[1:], ("", 0))
 
     def test_moments_of_all_years(self):
         # Each first and last day of a month of some years, and many moments drawn at random.
@@ -113,10 +161,29 @@ class Kinds(unittest.TestCase):
 
 
 def records_in_document():
-    """The name and the bytes of each fact in hex that docs/FORMATS.md has under its kind's name."""
+    """The name, what is said behind it, and the bytes of each fact in hex that docs/FORMATS.md has
+    under its kind's name."""
     with open(os.path.join(TOP, "docs/FORMATS.md"), encoding="utf-8") as file:
-        found = re.findall(r"^([A-Z][A-Za-z]+)\n((?:  [0-9a-f ]+\n)+)", file.read(), re.MULTILINE)
-    return ((name, bytes.fromhex(lines)) for name, lines in found)
+        found = re.findall(r"^([A-Z][A-Za-z]+)((?:, [a-z ]+)*)\n((?:  [0-9a-f ]+\n)+)",
+                           file.read(), re.MULTILINE)
+    return ((name, more, bytes.fromhex(lines)) for name, more, lines in found)
+
+
+def bytes_in_document():
+    """Each bundle, vector, fact and pull in hex that docs/FORMATS.md has in a block of its own."""
+    with open(os.path.join(TOP, "docs/FORMATS.md"), encoding="utf-8") as file:
+        found = re.findall(r"^```\n((?:[0-9a-f ]+\n)+)```", file.read(), re.MULTILINE)
+    return map(bytes.fromhex, found)
+
+
+def is_pull(data):
+    """Whether these bytes are the body of a pull: a cursor and a vector."""
+    return data[MARK:MARK + 4] == b"OTV1"
+
+
+def version_for(kind):
+    """The version of a bundle with a fact of this kind alone."""
+    return b"OTB1" if kind < 10 else b"OTB2" if kind == 10 else b"OTB4"
 
 
 def snake(name):
@@ -252,7 +319,7 @@ class Checks(unittest.TestCase):
             with self.subTest(data):
                 self.assertEqual(run(self.LOG + data + BAD, "--check"), (b"", fault, 2))
 
-    def test_regions(self):
+    def test_a_check_loads_as_the_given_region_would(self):
         for region in (1, 2, 3, 7, 65534, 65535):
             with self.subTest(region):
                 data = self.LOG + self.OWN
@@ -283,7 +350,7 @@ class SourcesOfChecks(unittest.TestCase):
         names = [name for name, _ in sources]
         self.assertEqual(run(data, "--check", *names, files=files), checked(*sources))
 
-    def test_files(self):
+    def test_a_check_loads_all_its_files(self):
         self.check(b"", ("b", self.B), ("a", self.A))
         self.check(b"", ("b", self.A + self.B), ("a", self.A))
 

@@ -100,7 +100,7 @@ def ask_over(link, method, path, body=None, **fields):
 
 
 def authorize(target, client_id):
-    """The target of an authorisation request of a client."""
+    """The target of an authorization request of a client."""
     return target + "?" + urllib.parse.urlencode({
         "response_type": "code", "client_id": client_id, "scope": "read write",
         "redirect_uri": REDIRECT_TEXT, "state": "xyz"})
@@ -168,9 +168,9 @@ class Asked:
             raise Broken("%r is answered %r" % (sent[:60], said[:300]))
         return said
 
-    def form(self, target, fields, credentials=None, status=200):
-        """The members of the reply to a form, if it has any."""
-        headers = ["Content-Type: application/x-www-form-urlencoded", *self.closing]
+    def form(self, target, fields, credentials=None, status=200, more=()):
+        """The members of the reply to a form, with more header lines, if it has any."""
+        headers = ["Content-Type: application/x-www-form-urlencoded", *self.closing, *more]
         if credentials:
             headers.append("Authorization: Basic " + credentials)
         sent = request("POST", target, urllib.parse.urlencode(fields).encode(), *headers)

@@ -11,8 +11,8 @@ GIVEN = argparse.Namespace(program=None)  # what the check was given, once it is
 
 def parser(about):
     """A parser of a check's arguments; the first line of its documentation says what it does."""
-    return argparse.ArgumentParser(prog="check/%s/run" % os.path.basename(sys.path[0]),
-                                   description=about.split("\n")[0])
+    name = os.path.basename(sys.path[0]), os.path.basename(sys.argv[0])
+    return argparse.ArgumentParser(prog="check/%s/%s" % name, description=about.split("\n")[0])
 
 
 def read(it):

@@ -11,8 +11,10 @@ import time
 LIFE, FAMILY = 86_400, 2_592_000
 CODE, ACCESS, REFRESH = 1, 2, 3
 SCOPE, REDIRECT = b"read write", b"https://app.example/callback"
-CLIENT_ADDED, SUBJECT_OUT, ACCESS_REFRESHED = 1, 10, 12  # kinds of facts
+CLIENT_ADDED, TOKEN_REVOKED, SUBJECT_OUT, ACCESS_REFRESHED = 1, 8, 10, 12  # kinds of facts
 LIMITED_ADDED, SECRET_SET = 13, 15
+# Of each kind in whose facts an operator may be named: the number of those with one.
+WITH_OPERATOR = {1: 16, 13: 17, 2: 18, 3: 19, 4: 20, 8: 21, 10: 22, 15: 23}
 KEEPING = 3  # the client kind of a client that keeps its refresh token
 MARKED = {b"OTB3", b"OTB5", b"OTB6"}  # the versions with marks, and so with a horizon
 MARK = 10  # the length of the mark of a skipped fact, its dot
@@ -83,6 +85,32 @@ def consent(at, of, subject, scope=b"read"):
 
 def withdrawal(at, of):
     return dot(at) + b"\4" + dot(of)
+
+
+def revocation(at, kind, of, client):
+    """The revocation of the token of this kind that the fact at a dot minted, by its client."""
+    return (dot(at) + bytes((TOKEN_REVOKED,)) + dot(of) + bytes((kind,)) + digest(kind, of)
+            + dot(client))
+
+
+def sign_out(at, subject, moment=1000):
+    return dot(at) + bytes((SUBJECT_OUT,)) + text(subject) + struct.pack(">Q", moment)
+
+
+def administered(fact, operator, moment=1000):
+    """The fact with an operator, from the fact without one."""
+    kind = bytes((WITH_OPERATOR[fact[MARK]],))
+    return fact[:MARK] + kind + fact[MARK + 1:] + text(operator) + struct.pack(">Q", moment)
+
+
+def each_administered(region, operator=b"root"):
+    """A fact of each kind in which an operator may be named, with this one."""
+    at = [(region, serial) for serial in range(9)]
+    return [administered(it, operator) for it in (
+        client(*at[1]), limited_client(*at[2]), retirement(at[3], at[2]),
+        consent(at[4], at[1], b"ann"), withdrawal(at[5], at[4]),
+        revocation(at[6], REFRESH, (ELSEWHERE, 1), at[1]), sign_out(at[7], b"ann"),
+        secret_set(at[8], at[1], 1, b"n3w"))]
 
 
 def mark(region, serial):
@@ -191,8 +219,7 @@ def version_of(items):
     """The first version that has all of these items."""
     marked = any(len(it) == MARK for it in items)
     kinds = {it[MARK:MARK + 2] for it in items if len(it) > MARK}
-    newest = ACCESS_REFRESHED, LIMITED_ADDED, SECRET_SET
-    if any(it[0] in newest or it == bytes((CLIENT_ADDED, KEEPING)) for it in kinds):
+    if any(it[0] > SUBJECT_OUT or it == bytes((CLIENT_ADDED, KEEPING)) for it in kinds):
         return b"OTB5" if marked else b"OTB4"
     if marked:
         return b"OTB3"

@@ -10,6 +10,8 @@ KINDS = {1: "client_added", 2: "client_retired", 3: "consent_given", 4: "consent
          5: "code_issued", 6: "code_redeemed", 7: "refresh_rotated", 8: "token_revoked",
          9: "reuse_seen", 10: "subject_out", 12: "access_refreshed", 13: "client_added",
          15: "secret_set"}
+# Of each number of facts in which an operator is named: the number of those without one.
+WITH_OPERATOR = {16: 1, 17: 13, 18: 2, 19: 3, 20: 4, 21: 8, 22: 10, 23: 15}
 LIMITED = 13  # the kind of a client that is added with lives of its own
 CLIENT_KINDS = ["public", "confidential", "resource", "confidential"]
 KEEPING = 3  # the client kind of a confidential client that keeps its refresh token
@@ -132,6 +134,11 @@ def fields_of(kind, item):
     return readers[kind](item)
 
 
+def operator_of(item):
+    """By whom and when a fact was administered."""
+    return {"operator": item.text(), **moment("moment", item.number(8))}
+
+
 def mark_at(dot, horizon):
     """The object of a mark."""
     return {"dot": dot, "kind": MARK, **moment("horizon", horizon)}
@@ -148,9 +155,14 @@ def items_of(piece, horizon):
         region, first = map(int, dot.split(":"))
         return [mark_at("%d:%d" % (region, serial), horizon)
                 for serial in range(first, reader.number(8) + 1)]
-    kind = KINDS[number]
+    bare = WITH_OPERATOR.get(number, number)
+    kind = KINDS[bare]
     fields = {"dot": dot, "kind": kind, **fields_of(kind, reader)}
-    return [{**fields, **lives(reader)} if number == LIMITED else fields]
+    if bare == LIMITED:
+        fields.update(lives(reader))
+    if bare != number:
+        fields["by"] = operator_of(reader)
+    return [fields]
 
 
 def bundle_of(reader):

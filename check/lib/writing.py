@@ -61,6 +61,11 @@ def secret_set(turn, moment=1020, of=(1, 1)):
     return fact(15, dot(*of) + number(turn, 8) + DIGEST + moments(moment), 6)
 
 
+def by(operator=b"root", moment=1030):
+    """The bytes behind the fields of a fact in which an operator is named."""
+    return text(operator) + moments(moment)
+
+
 def client(sort, uris):
     secret = DIGEST if sort else b""
     return number(sort, 1) + secret + text(b"read") + number(len(uris), 1) + b"".join(
@@ -115,6 +120,28 @@ BUNDLES = {
         [secret_set(1000000, LAST, (65535, 2**63 - 1))], b"OTB4"),
     "a change of a secret and a mark": bundle([dot(1, 3), secret_set(2, 0)], b"OTB5",
                                               moments(1100)),
+    "a public client by an operator": bundle([fact(16, client(0, [URI]) + by())], b"OTB4"),
+    "a client that keeps its refresh token, by an operator of a byte": bundle(
+        [fact(16, client(3, [URI]) + by(b"!", 0))], b"OTB4"),
+    "a client with lives, by an operator of 128 bytes": bundle(
+        [fact(17, client(1, [URI] * 8) + moments(600, 3600, 604800) + by(b"~" * 128, LAST))],
+        b"OTB4"),
+    "a retired client by an operator": bundle([fact(18, dot(1, 1) + by(), 9)], b"OTB4"),
+    "a consent by an operator": bundle(
+        [fact(19, dot(1, 1) + text(b"ann") + text(b"read write") + by(), 2)], b"OTB4"),
+    "a withdrawn consent by an operator": bundle([fact(20, dot(1, 2) + by(), 3)], b"OTB4"),
+    "a refresh token that was revoked by an operator": bundle(
+        [fact(21, dot(1, 4) + b"\3" + OTHER + dot(1, 1) + by(), 6)], b"OTB4"),
+    "a sign-out by an operator with escapes": bundle(
+        [fact(22, text(b"ann") + moments(1020) + by(b'"\\"root\\!~'), 5)], b"OTB4"),
+    "a change of a secret by an operator of all visible bytes": bundle(
+        [fact(23, dot(1, 1) + number(1, 8) + DIGEST + moments(1020)
+              + by(bytes(range(0x21, 0x7F))), 6)], b"OTB4"),
+    "a mark, and a sign-out by an operator": bundle(
+        [dot(1, 3), fact(22, text(b"ann") + moments(7) + by(), 5)], b"OTB5", moments(1100)),
+    "a run of marks, and retired clients, one by an operator": bundle(
+        [run(1, 3, 4), fact(18, dot(1, 1) + by(), 9), fact(2, dot(1, 1), 10)], b"OTB6",
+        moments(1100)),
     "marks": marks(1100, (1, 3), (1, 4), (2, 1)),
     "a mark and a fact": bundle([dot(1, 3), sign_out(b"ann", 7, 4)], b"OTB3", moments(LAST)),
     "a run of marks": bundle([run(1, 3, 4)], b"OTB6", moments(1100)),

@@ -12,7 +12,7 @@ HERE = os.path.dirname(os.path.abspath(__file__))
 SECONDS = 60
 FIELDS = "seen mark pass at span clock marks count refused".split()
 FOR_GOOD = 1 << 62  # a span without end
-MOST_FAULTS = 3  # of one sweep
+MAX_FAULTS = 3  # of one sweep
 
 
 class Table:
@@ -110,7 +110,7 @@ def sweep(lab, title, trial, is_whole, offset, stride):
     returns how many failed, and what is wrong, or None.
     """
     at, faults, span = 1 + offset, 0, FOR_GOOD if is_whole else 1
-    while faults < MOST_FAULTS:
+    while faults < MAX_FAULTS:
         lab.count()
         refused, wrong = trial(at, span)
         if at == 1 and not refused:

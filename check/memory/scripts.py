@@ -10,7 +10,7 @@ import re
 
 import variant
 from lib import Broken
-from refusal import FOR_GOOD, MOST_FAULTS
+from refusal import FOR_GOOD, MAX_FAULTS
 from story import NOTHING
 
 TOOK = re.compile(rb"took (\d+)$")
@@ -129,7 +129,7 @@ def sweep(judge, made, is_whole, offset, stride):
     script = "\n".join(made.texts).encode()
     span = judge.whole_span(made) if is_whole else 1
     at, faults, runs, ends = 1 + offset, 0, 0, 0
-    while faults < MOST_FAULTS:
+    while faults < MAX_FAULTS:
         judge.lab.count()
         ran = judge.run(script, at=at, span=span, **judge.counting(made))
         wrong, runs, ends = judge.wrong(made, ran), runs + 1, ends + ran.is_out_of_memory()

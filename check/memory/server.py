@@ -13,15 +13,18 @@ NOW = 1_700_000_000  # the time of every server
 ANSWERED = (b"HTTP/1.1 2", b"HTTP/1.1 3", b"HTTP/1.1 400")
 
 
-def http(method, target, auth="-", subject="-", body="-"):
-    """The bytes of a request, of the fields that a script's `req` line has."""
-    fields = ("Authorization: Basic ", auth), ("X-Subject: ", subject)
+def http(method, target, auth="-", subject="-", body="-", operator="-"):
+    """The bytes of a request, of the fields that a script's `req` line has, or of an operator."""
+    fields = (("Authorization: Basic ", auth), ("X-Subject: ", subject),
+              ("X-Operator: ", operator))
     sent = body if isinstance(body, bytes) else b"" if body == "-" else body.encode()
     return request(method, target, sent, *(name + it for name, it in fields if it != "-"))
 
 
 def request_of(text):
-    """The bytes of a `req` line. The region and the moment are the server's."""
+    """The bytes of a `req` line, behind which an operator may be. Region and moment are the
+    server's.
+    """
     return http(*text.split()[3:])
 
 

@@ -18,22 +18,23 @@ from server import NOTHING, PULL, PULL_RUNS, VECTOR, Server, http, push, request
 
 PARTS = " --log-part 65536"  # a start looks for 9,998 later parts: as many allocations
 PRUNED = " --prune 1702592000"  # the families of the old log are over at this moment
-PASSING = (5, 6, 7, 8, 9)  # the kinds of facts that may be skipped
+PASSING = (5, 6, 7, 8, 9, 21)  # the kinds of facts that may be skipped
 DIGEST = slice(31, 63)  # of a code's fact
 REGION, OLD_REGION, OTHER_REGION, READER = 1, 2, 3, 9
 LOOK = "req 1 0 POST /introspect <c2-2:s3cret> - token="
 
-# The stories of many.py ask for client c1-1; region 2 adds the clients here.
+# The stories of many.py ask for client c1-1; region 2 adds the clients here. The last word of a
+# line, behind the form, is an operator.
 OLD = """
 req 2 0 POST /admin/client - - kind=confidential&secret=s3cret&scope=read&redirects=https://a.test/
 req 2 0 POST /admin/client - - kind=resource&secret=s3cret&scope=read&redirects=https://b.test/
-req 2 0 CONSENT ann
+req 2 0 CONSENT ann root
 req 2 0 ASK ann - => code1
 req 2 0 ASK ann - => code2
 req 2 0 REDEEM {code1} => access1 refresh1
 """
 FAMILY = """
-req 3 0 CONSENT s{n} => consent{n}
+req 3 0 CONSENT s{n} root => consent{n}
 req 3 0 ASK s{n} - => grant{n}
 req 3 0 REDEEM {grant{n}} => access3{n} refresh3{n}
 req 3 0 ROTATE {refresh3{n}} => access4{n} refresh4{n}
@@ -41,13 +42,15 @@ req 3 0 ROTATE {refresh3{n}} => access4{n} refresh4{n}
 ENDS = [
     "req 3 0 REVOKE {access4{n}}",
     "req 3 0 ROTATE {refresh3{n}}",
-    "req 3 0 POST /admin/signout - - subject=s{n}",
-    "req 3 0 WITHDRAW {consent{n}}",
+    "req 3 0 POST /admin/signout - - subject=s{n} root",
+    "req 3 0 WITHDRAW {consent{n}} root",
+    """req 3 0 GET /admin/subject?subject=s{n} - - - => client id same login{n}
+req 3 0 POST /admin/logout - - login_id={login{n}} root""",
 ]
 ASKED = """
 req 1 0 POST /admin/client - - kind=public&scope=read&redirects=https://c.example/
 req 1 0 REDEEM {code2}
-req 1 0 POST /admin/logout - - login_id=l2-5
+req 1 0 POST /admin/logout - - login_id=l2-4
 req 1 0 POST /admin/secret - - client_id=c2-2&secret=n3w
 req 1 0 POST /admin/secret - - client_id=c2-1&secret=n3w&old=ended
 req 1 0 ROTATE {refresh1}
@@ -60,6 +63,19 @@ req 1 0 POST /admin/retire - - client_id=c2-1
 req 1 0 GET /admin/clients - - -
 req 1 0 GET /admin/subject?subject=ann - - -
 """
+
+LONGEST = "~" * 128
+BY_OPERATORS = """
+req 1 0 POST /admin/client - - kind=public&scope=read&redirects=https://c.example/ {longest}
+req 1 0 GET /admin/client?client_id=c2-1 - - - root
+req 1 0 POST /admin/secret - - client_id=c2-1&secret=n3w root
+req 1 0 CONSENT bob root
+req 1 0 POST /admin/withdraw - - consent_id=g2-3 root
+req 1 0 POST /admin/logout - - login_id=l2-4 {longest}
+req 1 0 POST /admin/signout - - subject=ann root
+req 1 0 POST /admin/retire - - client_id=c2-1 root
+req 1 0 POST /admin/retire - - client_id=c2-1 {longest}~
+""".replace("{longest}", LONGEST)
 
 # requests that a region with these options decides otherwise than the profile; 9:1 is not known
 CHOICES = " --revoke-unseen none --consent held --redirects https,app --refresh-seen client" \
@@ -117,6 +133,11 @@ class Scene:
             yield Request(event.text[8:60] + CHOICES, sent, options=CHOICES)
         yield Request("GET /sync/vector", VECTOR)
         yield Request("POST /sync/pull", PULL)
+
+    def by_operators(self):
+        """Requests of each path that administers, and one whose operator is malformed."""
+        for event in events_of(BY_OPERATORS):
+            yield Request(event.text[8:60] + " by an operator", request_of(event.text))
 
     def pull_with_runs(self):
         """A pull of a page with runs, at a server that pruned what it loaded."""

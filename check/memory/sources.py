@@ -14,11 +14,13 @@ NUMBER = 65535  # of the region that loads what is checked
 CUT, BAD = b"OTB1\0", b"OTB9\0\0"
 VECTOR = BUNDLES["a vector"]
 OTHER = BUNDLES["a resource server"]  # another fact at the dot of the first one of each log
-SHORT = b"".join(BUNDLES[name] for name in ("a public client", "a code", "a mark and a fact"))
+SHORT = b"".join(BUNDLES[name] for name in (
+    "a public client", "a code", "a mark and a fact", "a retired client by an operator"))
 # Longer than what is read at once.
 LONG = b"".join([BUNDLES[name] for name in (
     "a confidential client", "a consent", "a code with a challenge", "a redeemed code",
-    "a rotation", "a revoked refresh token", "a reused code", "marks", "a retired client")]
+    "a rotation", "a refresh token that was revoked by an operator", "a reused code", "marks",
+    "a retired client by an operator")]
     + [bundle([fact(3, dot(1, 1) + text(b"a" * 128) + text(b"b" * 1024), serial)
                for serial in range(10, 74)])])
 

@@ -44,10 +44,10 @@ class Reached(World):
             for method in "POST", "PUT", "HEAD":
                 self.assertEqual(self.ask(path, method)[0], 405, path)
 
-    def test_many_guesses(self):
+    def test_many_guesses_of_a_password_get_429(self):
         self.assertTrue(until(lambda: self.ask("/", word="guess")[0] == 429, step=0))
 
-    def test_other_addresses(self):
+    def test_the_page_listens_at_one_address_alone(self):
         with self.assertRaises(ConnectionRefusedError):
             http.client.HTTPConnection("127.0.0.2", self.page, timeout=10).connect()
 
@@ -82,7 +82,7 @@ class Alone(Seen):
 class Read(Seen):
     """The page whose Prometheus is gone."""
 
-    def test_without_prometheus(self):
+    def test_the_page_says_that_prometheus_does_not_reply(self):
         self.assert_said("#alerts", "! Alerts aren't read: Prometheus doesn't reply.")
 
     def test_markup_of_a_site_is_text(self):
@@ -109,7 +109,7 @@ class Read(Seen):
                 self.assertEqual(refused, "TypeError")
         self.assertIsNone(self.browser.run("return window.evil"))
 
-    def test_by_keyboard(self):
+    def test_the_keyboard_reaches_each_control_and_pauses_the_page(self):
         """All that can be used is reached by Tab, also after the page has shown what is new."""
         it, reached = self.browser, []
         for _ in range(7):

@@ -7,7 +7,7 @@ from lib.command import GIVEN
 from world import Watched, need_all
 
 CARRY, PAUSE = 5, 0.5  # seconds between two runs of carriers, and between requests
-MOST_HEAP = 50_000_000  # bytes of the page's script
+MAX_HEAP = 50_000_000  # bytes of the page's script
 PICTURE = 1000, 1180, 0.8  # pixels of the page, and the scale of its picture
 
 
@@ -66,4 +66,4 @@ class Watch(Watched):
         time.sleep(fifth)
         self.assert_none_bad()
         self.assert_said("#alerts", "TokendPeerUnreached one ended at")
-        self.assertLess(self.browser.run("return performance.memory.usedJSHeapSize"), MOST_HEAP)
+        self.assertLess(self.browser.run("return performance.memory.usedJSHeapSize"), MAX_HEAP)

@@ -80,7 +80,7 @@ class Made(unittest.TestCase):
                              or line.startswith("-rwxr-xr-x"), line)
             self.assertNotIn("__pycache__", name)
 
-    def test_wrong_arguments(self):
+    def test_wrong_arguments_end_make_with_status_2(self):
         for words in ([], ["nowhere"], [self.folder], ["--version", "x y", GIVEN.program]):
             self.assertEqual(run([TOP + "/packaging/make", *words])[0], 2, words)
 

@@ -283,7 +283,7 @@ class ByWho(Mailbox):
 @unittest.skipUnless(CAN, LACKING)
 class Programs(MailCase):
     @unittest.skipUnless(shutil.which("curl"), "passed over: no curl")
-    def test_curl(self):
+    def test_curl_gets_in_by_an_access_token_alone(self):
         def ask(token):
             done = subprocess.run(
                 ["curl", "-q", "-s", "--noproxy", "*", "-m", "30", "--cacert",
@@ -295,7 +295,7 @@ class Programs(MailCase):
         self.assertEqual(ask(self.tokens["refresh_token"]), (67, ""))
 
     @unittest.skipUnless(shutil.which("mutt"), "passed over: no mutt")
-    def test_mutt(self):
+    def test_mutt_logs_in_also_after_its_access_token_expired(self):
         """A login, and one after the access token has expired."""
         self.fill("muttrc", example("mail/muttrc").replace("@TOKEN@", SCRIPT).replace(
             "@FILE@", self.file).replace("@mail.example/", "@127.0.0.1:%d/" % self.imap)
@@ -307,7 +307,7 @@ class Programs(MailCase):
         self.assertEqual(self.sent(), 1)
 
     @unittest.skipUnless(shutil.which("aerc"), "passed over: no aerc")
-    def test_aerc(self):
+    def test_aerc_reads_mail_by_a_token_that_is_refreshed(self):
         """It keeps its first refresh token, so it gets none, but the access token."""
         self.change(expiry=0)
         self.assertEqual(self.aerc(self.filled(
@@ -316,7 +316,7 @@ class Programs(MailCase):
         self.assertEqual(self.sent(), 1)
 
     @unittest.skipUnless(shutil.which("offlineimap"), "passed over: no offlineimap3")
-    def test_offlineimap(self):
+    def test_offlineimap_fetches_mail_by_a_token_that_is_refreshed(self):
         """It keeps its first refresh token, so it gets none, but the access token."""
         self.change(expiry=0)
         self.fill(".offlineimap.py", self.filled(

@@ -78,7 +78,7 @@ class FreePorts(Case):
         return place, output.split()[-1]
 
     @unittest.skipUnless(os.path.exists(OAUTH2), "passed over: no " + OAUTH2)
-    def test_mutt_oauth2(self):
+    def test_mutt_oauth2_logs_in_at_a_free_port(self):
         with open(OAUTH2, encoding="utf-8") as file:
             text = file.read()
         for old, new in (("['gpg', '--encrypt', '--recipient', 'YOUR_GPG_IDENTITY']", "['cat']"),

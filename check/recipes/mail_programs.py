@@ -120,7 +120,7 @@ class Programs(SmtpCase):
         self.assertEqual(self.sent(), 1)
 
     @unittest.skipUnless(shutil.which("msmtp"), "passed over: no msmtp")
-    def test_msmtp(self):
+    def test_msmtp_sends_mail_by_a_token_that_is_refreshed(self):
         path = self.folder + "/msmtprc"
         with open(os.open(path, os.O_WRONLY | os.O_CREAT, 0o600), "w") as file:
             file.write(example("mail/msmtprc").replace("@TOKEN@", SCRIPT).replace(
@@ -132,7 +132,7 @@ class Programs(SmtpCase):
                                         check=False))
 
     @unittest.skipUnless(os.path.exists(NODEMAILER), "passed over: no node-nodemailer")
-    def test_nodemailer(self):
+    def test_nodemailer_sends_mail_by_a_token_that_is_refreshed(self):
         """It keeps its first refresh token, so it gets none, but the access token."""
         text = self.filled(recipe("// nodemailer, with a command"), ("mail.example", "127.0.0.1"),
                            ('"token", ["ann.json"]', '"%s", ["%s"]' % (SCRIPT, self.file)),

@@ -250,21 +250,21 @@ class Tokens(TokenCase):
 
 
 class Arguments(TokenCase):
-    def test_a_denial(self):
+    def test_a_login_that_is_denied_keeps_no_tokens(self):
         self.assertEqual(self.log_in("bob"), (1, "token: access_denied: log in again"))
         self.assertFalse(os.path.exists(self.file + ".tokens"))
 
-    def test_wrong_arguments(self):
+    def test_wrong_arguments_end_the_script_with_status_2(self):
         for words in [], ["--log", self.file], [self.file, "--login"]:
             it = subprocess.run([SCRIPT, *words], capture_output=True, text=True, check=False)
             self.assertEqual((it.returncode, it.stdout), (2, ""), words)
 
-    def test_help(self):
+    def test_help_is_printed_with_status_0(self):
         it = subprocess.run([SCRIPT, "--help"], capture_output=True, text=True, check=False)
         self.assertEqual((it.returncode, it.stderr), (0, ""))
         self.assertIn("token --login FILE", it.stdout)
 
-    def test_wrong_settings(self):
+    def test_a_setting_that_lacks_is_named(self):
         with open(self.file, "w", encoding="utf-8") as file:
             file.write('{"client_id": "c1-1"}')
         self.assertEqual(self.call("--login")[::2],

@@ -109,7 +109,7 @@ class Webmail(MailCase):
 
 
 class WithSessionsOfPhp(Webmail):
-    def test_a_login(self):
+    def test_the_mailbox_is_listed_after_a_login(self):
         self.enter()
         status, _, said = self.list()
         self.assertEqual(status, 200)

@@ -27,7 +27,7 @@ class WhoItIs(AppCase):
         self.assertEqual(json.loads(body), {"active": True, "client_id": self.client,
                                             "scope": "read", "sub": "ann"})
 
-    def test_nobodys_tokens(self):
+    def test_tokens_that_are_nobodys_get_401(self):
         """A refresh token, no token of tokend, a revoked one, a client's id and secret."""
         tokens = self.log_in()
         self.refused(tokens["refresh_token"])

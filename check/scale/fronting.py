@@ -8,12 +8,14 @@ from lib.asking import basic
 from lib.cases import Case
 from lib.facts import ACCESS, handle
 from lib.fronts import FIRST, HAPROXY, Front, copy_maps
+from lib.listing import operators
 from lib.server import Tokend
 from lib.waiting import until
 
 ELSE = "AQIAAQAAAAAAAAABAAAAAAAAAAAAAAAAAAAAAAAAAAAAAAAA"  # a token of region 1, never made
 NOT_FOUND = 404, b'{"error":"not_found"}'
 INVALID = 400, b'{"error":"invalid_request"}'
+TWICE = {"X-Operator": "root", "x-operator": "root"}
 
 
 class AskedFront(Front):
@@ -152,6 +154,52 @@ class Fronts(Case):
         return [it for it in ("s3cret", "one", "two", "three")
                 if self.sites[name].ask_as("POST", "/revoke", {"token": "none"}, **{
                     "Authorization": "Basic " + basic(self.client, it)})[0] == 200]
+
+    def administer(self, path, **form):
+        """What the inner side replies to a request by root."""
+        status, _, said = self.front.ask("POST", path, form, True, **{"X-Operator": "root"})
+        self.assertIn(status, (200, 201), said)
+        return next(iter(json.loads(said).values()))
+
+    def named(self):
+        """The kinds and operators of those facts of both sites that name one."""
+        return sorted(operators(b"".join(page for it in self.sites.values()
+                                         for page in it.pages())))
+
+    def test_the_inner_side_passes_on_who_administers(self):
+        self.enrol()
+        self.sign_in()
+        self.assertEqual(self.named(), [])
+        added = self.administer("/admin/client", kind="public", scope="read",
+                                redirects="https://a.test/")
+        self.administer("/admin/retire", client_id=added)
+        given = self.administer("/admin/consent", client_id=self.client, subject="ann",
+                                scope="read")
+        self.administer("/admin/withdraw", consent_id=given)
+        self.administer("/admin/secret", client_id=self.client, secret="n3w")
+        self.administer("/admin/logout", login_id=self.logins("dan")[0][0])
+        self.administer("/admin/signout", subject="dan")
+        self.assertEqual(self.named(), [(kind, "root") for kind in (
+            "client_added", "client_retired", "consent_given", "consent_withdrawn", "secret_set",
+            "subject_out", "token_revoked")])
+
+    def test_no_operator_of_a_client_goes_on_to_a_site(self):
+        """A site refuses a field that comes twice, on each path: HAProxy removes both."""
+        self.enrol()
+        access, refresh = self.sign_in()
+        where = "/authorize?response_type=code&client_id=" + self.client
+        dan = {"Authorization": "Basic " + basic("dan", "dan-word")}
+        for method, path, form, mine, status in (
+                ("GET", where, None, dan, 302),
+                ("POST", "/introspect", {"token": access}, self.mine, 200),
+                ("POST", "/token", {"grant_type": "refresh_token", "refresh_token": refresh},
+                 self.mine, 200),
+                ("POST", "/revoke", {"token": access}, self.mine, 200)):
+            said = self.sites["two"].ask_as(method, path, form, **mine, **TWICE)
+            self.assertEqual(said[::2], (400, b'{"error":"bad_request"}'), path)
+            said = self.front.ask(method, path, form, **mine, **TWICE)
+            self.assertEqual(said[0], status, path)
+        self.assertEqual(self.named(), [])
 
     def test_unknown_logins_and_requests_that_name_none(self):
         for login, where in ("l1-999", "one/one"), ("l%d-999" % FIRST["two"], "two/two"):

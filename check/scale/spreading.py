@@ -201,7 +201,7 @@ class Spreads(Case):
         self.assert_soon({1: 1, 50: 1}, two.held_to)
         self.assertEqual(spread.said(), "")
 
-    def test_wrong_arguments(self):
+    def test_wrong_arguments_end_spread_with_status_2(self):
         for word in "http://127.0.0.1:1", "http://127.0.0.1:1=/absent", "https://a=/", "x=/":
             done = subprocess.run([OUT + "/spread", word, word], capture_output=True, check=False,
                                   timeout=10)

@@ -74,6 +74,6 @@ class Starts(Case):
         self.assertEqual(self.near(two), [])
         two.child = first
 
-    def test_wrong_settings(self):
+    def test_wrong_arguments_end_a_start_with_status_6(self):
         for words in (["site"], ["site", "0", "x-9"], ["site", "0", ""]):
             self.assertEqual(self.run_script("scale-out/start", *words)[0], 6, words)

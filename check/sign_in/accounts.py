@@ -185,7 +185,7 @@ class AccountAttacks(AccountCase):
 @unittest.skipUnless(IS_HERE, LACKING)
 @need_browser
 class AccountInABrowser(AccountCase):
-    def test_an_account(self):
+    def test_the_account_page_ends_one_login_and_then_all(self):
         cookie, _ = self.sign_in()
         tokens = [self.log_in(cookie) for _ in range(2)]
         it, front = browser(self), "https://127.0.0.1:%d" % self.port

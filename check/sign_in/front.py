@@ -41,7 +41,8 @@ class FrontCase(Case):
         os.chmod(self.folder, 0o711)  # nginx works as a user of its own
         self.make_folder()
         self.region, self.port = self.tokend(1, options=(
-            "--socket", self.path("front/socket"), "--inner", self.path("inner"))), free_port()
+            "--socket", self.path("front/socket"), "--inner", self.path("inner"),
+            "--log", "{}/log")), free_port()
         self.pages = free_port()
         self.begin_pages()
         self.begin_nginx()

@@ -153,7 +153,7 @@ class Attacks(FrontCase):
                 "csrf": token, "next": place, "name": "ann", "password": WORDS["ann"]})
             self.assertEqual((said.status, said.place, said.cookies), (400, "", []), place)
 
-    def test_session_fixation(self):
+    def test_a_planted_cookie_is_nobodys_after_a_sign_in(self):
         """A cookie that an attacker planted is nobody's after the sign-in."""
         planted = self.ask("GET", "/sign-in")
         cookie = self.cookie_of(planted)

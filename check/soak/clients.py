@@ -8,6 +8,7 @@ from model import handle_of
 SUBJECTS, RECENT = 300, 600
 KINDS = "access_token", "refresh_token"
 CLIENTS, LEAST = 12, 8  # at the beginning, and below which none is retired
+OPERATORS = None, "root", "~" * 128
 
 
 class Client:
@@ -52,16 +53,19 @@ class Ended(typing.NamedTuple):
 
 
 class Clients:
-    """What clients have, and `serials`: by region number, up to which facts are replied."""
+    """What clients have. `serials` are, by region number, up to which facts are replied, and
+    `operators`, by number and serial, who administered.
+    """
 
     def __init__(self, world):
         self.world, self.dice = world, world.dice
         self.clients, self.consents, self.families = [], [], []
-        self.tokens, self.fresh, self.spent, self.ends, self.serials = [], [], [], [], {}
+        self.tokens, self.fresh, self.spent, self.ends = [], [], [], []
+        self.serials, self.operators = {}, {}
         self.ways, self.weights = zip(
             (self.log_in, 300), (self.use, 320), (self.reuse, 40), (self.use_again, 40),
             (self.revoke, 80), (self.sign_out, 6), (self.retire, 1), (self.withdraw, 5),
-            (self.add_client, 2), (self.change_secret, 4), (self.probe, 202))
+            (self.add_client, 2), (self.change_secret, 4), (self.log_out, 6), (self.probe, 196))
 
     def begin(self):
         """Adds the resource server, which all regions ask as, and the first clients."""
@@ -82,6 +86,14 @@ class Clients:
         self.world.count("%s %d" % (target, status))
         return status, said, self.promise(region) if region.serial() > before else None
 
+    def administer(self, region, target, **fields):
+        """What `post` returns, of a request by an operator, or by nobody."""
+        operator = self.dice.choice(OPERATORS)
+        status, said, made = self.post(region, target, operator=operator, **fields)
+        if made:
+            self.operators[made] = operator
+        return status, said, made
+
     def promise(self, region):
         self.serials[region.number] = region.serial()
         return region.number, region.serial()
@@ -95,8 +107,8 @@ class Clients:
     def add_client(self, region, kind="confidential"):
         """Adds a client, and returns it; None if the region refuses."""
         secret = "%032x" % self.dice.getrandbits(128)
-        status, said, _ = self.post(region, "/admin/client", kind=kind, secret=secret,
-                                    scope="read write", redirects=REDIRECT_TEXT)
+        status, said, _ = self.administer(region, "/admin/client", kind=kind, secret=secret,
+                                          scope="read write", redirects=REDIRECT_TEXT)
         if not self.wanted((201,), "a new client", status, said):
             return None
         client = Client(json.loads(said)["client_id"], secret, self.world.round)
@@ -113,16 +125,17 @@ class Clients:
         client.changed = self.world.round
         client.secrets.append("%032x" % self.dice.getrandbits(128))
         ended = {"old": "ended"} if self.world.chance(0.3) else {}
-        status, said, _ = self.post(region, "/admin/secret", client_id=client.id,
-                                    secret=client.secrets[-1], **ended)
+        status, said, _ = self.administer(region, "/admin/secret", client_id=client.id,
+                                          secret=client.secrets[-1], **ended)
         if self.wanted((201, 404), "a new secret", status, said):
             client.secret = client.secrets[-1]
 
     def consent(self, region, client):
         """A consent of a random subject; None if the region doesn't know the client."""
         subject = "u%d" % self.dice.randrange(SUBJECTS)
-        status, said, _ = self.post(region, "/admin/consent", client_id=client.id,
-                                    subject=subject, scope=self.dice.choice(("read", "read write")))
+        status, said, _ = self.administer(
+            region, "/admin/consent", client_id=client.id, subject=subject,
+            scope=self.dice.choice(("read", "read write")))
         self.wanted((201, 200, 404), "a consent", status, said)
         if status not in (200, 201):
             return None
@@ -252,7 +265,7 @@ class Clients:
         if not self.families:
             return
         subject = self.dice.choice(self.families[-300:]).subject
-        status, said, made = self.post(region, "/admin/signout", subject=subject)
+        status, said, made = self.administer(region, "/admin/signout", subject=subject)
         if not self.wanted((200,), "a sign-out", status, said):
             return
         for family in self.families:
@@ -260,12 +273,26 @@ class Clients:
                 self.end(family.tokens, "sign-out")
                 self.ends += [Ended(it, *made, "sign-out") for it in family.tokens if made]
 
+    def log_out(self, region):
+        """Ends the login of a family, one of the newest.
+
+        No region alone promises its end: one may know a second redemption of the code before the
+        redemption whose refresh token was revoked.
+        """
+        if not self.families:
+            return
+        family = self.dice.choice(self.families[-300:])
+        login = "l" + handle_of(family.code).dot.replace(":", "-")
+        status, said, made = self.administer(region, "/admin/logout", login_id=login)
+        if self.wanted((200, 404), "a logout", status, said) and made:
+            self.end(family.tokens, "logout")
+
     def retire(self, region):
         """Retires a client, unless too few are left."""
         if len(self.clients) < LEAST:
             return
         client = self.dice.choice(self.clients)
-        status, said, made = self.post(region, "/admin/retire", client_id=client.id)
+        status, said, made = self.administer(region, "/admin/retire", client_id=client.id)
         if not self.wanted((200, 404), "a retirement", status, said):
             return
         self.clients.remove(client)
@@ -279,7 +306,7 @@ class Clients:
         if not self.consents:
             return
         consent = self.dice.choice(self.consents)
-        status, said, _ = self.post(region, "/admin/withdraw", consent_id=consent.id)
+        status, said, _ = self.administer(region, "/admin/withdraw", consent_id=consent.id)
         if self.wanted((200, 404), "a withdrawal", status, said):
             self.consents.remove(consent)
 

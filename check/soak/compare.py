@@ -30,6 +30,7 @@ class Comparison:
         self.vectors()
         self.learn()
         self.lost_tokens()
+        self.operators()
         self.secrets()
         live = self.introspections()
         regions = self.world.regions
@@ -70,6 +71,17 @@ class Comparison:
                 self.world.found("the fact of %s is lost" % it)
             elif it.ended and self.model.is_active(it.text, self.world.now):
                 self.world.found("active by the model after its %s: %s" % (it.ended, it))
+
+    def operators(self):
+        """Each fact whose reply came has the operator of its request, and one moment."""
+        for (number, serial), operator in self.clients.operators.items():
+            fact = self.model.facts.get("%d:%d" % (number, serial), {})
+            by = fact.get("by", {})
+            moments = {it["moment_seconds"] for it in (by, fact) if by and "moment_seconds" in it}
+            if fact and (by.get("operator") != operator or len(moments) > 1):
+                self.world.found("%s was administered by %s" % (fact, operator))
+        self.world.count("operators", len(self.clients.operators))
+        self.clients.operators.clear()
 
     def secrets(self):
         """Every region takes the secrets that are good by the model. Each client then uses one."""

@@ -25,9 +25,10 @@ def vector_of(serials):
 class Answering(Tokend):
     """A region, with replies of any status. A cut reply, or none, is an OSError."""
 
-    def post(self, target, **fields):
-        """Status and body of the reply to a form."""
-        sent = request("POST", target, urllib.parse.urlencode(fields).encode(), FORM)
+    def post(self, target, operator=None, **fields):
+        """Status and body of the reply to a form, perhaps of an operator."""
+        by = ["X-Operator: " + operator] if operator else []
+        sent = request("POST", target, urllib.parse.urlencode(fields).encode(), FORM, *by)
         status, said = self.send(sent)
         return status, body_of(said)
 

@@ -15,7 +15,7 @@ class Counted(unittest.TestCase):
         with server.connect(sent) as peer:
             self.assertEqual(status_of(rest_of(peer)), 200)
 
-    def test_no_connections(self):
+    def test_a_service_of_0_connections_ends_with_status_0(self):
         with Running("--requests", "0") as server:
             self.assertEqual(server.child.wait(SECONDS), 0)
 

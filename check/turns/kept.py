@@ -58,7 +58,7 @@ class Kept(unittest.TestCase):
             request("POST", "/sync/push", b"OTB9" + bytes(40_000)),
         ]
 
-    def test_pipelined(self):
+    def test_pipelined_requests_get_their_replies_in_order(self):
         """All at once: the replies come in order, none says that the connection ends."""
         with Keeping() as server:
             server.enrol()
@@ -74,7 +74,7 @@ class Kept(unittest.TestCase):
                 self.assertEqual(rest_of(peer, said), b"")
             self.assertEqual(server.errors(), "")
 
-    def test_every_cut(self):
+    def test_requests_cut_at_any_byte_get_the_same_replies(self):
         """Three requests in two pieces, cut at each byte."""
         with Keeping() as server:
             server.enrol()
@@ -89,7 +89,7 @@ class Kept(unittest.TestCase):
                     peer.shutdown(socket.SHUT_WR)
                     self.assertEqual(rest_of(peer), wanted, at)
 
-    def test_splits(self):
+    def test_requests_in_random_pieces_get_the_same_replies(self):
         """Requests in random order and random pieces, of many clients by turns."""
         random.seed(SEED)
         with Keeping() as server:
@@ -155,7 +155,7 @@ class Kept(unittest.TestCase):
                 said = rest_of(peer)
                 self.assertEqual((said.count(b"HTTP/1.1 "), said.count(LINE)), (1, 1))
 
-    def test_idle_ends(self):
+    def test_a_kept_connection_that_stays_idle_ends(self):
         """A kept connection ends some seconds after its last reply, without a byte or a line."""
         with Keeping(keep=KEEP) as server, server.connect(GET) as peer:
             reply_of(peer)

@@ -11,7 +11,7 @@ CLIENTS, ROUNDS = 1500, 3
 RESET = struct.pack("ii", 1, 0)
 PUSH = request("POST", "/sync/push", bytes(1_000_000))[:-1_000_000]
 HALF, PART = 200, 1_000_000  # how many push, and how many bytes each sends of its body
-MOST_GROWN, MOST_HELD = 1 << 20, 64 << 20  # bytes of memory
+MAX_GROWN, MAX_HELD = 1 << 20, 64 << 20  # bytes of memory
 
 
 def read_all(peer):
@@ -52,9 +52,9 @@ class Leaks(unittest.TestCase):
                 self.assertEqual(status_of(rest_of(peer)), 200)
         FIGURES.append("%d clients of each kind took %d KiB more than %d did" % (
             CLIENTS * ROUNDS, (sizes[-1] - sizes[0]) >> 10, CLIENTS))
-        self.assertLess(sizes[-1] - sizes[0], MOST_GROWN)
+        self.assertLess(sizes[-1] - sizes[0], MAX_GROWN)
 
-    def test_half_pushes(self):
+    def test_many_half_pushes_take_bounded_memory(self):
         """Many long bodies at once take bounded memory. Afterwards a push is taken."""
         with Running() as server:
             peers = []
@@ -73,7 +73,7 @@ class Leaks(unittest.TestCase):
             body = b"OTB1\0\0"
             self.assertEqual(server.send(request("POST", "/sync/push", body))[0], 200)
         FIGURES.append("%d half pushes took %d MiB" % (HALF, size >> 20))
-        self.assertLess(size, MOST_HELD)
+        self.assertLess(size, MAX_HELD)
 
 
 def send_more(peer):

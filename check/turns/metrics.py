@@ -92,20 +92,20 @@ class Metrics(Asking):
             for method in "GET", "POST", "HEAD":
                 self.assertEqual(self.said(it.place, request(method, METRICS)), wanted)
 
-    def test_other_methods(self):
+    def test_other_methods_than_get_are_refused_with_405(self):
         it = self.served("--metrics")
         for method in "POST", "PUT", "HEAD":
             said = self.said(it.place, request(method, METRICS))
             self.assertEqual(status_of(said), 405, method)
             self.assertIn(b"\r\nAllow: GET\r\n", said)
 
-    def test_first_text(self):
+    def test_the_first_request_gets_a_text_of_metrics(self):
         """The first request has a text, however soon it comes."""
         it = self.served("--metrics")
         said = samples(body_of(self.said(it.place, request("GET", METRICS))))
         self.assertEqual(said["tokend_held_facts"], 0)
 
-    def test_sockets(self):
+    def test_metrics_are_shown_at_the_inner_socket_alone(self):
         """Operators see them at the inner socket, and clients never."""
         it = self.enterContext(Server(GIVEN.program, "--socket", "{}/socket", "--inner", "{}/inner",
                                       "--metrics"))
@@ -119,7 +119,7 @@ class Metrics(Asking):
                                      **replies("all", {("metrics", 200): 1}),
                                      "tokend_connections_total": 5, "tokend_open_connections": 1})
 
-    def test_counts(self):
+    def test_known_requests_are_counted_exactly(self):
         """Known requests have exact counts."""
         it = self.served("--metrics").enrol()
         before = self.shown(it.place)
@@ -135,7 +135,7 @@ class Metrics(Asking):
                           "tokend_connections_total": 7,
                           "tokend_held_facts": 3})
 
-    def test_endpoints(self):
+    def test_requests_to_each_path_are_counted_apart(self):
         """Each path has its own counts, also of requests that are refused by their heads."""
         it = self.served("--metrics", "--health", "--issuer", "https://a.example")
         before, wanted = self.shown(it.place), {sample("all", "metrics", 200): 1}
@@ -174,7 +174,7 @@ class Metrics(Asking):
             sample("all", "sync/pull", 200): 3, sample("all", "metrics", 200): 1,
             "tokend_connections_total": 4})
 
-    def test_last_push(self):
+    def test_the_last_push_is_the_last_one_taken_in(self):
         """The moment is that of the last push that was taken in, not of one that was refused."""
         it = self.served("--metrics")
         self.assert_shows(it.place, {LAST_PUSH: 0})
@@ -206,7 +206,7 @@ class Metrics(Asking):
         texts = re.findall(rb"# HELP tokend_requests_total.*?(?=HTTP/1.1|\Z)", said, re.S)
         self.assertEqual((len(texts), len(set(texts))), (3, 1))
 
-    def test_horizon(self):
+    def test_the_horizon_of_a_push_is_shown(self):
         it = self.served("--metrics")
         self.assert_shows(it.place, {"tokend_horizon_timestamp_seconds": 0})
         self.assertEqual(it.push([dot((9, 1))], 1234)[0], 200)

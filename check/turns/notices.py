@@ -50,7 +50,7 @@ def query_of(reply):
 
 
 class Notices(Asking):
-    def test_metadata(self):
+    def test_metadata_has_the_issuer_and_the_challenge_methods(self):
         for options, methods in ((), ("plain", "S256")), (("--challenge", "S256"), ("S256",)), \
                 (("--challenge", "all"), ("plain", "S256")):
             it = self.served("--issuer", ISSUER, *options)
@@ -61,7 +61,7 @@ class Notices(Asking):
             self.assertEqual(self.said(it.place, request("GET", METADATA + "?x=y")), said)
             self.assertEqual(it.errors(), "")
 
-    def test_other_methods(self):
+    def test_other_methods_than_get_are_refused_with_405(self):
         it = self.served("--issuer", ISSUER, "--health")
         for path in METADATA, HEALTH:
             for method in "POST", "PUT", "HEAD":
@@ -89,7 +89,7 @@ class Notices(Asking):
             for path in METADATA, HEALTH:
                 self.assertEqual(status_of(self.said(place, request("GET", path))), 200)
 
-    def test_other_spellings(self):
+    def test_other_spellings_of_the_paths_get_404(self):
         it = self.served("--issuer", ISSUER, "--health")
         for path in ("/.well-known/oauth-authorization-server/one", METADATA + "/", HEALTH + "/",
                      "/.well-known/openid-configuration", "/one" + METADATA, "/Health"):
@@ -127,7 +127,7 @@ class Notices(Asking):
         tokens = it.log_in()
         self.assertTrue(it.is_active(tokens["access_token"]))
 
-    def test_health(self):
+    def test_health_of_a_new_service_is_ok(self):
         it = self.served("--health")
         said = self.said(it.place, request("GET", HEALTH))
         self.assertEqual((status_of(said), body_of(said)), (200, b'{"status":"ok"}'))

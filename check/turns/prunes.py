@@ -56,7 +56,7 @@ class Prunes(unittest.TestCase):
             for token in tokens[::97]:
                 self.assertEqual(server.is_active(token), is_active)
 
-    def test_idle(self):
+    def test_an_idle_server_ends_its_pass_and_rests(self):
         """A server that nobody asks ends its pass by itself, and then rests."""
         server = self.started(*MARGIN)
         time.sleep(IDLE)
@@ -68,7 +68,7 @@ class Prunes(unittest.TestCase):
         self.assertEqual(marks_of(server), 2 * LOGINS)
         self.assert_as_ever(server)
 
-    def test_between_requests(self):
+    def test_a_pass_goes_on_between_requests(self):
         server = self.started(*MARGIN)
         end, asked, longest = time.monotonic() + IDLE, 0, 0.0
         while time.monotonic() < end:
@@ -80,7 +80,7 @@ class Prunes(unittest.TestCase):
         self.assertEqual(marks_of(server), 2 * LOGINS)
         self.assert_as_ever(server)
 
-    def test_counted(self):
+    def test_metrics_count_pruned_and_held_facts(self):
         """The metrics have how many facts went, and how many are held."""
         server = self.started(*MARGIN, "--metrics")
         await_that(lambda: marks_of(server) == 2 * LOGINS, "not pruned")
@@ -91,7 +91,7 @@ class Prunes(unittest.TestCase):
         held = sum(len(facts_of(it)) - marks_in(it) for it in server.pages())
         self.assertIn(b"\ntokend_held_facts %d\n" % held, text)
 
-    def test_logs_nothing(self):
+    def test_pruning_appends_nothing_to_the_log(self):
         """The log gets the facts that are made, and no mark."""
         server = self.started(*MARGIN, "--log-taken")
         await_that(lambda: marks_of(server) == 2 * LOGINS, "not pruned")
@@ -100,7 +100,7 @@ class Prunes(unittest.TestCase):
         self.assertEqual(len(facts_of(server.logged())), 1)
         self.assertEqual(marks_in(server.logged()), 0)
 
-    def test_off(self):
+    def test_without_the_option_nothing_is_pruned(self):
         server = self.started()
         time.sleep(IDLE)
         self.assertEqual(marks_of(server), 0)
@@ -128,7 +128,7 @@ class Prunes(unittest.TestCase):
         clock.set(int(time.time()))
         self.assert_as_ever(server)
 
-    def test_values(self):
+    def test_a_wrong_margin_is_refused_at_the_start(self):
         for value in "86399", "1000000000", "x", "":
             ended = subprocess.run(
                 [GIVEN.program, "serve", "--region", "1", "--port", "0", "--seed", "none",

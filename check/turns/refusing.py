@@ -69,7 +69,7 @@ class Refusing(unittest.TestCase):
         self.assertLess(1, at)
         return at - 1, lost
 
-    def test_one_allocation(self):
+    def test_one_failed_allocation_loses_one_reply_at_most(self):
         counts = self.sweep(1)
         FIGURES.append("in a turn of %d clients each of %d allocations failed once: %d replies lost"
                        % (CLIENTS, *counts))

@@ -55,18 +55,18 @@ class Repeats(unittest.TestCase):
         left = said_in(server.wanted(200, sent))["expires_in"]
         self.assertIn(first["expires_in"] - left, range(1, 30))
 
-    def test_off(self):
+    def test_a_repeat_is_a_reuse_unless_the_option_is_on(self):
         for options in (), ("--repeat", "0"):
             server = self.started(*options)
             self.assert_reused(server, *self.refreshed(server))
 
-    def test_too_late(self):
+    def test_a_repeat_that_is_too_late_is_a_reuse(self):
         server = self.started("--repeat", "1")
         sent, first = self.refreshed(server)
         time.sleep(2.5)
         self.assert_reused(server, sent, first)
 
-    def test_other_parameters(self):
+    def test_a_repeat_with_other_parameters_is_a_reuse(self):
         server = self.started("--repeat", "60")
         for more in {"scope": "read"}, {"code": "x"}, {"redirect_uri": "x"}:
             token = server.log_in()["refresh_token"]
@@ -93,7 +93,7 @@ class Repeats(unittest.TestCase):
         self.assertEqual((status, said_in(reply)["error"]), (400, "invalid_request"))
         self.assert_again(server, request("POST", "/token", body.encode(), header), first)
 
-    def test_another_sender(self):
+    def test_another_clients_repeat_is_refused_and_ends_no_login(self):
         server = self.started("--repeat", "60")
         token = server.log_in()["refresh_token"]
         fields = {"grant_type": "refresh_token", "refresh_token": token}

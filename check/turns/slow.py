@@ -49,7 +49,7 @@ class Holding(unittest.TestCase):
             Slow(it, *KINDS[number % len(KINDS)]) for number in range(260)])
         self.closed(clients)
 
-    def test_many_idle(self):
+    def test_many_idle_clients_delay_no_other(self):
         """As many as a service has connections, but for a few."""
         _, clients = self.watched("%d idle clients" % MANY, lambda it: [
             Slow(it) for _ in range(MANY)])

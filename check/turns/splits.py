@@ -88,7 +88,7 @@ class Splits(unittest.TestCase):
                         self.assertEqual(rest_of(it.peer), wanted[sent], sent[:80])
             self.assertEqual(server.errors(), before)
 
-    def test_every_cut(self):
+    def test_a_request_cut_at_any_byte_gets_its_reply(self):
         """A request in two pieces, cut at each byte."""
         with Running() as server:
             server.enrol()

@@ -10,7 +10,7 @@ from shared import (FIGURES, FREE, GET, Running, Syncs, arrived, await_that, dot
 CLIENTS, REFRESHES = 16, 5
 SLOW = 50_000  # microseconds of a sync
 SOON = 0.15  # seconds in which a reply arrives that isn't held back
-MOST_SYNCS = 4  # of sixteen requests that are there at once: one would do, behind the first's
+MAX_SYNCS = 4  # of sixteen requests that are there at once: one would do, behind the first's
 
 
 class Held(unittest.TestCase):
@@ -54,7 +54,7 @@ class Held(unittest.TestCase):
             number += 1
         count = self.syncs.read("ended") - first + 1
         FIGURES.append("%d refreshes that were there at once took %d syncs" % (CLIENTS, count))
-        self.assertLessEqual(count, MOST_SYNCS)
+        self.assertLessEqual(count, MAX_SYNCS)
 
     def test_a_sync_covers_what_is_written(self):
         """No byte of the log is left that no sync covers, once all have their replies."""

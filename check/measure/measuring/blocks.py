@@ -130,7 +130,7 @@ def memory(parts):
     places = "memory", "on the wire", "in a log"
     rows = [["a " + kind] + [it.number("bytes of a %s, %s" % (kind, place)) for place in places]
             for kind in ("login", "refresh", "refresh of a token that is kept",
-                         "change of a secret")]
+                         "change of a secret", "change of a secret by an operator")]
     return it, text_of(["bytes of", *places], rows)
 
 

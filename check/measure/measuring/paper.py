@@ -5,7 +5,7 @@ from measuring import tables
 from measuring.results import Missing, part, text_of
 
 LOGINS, REFRESHES, SITES = 1_000_000, (0, 8, 24), (1, 4, 16)
-MOST_MEMORY, MOST_START, DAY = 16 * 2**30, 60, 86_400  # what a site bears: bytes, seconds
+MAX_MEMORY, MAX_START, DAY = 16 * 2**30, 60, 86_400  # what a site bears: bytes, seconds
 
 
 class Costs:
@@ -59,7 +59,7 @@ class Day:
 
     def limits(self):
         """Days until each limit is met, by its name. A rate that is too great is met at once."""
-        return {"memory": MOST_MEMORY / self.memory, "start": MOST_START / self.start,
+        return {"memory": MAX_MEMORY / self.memory, "start": MAX_START / self.start,
                 "carry": 0 if self.carry > DAY else float("inf"),
                 "processor": 0 if self.processor > DAY else float("inf")}
 
