@@ -21,7 +21,7 @@ import urllib.parse
 from typing import Mapping, NamedTuple, Optional
 
 OWN, UNIX = "own", "unix:"
-MOST_BYTES = 107  # of a socket's path, by sockaddr_un(7)
+MAX_BYTES = 107  # of a socket's path, by sockaddr_un(7)
 STEP = 0.01  # seconds between tries, while a socket has no room for another connection
 
 
@@ -78,8 +78,8 @@ def socket_path(path: str) -> str:
     """The path, if it can be a socket's. Raises ValueError if it can't."""
     if not path or re.search(r"[\s?#@\0]", path) or path.endswith("/"):
         raise ValueError("%r is no path of a socket" % path)
-    if len(os.fsencode(path)) > MOST_BYTES:
-        raise ValueError("%s has over %d bytes" % (path, MOST_BYTES))
+    if len(os.fsencode(path)) > MAX_BYTES:
+        raise ValueError("%s has over %d bytes" % (path, MAX_BYTES))
     return path
 
 

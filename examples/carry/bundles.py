@@ -10,19 +10,19 @@ import struct
 from dataclasses import dataclass
 from typing import Iterator, NamedTuple, Optional
 
-MOST_ITEMS = 128
-MOST_BYTES = 8192  # of a fact
+MAX_ITEMS = 128
+MAX_BYTES = 8192  # of a fact
 MARK = 10  # the bytes of a mark: its dot
 RUN = 14  # where a fact has its kind: a run of marks
-MOST_RUN_ITEMS = 1024  # of a bundle with runs, whose pieces are at most MOST_ITEMS
-CLIENT_ADDED, SUBJECT_OUT, ACCESS_REFRESHED, LIMITED_ADDED, SECRET_SET = 1, 10, 12, 13, 15
-KINDS = {*range(1, 11), ACCESS_REFRESHED, LIMITED_ADDED, SECRET_SET}
+MAX_RUN_ITEMS = 1024  # of a bundle with runs, whose pieces are at most MAX_ITEMS
+CLIENT_ADDED, ACCESS_REFRESHED, NEWEST = 1, 12, 23
+KINDS = {*range(1, NEWEST + 1)} - {11, RUN}  # from 16 on an operator is named
 KEEPING = 3  # the client kind of a client that keeps its refresh token
-GREATEST_SERIAL = 2**63 - 1
-GREATEST_MOMENT = 253_402_300_799
+MAX_SERIAL = 2**63 - 1
+MAX_MOMENT = 253_402_300_799
 # A version: the newest kind that it has, and whether it has marks, and so a horizon.
 VERSIONS = {b"OTB1": (9, False), b"OTB2": (10, False), b"OTB3": (10, True),
-            b"OTB4": (15, False), b"OTB5": (15, True), b"OTB6": (15, True)}
+            b"OTB4": (NEWEST, False), b"OTB5": (NEWEST, True), b"OTB6": (NEWEST, True)}
 RUNS = b"OTB6"  # the version with runs
 VECTOR = b"OTV1"
 FROM_THE_START = bytes(10)  # the cursor of a first page
@@ -55,7 +55,7 @@ class Dot(NamedTuple):
 def read_dot(data: bytes, at: int = 0) -> Dot:
     """The dot at a place of these bytes."""
     dot = Dot(*_DOT.unpack_from(data, at))
-    if dot.region == 0 or not 1 <= dot.serial <= GREATEST_SERIAL:
+    if dot.region == 0 or not 1 <= dot.serial <= MAX_SERIAL:
         raise Malformed("%s is no dot" % (dot,))
     return dot
 
@@ -99,7 +99,7 @@ def items_of(piece: bytes) -> list[bytes]:
     if len(piece) != _RUN.size or piece[MARK] != RUN:
         return [piece]
     (region, first), last = read_dot(piece), _RUN.unpack(piece)[3]
-    if not first < last <= min(GREATEST_SERIAL, first + MOST_RUN_ITEMS):
+    if not first < last <= min(MAX_SERIAL, first + MAX_RUN_ITEMS):
         raise Malformed("a run from %d to %d" % (first, last))
     return [_DOT.pack(region, serial) for serial in range(first, last + 1)]
 
@@ -109,8 +109,8 @@ def _expanded(pieces: tuple[bytes, ...]) -> tuple[bytes, ...]:
     items: list[bytes] = []
     for piece in pieces:
         items += items_of(piece)
-    if len(items) > MOST_RUN_ITEMS:
-        raise Malformed("%d items, more than %d" % (len(items), MOST_RUN_ITEMS))
+    if len(items) > MAX_RUN_ITEMS:
+        raise Malformed("%d items, more than %d" % (len(items), MAX_RUN_ITEMS))
     if _pieces(tuple(items)) != list(pieces) or len(items) == len(pieces):
         raise Malformed("marks that follow one another aren't one run")
     return tuple(items)
@@ -123,9 +123,9 @@ def has_marks(version: bytes) -> bool:
 
 def _check_item(number: int, item: bytes) -> None:
     """Raises Malformed if an item's length, dot or kind is wrong."""
-    if not MARK <= len(item) <= MOST_BYTES:
+    if not MARK <= len(item) <= MAX_BYTES:
         raise Malformed("item %d has %d bytes, not %d to %d"
-                        % (number, len(item), MARK, MOST_BYTES))
+                        % (number, len(item), MARK, MAX_BYTES))
     read_dot(item)
     if len(item) > MARK and item[MARK] not in KINDS:
         raise Malformed("item %d is a fact of the kind %d" % (number, item[MARK]))
@@ -145,8 +145,8 @@ class Bundle:
 
     def __post_init__(self) -> None:
         """Raises Malformed if a bundle has too many items, or items that don't ascend."""
-        if len(self.pieces) > MOST_ITEMS or len(self.items) > MOST_RUN_ITEMS:
-            raise Malformed("%d items, more than %d" % (len(self.items), MOST_ITEMS))
+        if len(self.pieces) > MAX_ITEMS or len(self.items) > MAX_RUN_ITEMS:
+            raise Malformed("%d items, more than %d" % (len(self.items), MAX_ITEMS))
         before = FROM_THE_START
         for number, item in enumerate(self.items, 1):
             _check_item(number, item)
@@ -155,7 +155,7 @@ class Bundle:
             before = item[:MARK]
         if (self.horizon is None) == has_marks(self.version):
             raise Malformed("a horizon without marks, or marks without a horizon")
-        if not 0 <= (self.horizon or 0) <= GREATEST_MOMENT:
+        if not 0 <= (self.horizon or 0) <= MAX_MOMENT:
             raise Malformed("the horizon %d is no moment" % self.horizon)
 
     @property
@@ -179,7 +179,7 @@ class Bundle:
     @property
     def is_full(self) -> bool:
         """Whether a page of these items may be followed by another."""
-        return len(self.pieces) == MOST_ITEMS or len(self.items) == MOST_RUN_ITEMS
+        return len(self.pieces) == MAX_ITEMS or len(self.items) == MAX_RUN_ITEMS
 
     @property
     def cursor(self) -> bytes:
@@ -221,8 +221,8 @@ class Bundle:
 
     def plain(self) -> Iterator[Bundle]:
         """Yields bundles without runs that have all the items."""
-        for begin in range(0, len(self.items), MOST_ITEMS):
-            yield self._of(self.items[begin:begin + MOST_ITEMS], False)
+        for begin in range(0, len(self.items), MAX_ITEMS):
+            yield self._of(self.items[begin:begin + MAX_ITEMS], False)
 
     def halves(self) -> tuple[Bundle, Bundle]:
         middle = len(self.items) // 2
@@ -250,12 +250,12 @@ def _walk(data: bytes, at: int) -> tuple[Optional[int], tuple[bytes, ...], int]:
         (horizon,) = _HORIZON.unpack_from(data, at)
         at += _HORIZON.size
     count = _count_at(data, at)
-    if count > MOST_ITEMS:
-        raise Malformed("%d items, more than %d" % (count, MOST_ITEMS))
+    if count > MAX_ITEMS:
+        raise Malformed("%d items, more than %d" % (count, MAX_ITEMS))
     items, at = [], at + _COUNT.size
     for number in range(1, count + 1):
         size, at = _count_at(data, at), at + _COUNT.size
-        if not MARK <= size <= MOST_BYTES or (size == MARK and not has_marks(magic)):
+        if not MARK <= size <= MAX_BYTES or (size == MARK and not has_marks(magic)):
             raise Malformed("item %d of %r has %d bytes" % (number, magic, size))
         if len(data) - at < size:
             raise Cut("item %d of %d has %d of %d bytes" % (number, count, len(data) - at, size))

@@ -25,13 +25,13 @@ from typing import Callable, Iterator, Optional, TypeVar
 
 sys.path.insert(1, str(Path(__file__).resolve().parent.parent.parent / "starter"))
 from bases import Base, connection_to, read_base
-from bundles import (FROM_THE_START, MARK, MOST_BYTES, MOST_ITEMS, Bundle, Malformed, Vector,
+from bundles import (FROM_THE_START, MARK, MAX_BYTES, MAX_ITEMS, Bundle, Malformed, Vector,
                      read_bundle, read_vector, write_pull)
 
 PAUSES = 1, 2, 4  # seconds between tries
 LONGEST_PAUSE = 30  # of those that a server asks for
-LONGEST_REPLY = 14 + MOST_ITEMS * (2 + MOST_BYTES)
-MOST_SAID = 200  # letters of an error
+LONGEST_REPLY = 14 + MAX_ITEMS * (2 + MAX_BYTES)
+MAX_SAID = 200  # letters of an error
 BYTES = {"Content-Type": "application/octet-stream"}
 T = TypeVar("T")
 MEANINGS = {
@@ -329,7 +329,7 @@ class Server:
 def _text_of(error: Exception) -> str:
     """The text of an error as one printable line, without its number."""
     said = getattr(error, "strerror", None) or str(error) or type(error).__name__
-    return "".join(it if it.isprintable() else "?" for it in said[:MOST_SAID])
+    return "".join(it if it.isprintable() else "?" for it in said[:MAX_SAID])
 
 
 def _lead_over(date: str, moment: float) -> Optional[float]:

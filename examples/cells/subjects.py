@@ -34,13 +34,15 @@ class Away(Wrong):
     """A site that gave no reply."""
 
 
-def ask(site: Site, path: str, form: dict[str, str] | None = None) -> tuple[int, str]:
-    """Status and body of a site's reply."""
+def ask(site: Site, path: str, form: dict[str, str] | None = None,
+        operator: str = "") -> tuple[int, str]:
+    """Status and body of a site's reply. A form is sent in the name of an operator."""
     link = connection_to(read_base(site.url), TIME)
     with contextlib.closing(link):
         try:
             body = None if form is None else urllib.parse.urlencode(form)
-            link.request("GET" if form is None else "POST", path, body, FORM if form else {})
+            fields = {} if form is None else FORM | {"X-Operator": operator}
+            link.request("GET" if form is None else "POST", path, body, fields)
             reply = link.getresponse()
             return reply.status, reply.read().decode(errors="replace").strip()
         except (OSError, http.client.HTTPException) as why:
@@ -48,17 +50,18 @@ def ask(site: Site, path: str, form: dict[str, str] | None = None) -> tuple[int,
             raise Away("%s: %s" % (site.name, said)) from why
 
 
-def ask_first(sites: list[Site], path: str, form: dict[str, str]) -> tuple[int, str]:
+def ask_first(sites: list[Site], path: str, form: dict[str, str],
+              operator: str) -> tuple[int, str]:
     """The reply of the first of these sites that gives one."""
     for it in sites[:-1]:
         with contextlib.suppress(Away):
-            return ask(it, path, form)
-    return ask(sites[-1], path, form)
+            return ask(it, path, form, operator)
+    return ask(sites[-1], path, form, operator)
 
 
-def add_client(table: Table, form: dict[str, str], patience: float) -> str:
+def add_client(table: Table, form: dict[str, str], operator: str, patience: float) -> str:
     """Adds a client at the directory, and waits until all other sites know it. Returns its id."""
-    status, said = ask_first(table.directory, "/admin/client", form)
+    status, said = ask_first(table.directory, "/admin/client", form, operator)
     if status != 201:
         raise Wrong("the directory: %d %s" % (status, said))
     client: str = json.loads(said)["client_id"]
@@ -77,7 +80,7 @@ def add_client(table: Table, form: dict[str, str], patience: float) -> str:
 
 # -- a sign-out
 
-def sign_out_at(sites: list[Site], subject: str) -> str:
+def sign_out_at(sites: list[Site], subject: str, operator: str) -> str:
     """Signs a subject out at the first of a cell's sites that replies, and hands that on.
 
     Returns what went wrong, or nothing. A site that is down has it from the others at its start.
@@ -85,7 +88,7 @@ def sign_out_at(sites: list[Site], subject: str) -> str:
     why = ""
     for it in sites:
         try:
-            status, said = ask(it, "/admin/signout", {"subject": subject})
+            status, said = ask(it, "/admin/signout", {"subject": subject}, operator)
         except Away as error:
             why = str(error)
             continue
@@ -104,7 +107,7 @@ def hand_on(site: Site, others: list[Site]) -> None:
             take(Way(site, it, NUMBERS))
 
 
-def sign_out(table: Table, subject: str, patience: float) -> int:
+def sign_out(table: Table, subject: str, operator: str, patience: float) -> int:
     """Signs a subject out in each cell and in the directory, and tries again each second.
 
     Status 1 if some cell has not replied in time. If the directory has replied, that cell has the
@@ -118,7 +121,7 @@ def sign_out(table: Table, subject: str, patience: float) -> int:
     while True:
         causes: dict[str, str] = {}  # why a cell has not replied, by its name
         for name, sites in list(waiting.items()):
-            why = sign_out_at(sites, subject)
+            why = sign_out_at(sites, subject, operator)
             if why:
                 causes[name] = why
             else:
@@ -197,8 +200,11 @@ def last_end(sites: list[Site]) -> int:
     raise Wrong("a cell is down, and it is not known whether it has live families: %s" % why)
 
 
-def give_again(table: Table, slots: tuple[int, ...], name: str) -> int:
-    """Gives the consents of these slots' subjects at another site too. Returns how many."""
+def give_again(table: Table, slots: tuple[int, ...], name: str, operator: str) -> int:
+    """Gives the consents of these slots' subjects at another site too. Returns how many.
+
+    They name who gives them again, and not who gave them at first.
+    """
     target = table.site(name)
     there, count = consents_of([target, *table.beside(target)]), 0
     cells = {table.home(slot).cell: table.home(slot) for slot in slots}
@@ -209,7 +215,7 @@ def give_again(table: Table, slots: tuple[int, ...], name: str) -> int:
             if slot_of(it.subject) in slots:
                 status, said = ask(target, "/admin/consent", {
                     "client_id": "c" + it.client.replace(":", "-"), "subject": it.subject,
-                    "scope": it.scope})
+                    "scope": it.scope}, operator)
                 if status not in (200, 201):
                     complain("%s: %s: %d %s" % (target.name, it, status, said))
                 count += status == 201

@@ -8,7 +8,7 @@ import time
 from pathlib import Path
 from typing import Callable, Iterator, NamedTuple, NoReturn, Optional
 
-from bundles import GREATEST_SERIAL, MARK, Bundle, Dot, Vector, read_dot
+from bundles import MAX_SERIAL, MARK, Bundle, Dot, Vector, read_dot
 from pushes import Pushed, push_all
 from servers import Access, Lost, Server, pages
 from tables import NUMBERS, Site, Table, Wrong, read_table
@@ -49,7 +49,7 @@ def ways(table: Table) -> Iterator[Way]:
 def limited(vector: Vector, source: Vector, numbers: range) -> Vector:
     """The vector to pull with so that no facts of other numbers come: all of these are known."""
     serials = {it.region: it.serial for it in vector.entries if it.region in numbers}
-    serials |= {it.region: GREATEST_SERIAL for it in source.entries if it.region not in numbers}
+    serials |= {it.region: MAX_SERIAL for it in source.entries if it.region not in numbers}
     return Vector(tuple(Dot(*it) for it in sorted(serials.items())))
 
 

@@ -30,7 +30,8 @@ def button(name, value, text):
 class Account:
     """The live consents and the logins of a subject, as the region lists them now.
 
-    `ask` is a request to the region: method, path and form give status, `Location` and body.
+    `ask` is a request to the region: method, path, form and header fields give status, `Location`
+    and body.
     """
 
     def __init__(self, ask, subject):
@@ -55,8 +56,8 @@ class Account:
         return json.loads(said)
 
     def end(self, path, **form):
-        """Sends the region what ends a login, a consent, or all."""
-        status, _, said = self.ask("POST", path, form)
+        """Sends the region what ends a login, a consent, or all, in the subject's name."""
+        status, _, said = self.ask("POST", path, form, **{"X-Operator": self.subject})
         if status != 200:
             raise Refused(said)
 

@@ -9,11 +9,10 @@ RUN = struct.Struct(">HHQBQ")  # a run's length, its first dot, RUN_KIND, and it
 RUN_KIND = 14  # where a fact has its kind
 DOT = struct.Struct(">HQ")
 HORIZON = struct.Struct(">Q")
-CLIENT_ADDED, SIGN_OUT, ACCESS_REFRESHED = 1, 10, 12  # kinds of facts
-LIMITED_ADDED, SECRET_SET = 13, 15
+CLIENT_ADDED, SIGN_OUT = 1, 10  # kinds of facts; OTB4 and later have those above 10
 KEEPING = 3  # the client kind of a client that keeps its refresh token
-MOST_ITEMS, LEAST_BYTES, MOST_BYTES = 128, 10, 8192
-MOST_RUN_ITEMS = 1024  # of a bundle with runs, whose pieces are at most MOST_ITEMS
+MAX_ITEMS, MIN_BYTES, MAX_BYTES = 128, 10, 8192
+MAX_RUN_ITEMS = 1024  # of a bundle with runs, whose pieces are at most MAX_ITEMS
 
 
 class NoBundle(Exception):
@@ -73,19 +72,19 @@ def bundle_at(data, at):
         return None
     (count,) = struct.unpack_from(">H", data, at + size - 2)
     end, dots = at + size, []
-    if count > MOST_ITEMS:
+    if count > MAX_ITEMS:
         raise no_bundle(at)
     for _ in range(count):
         if len(data) - end < ITEM.size:
             return None
         length, region, serial = ITEM.unpack_from(data, end)
-        if not LEAST_BYTES <= length <= MOST_BYTES:
+        if not MIN_BYTES <= length <= MAX_BYTES:
             raise no_bundle(at)
         last = last_serial(data, end)
         if last is None:
             return None
         end += 2 + length
-        if not 0 <= last - serial < MOST_RUN_ITEMS - len(dots):
+        if not 0 <= last - serial < MAX_RUN_ITEMS - len(dots):
             raise no_bundle(at)
         dots += ((region, one) for one in range(serial, last + 1))
     return (end, dots) if end <= len(data) else None
@@ -126,7 +125,7 @@ def page_dots(page):
 def is_full(page, dots):
     """Whether a page with these dots may be followed by another."""
     (pieces,) = struct.unpack_from(">H", page, HEADS[bytes(page[:4])] - 2)
-    return pieces == MOST_ITEMS or len(dots) == MOST_RUN_ITEMS
+    return pieces == MAX_ITEMS or len(dots) == MAX_RUN_ITEMS
 
 
 def horizon_of(data, at=0):
@@ -148,8 +147,7 @@ def facts_alone(page):
 def version_of(facts):
     """The version of a bundle of these facts, which are behind their lengths."""
     kinds = {bytes(it[2 + DOT.size:4 + DOT.size]) for it in facts}
-    newest = ACCESS_REFRESHED, LIMITED_ADDED, SECRET_SET
-    if any(it[0] in newest or it == bytes((CLIENT_ADDED, KEEPING)) for it in kinds):
+    if any(it[0] > SIGN_OUT or it == bytes((CLIENT_ADDED, KEEPING)) for it in kinds):
         return b"OTB4"
     return b"OTB2" if any(it[0] == SIGN_OUT for it in kinds) else b"OTB1"
 

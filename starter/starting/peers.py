@@ -13,7 +13,7 @@ from bases import connection_to, read_base
 from starting.bundles import DOT, NoBundle, is_full, page_dots, vector_regions
 
 SILENCE, LONGEST = 6, 15  # seconds without a byte, and of one request
-MOST_BYTES = 1_100_000  # of a reply: above the longest page and the longest vector
+MAX_BYTES = 1_100_000  # of a reply: above the longest page and the longest vector
 FAULTS = OSError, http.client.HTTPException, NoBundle, ValueError
 
 
@@ -51,7 +51,7 @@ def body_of(reply):
     body = b""
     while piece := reply.read(65_536):
         body += piece
-        if len(body) > MOST_BYTES:
+        if len(body) > MAX_BYTES:
             raise ValueError("a reply is too long")
     if reply.length:
         raise ValueError("a reply is cut off")

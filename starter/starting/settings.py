@@ -8,10 +8,10 @@ import typing
 from bases import UNIX, own, socket_path
 from starting.stop import SETTINGS, Stop
 
-GREATEST = 65_535  # of region numbers and of ports
+MAX_NUMBER = 65_535  # of region numbers and of ports
 SECONDS = 60  # that all peers together may take
-LEAST_MARGIN = 86_400  # seconds: more than clocks of regions ever differ
-LEAST_PART, GREATEST_PART = 65_536, 1 << 40  # bytes of a log's part
+MIN_MARGIN = 86_400  # seconds: more than clocks of regions ever differ
+MIN_PART, MAX_PART = 65_536, 1 << 40  # bytes of a log's part
 
 
 class Places(typing.NamedTuple):
@@ -104,7 +104,7 @@ def places_of(environ):
     text = environ.get("TOKEND_PORT", "")
     if it.socket and text:
         raise Stop(SETTINGS, "TOKEND_SOCKET and TOKEND_PORT are both set")
-    return it if it.socket else it._replace(port=number(text, 1, GREATEST, "TOKEND_PORT"))
+    return it if it.socket else it._replace(port=number(text, 1, MAX_NUMBER, "TOKEND_PORT"))
 
 
 def url_of(environ):
@@ -121,13 +121,13 @@ def main_process(environ):
 def margin_of(environ):
     """How many seconds before its start, and before now, a run is pruned; None for no prune."""
     text = environ.get("TOKEND_PRUNE_MARGIN")
-    return number(text, LEAST_MARGIN, 999_999_999, "TOKEND_PRUNE_MARGIN") if text else None
+    return number(text, MIN_MARGIN, 999_999_999, "TOKEND_PRUNE_MARGIN") if text else None
 
 
 def part_of(environ):
     """At how many bytes a log goes on in a next file; None for a log of one file."""
     text = environ.get("TOKEND_LOG_PART")
-    return number(text, LEAST_PART, GREATEST_PART, "TOKEND_LOG_PART") if text else None
+    return number(text, MIN_PART, MAX_PART, "TOKEND_LOG_PART") if text else None
 
 
 def peers_of(environ):
@@ -142,8 +142,8 @@ def read(environ, arguments):
     folder = environ.get("STATE_DIRECTORY", "")
     if not folder:
         raise Stop(SETTINGS, "STATE_DIRECTORY is not set, and no folder is named")
-    first = number(environ.get("TOKEND_FIRST", ""), 1, GREATEST, "TOKEND_FIRST")
-    last = number(environ.get("TOKEND_LAST", ""), first, GREATEST, "TOKEND_LAST")
+    first = number(environ.get("TOKEND_FIRST", ""), 1, MAX_NUMBER, "TOKEND_FIRST")
+    last = number(environ.get("TOKEND_LAST", ""), first, MAX_NUMBER, "TOKEND_LAST")
     seconds = environ.get("TOKEND_PEER_SECONDS", str(SECONDS))
     return Settings(
         os.path.abspath(folder), places_of(environ), range(first, last + 1),

@@ -21,7 +21,7 @@ import re
 from starting.bundles import Held, NoBundle, whole_bytes
 from starting.stop import HELD, NO_NUMBER, SETTINGS, Stop, no_log
 
-MOST_AHEAD = 64  # how far above all others a number may be that facts are seen of
+MAX_AHEAD = 64  # how far above all others a number may be that facts are seen of
 
 
 def sync(path):
@@ -158,7 +158,7 @@ class Site:
         top = max((it for it in taken if it in numbers), default=numbers[0] - 1)
         others = []
         for it in sorted(it for it in seen if it in numbers):
-            if it > top + MOST_AHEAD:
+            if it > top + MAX_AHEAD:
                 others.append(it)
             top = top if others else max(top, it)
         if top + 1 not in numbers:
