@@ -29,8 +29,8 @@ def value(path, name):
     found = set()
     for right in m:
         right = right.replace("_", "")
-        if right == "greatest_serial - 1" or right == "greatestserial - 1":
-            found.add(value("crates/tk_handle/specs/Ranges.antt", "greatest_serial").pop() - 1)
+        if right == "max_serial - 1" or right == "greatestserial - 1":
+            found.add(value("crates/tk_handle/specs/Ranges.antt", "max_serial").pop() - 1)
         elif re.fullmatch(r"\d+", right):
             found.add(int(right))
     return found

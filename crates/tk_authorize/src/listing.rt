@@ -15,10 +15,10 @@ use tk_message::{Decision, JsonReply, Params, Request};
 
 /// Decides a request for a page of clients, GET `/admin/clients` (own). Makes no fact.
 ///
-/// The page has at most 128 clients ([`tk_message::MAX_LISTED`]), live and retired ones, in the
-/// order of their ids' dots: the first, or those behind the client that `after` names. If others
-/// follow, `next` has the last id of the page, with which the next one is requested. Clients that
-/// are added meanwhile are on the page of their dots.
+/// The page has at most 128 clients, live and retired ones, in the order of their ids' dots: the
+/// first, or those behind the client that `after` names. If others follow, `next` has the last id
+/// of the page, with which the next one is requested. Clients that are added meanwhile are on the
+/// page of their dots.
 ///
 /// A request that names `after` twice is `invalid_request`, and one whose `after` is no client id
 /// `not_found`. Whether the sender may administer is not examined: the front end must see to that.

@@ -26,12 +26,11 @@ pub(crate) struct SubjectAsked {
 
 /// Decides a request for what a subject has at a moment, GET `/admin/subject` (own). Makes no fact.
 ///
-/// The reply has at most 128 live consents of the subject and at most 128 of its logins
-/// ([`tk_message::MAX_LISTED`]), each in the order of their ids' dots: the first, or those behind
-/// the consent that `consents_after` names and the login that `logins_after` names. If others
-/// follow, `next_consent` and `next_login` have the last id of the page, with which the next one is
-/// requested. `signed_out` is when the subject last signed out everywhere. A subject that is
-/// unknown has nothing.
+/// The reply has at most 128 live consents of the subject and at most 128 of its logins, each in
+/// the order of their ids' dots: the first, or those behind the consent that `consents_after` names
+/// and the login that `logins_after` names. If others follow, `next_consent` and `next_login` have
+/// the last id of the page, with which the next one is requested. `signed_out` is when the subject
+/// last signed out everywhere. A subject that is unknown has nothing.
 ///
 /// The first of these that holds refuses the request:
 ///

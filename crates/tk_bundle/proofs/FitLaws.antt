@@ -17,7 +17,7 @@ use borrow.Author.Tests.{leb-true}
 use Rattle.tk_format.specs.Format.{number}
 use Rattle.tk_handle.specs.declared.dot.Dot.{Dot}
 use Rattle.tk_handle.specs.DotBytes.{dot_field, serial_field}
-use Rattle.tk_handle.specs.Ranges.{greatest_serial}
+use Rattle.tk_handle.specs.Ranges.{max_serial}
 use Rattle.tk_store.specs.Slots.{Slot, Held, Skipped}
 use Rattle.tk_fact.specs.FactBytes.{max_bytes}
 use Rattle.tk_bundle.specs.BundleFields.{BundleFields, Items, is_mark}
@@ -109,7 +109,7 @@ later m n g h some le = grind (arith, nat_tests)
 -- a serial that isn't above another is in its range
 serial_below : (m n : ℕ) → serial_field.Fits n → 0 < m → m ≤ n → serial_field.Fits m
 serial_below m n fits some le =
-    (omega (arith, fits.0, le), later m n greatest_serial fits.1 some le)
+    (omega (arith, fits.0, le), later m n max_serial fits.1 some le)
 
 -- marks up to a serial in its range have a spelling
 marks_fit : (d : Dot) (n last : ℕ) → dot_field.Fits d → serial_field.Fits last

@@ -46,8 +46,8 @@ abbrev pub opening : Format (List ℕ × ℕ)
 opening = bytes_of (length magic) ⊗ byte
 
 -- the least number of bytes before the items: the magic, a digit, and a count
-abbrev pub least_header : ℕ
-least_header = 6
+abbrev pub min_header : ℕ
+min_header = 6
 
 -- the number of bytes of the horizon, if the version has one
 abbrev pub horizon_size : ℕ → ℕ
@@ -76,7 +76,7 @@ skipped_many (suc n) bytes = skipped bytes >>= λ rest. skipped_many n rest
 abbrev pub walk : List ℕ → Result (List ℕ) FrontError
 walk bytes =
     -- fewer than six bytes: Cut
-    cut_if (nat_lt (length bytes) least_header)
+    cut_if (nat_lt (length bytes) min_header)
     (or_cut (opening.read bytes) >>= λ front.
     -- another magic: Malformed
     malformed_if (not (bytes_eq front.0.0 magic))

@@ -33,7 +33,7 @@ use Rattle.tk_bundle.specs.PieceBytes.{piece_bytes, PieceFits, piece_in, piece}
 use Rattle.tk_bundle.specs.Versions.{version_of, is_version, has_runs}
 use Rattle.tk_bundle.specs.VersionLaws.{version_known}
 use Rattle.tk_bundle.specs.Bundle.{magic, max_items, items_by, bundle, horizon_bytes, HorizonFits}
-use Rattle.tk_bundle.specs.Front.{◌>>=◌, or_cut, malformed_if, opening, least_header}
+use Rattle.tk_bundle.specs.Front.{◌>>=◌, or_cut, malformed_if, opening, min_header}
 use Rattle.tk_bundle.specs.Front.{horizon_size, header, skipped, skipped_many, walk}
 
 -- a walk over items goes on behind the next one
@@ -150,7 +150,7 @@ header_exact digit = both_exact _ _ (bytes_exact (horizon_size digit)) u16_exact
 -- what a walk leaves lies behind a bundle
 pub walk_ends : (bytes rest : List ℕ) → IsBytes bytes → walk bytes ≡ Ok rest → Ends bytes rest
 walk_ends bytes rest fits e =
-    let s = test_ok (ltb (length bytes) least_header) Cut (or_cut (opening.read bytes) >>= opened)
+    let s = test_ok (ltb (length bytes) min_header) Cut (or_cut (opening.read bytes) >>= opened)
     rest e in
     let f = bind_ok (or_cut (opening.read bytes)) opened rest s.1 in
     let first = opening_exact.takes bytes f.0 fits (cut_ok _ f.0 f.1) in
@@ -254,8 +254,8 @@ walk_bundle b rest fits =
     let few : ltb max_items w.count ≡ false =
     le-ltb max_items w.count (leb-true w.count max_items w.few) in
     let behind = digit ∷ horizon ++ (count ++ (w.body ++ rest)) in
-    let long : ltb (length (magic ++ behind)) least_header ≡ false =
-    le-ltb (length (magic ++ behind)) least_header (omega (
+    let long : ltb (length (magic ++ behind)) min_header ≡ false =
+    le-ltb (length (magic ++ behind)) min_header (omega (
       arith,
       length-append horizon (count ++ (w.body ++ rest)),
       length-append count (w.body ++ rest),

@@ -19,7 +19,7 @@ use Rattle.tk_fact.specs.FactBytes.{max_bytes}
 use Rattle.tk_bundle.specs.BundleFields.{BundleFields}
 use Rattle.tk_bundle.specs.Versions.{is_version}
 use Rattle.tk_bundle.specs.Bundle.{magic, max_items, bundle}
-use Rattle.tk_bundle.specs.Front.{◌>>=◌, or_cut, cut_if, opening, least_header}
+use Rattle.tk_bundle.specs.Front.{◌>>=◌, or_cut, cut_if, opening, min_header}
 use Rattle.tk_bundle.specs.Front.{horizon_size, header, skipped, skipped_many, walk}
 use Rattle.tk_bundle.specs.FrontLaws.{ok_is, counted_rest, opened, walk_bundle}
 
@@ -135,9 +135,9 @@ short_on more false false r longer h on = on
 -- the walk over a bundle goes on with more bytes
 walk_goes_on : (bytes more : List ℕ) → GoesOn more (walk bytes) (walk (bytes ++ more))
 walk_goes_on bytes more =
-    short_on more (ltb (length bytes) least_header) (ltb (length (bytes ++ more)) least_header) _ _
-    (λ long. le-ltb (length (bytes ++ more)) least_header
-    (omega (arith, length-append bytes more, ltb-false (length bytes) least_header long)))
+    short_on more (ltb (length bytes) min_header) (ltb (length (bytes ++ more)) min_header) _ _
+    (λ long. le-ltb (length (bytes ++ more)) min_header
+    (omega (arith, length-append bytes more, ltb-false (length bytes) min_header long)))
     (read_on more _ _ opened (opening_on bytes more) (λ f.
     unless more (not (bytes_eq f.0.0 magic)) _ _ (unless more (not (is_version f.0.1)) _ _
     (read_on more _ _ counted_rest (header_on f.0.1 f.1 more) (λ h.

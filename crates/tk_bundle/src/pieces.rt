@@ -2,7 +2,7 @@
 
 ghost use Rattle.std.specs.Prelude.{◌≡◌, ◌+◌, ◌-◌, ◌++◌, ◌≤◌, length, min, suc, OnOk, IfOk};
 ghost use Rattle.tk_format.specs.Reading.{Gets};
-ghost use Rattle.tk_handle.specs.Ranges.{greatest_serial};
+ghost use Rattle.tk_handle.specs.Ranges.{max_serial};
 ghost use Rattle.tk_bundle.specs.PieceBytes.{are_runs, counted_pieces, max_run_items, pieced_items};
 ghost use Rattle.tk_bundle.specs.Pieces as spec;
 ghost use Rattle.tk_bundle.specs.Pieces.{marks_from};
@@ -133,7 +133,7 @@ fn push_marks(items: &mut Vec<Item>, first: Dot, last: Serial) -> Result<(), All
 
 // Returns the dot that is `offset` dots behind another in its region.
 fn dot_behind(first: Dot, offset: u64) -> Dot
-    requires { first.serial + offset ≤ greatest_serial }
+    requires { first.serial + offset ≤ max_serial }
     ensures { result ≡ record { region = first.region; serial = first.serial + offset } }
 {
     match Dot::new(first.region(), first.serial() + offset) {

@@ -18,7 +18,7 @@ use Rattle.std.specs.BTreeMap.{get}
 use Rattle.std.specs.FinMap as map
 use Rattle.tk_handle.specs.declared.dot.Dot.{Dot}
 use Rattle.tk_handle.specs.Dot.{dot_cmp}
-use Rattle.tk_handle.specs.Ranges.{greatest_serial}
+use Rattle.tk_handle.specs.Ranges.{max_serial}
 use mathlib.Core.Bool.{false≢true}
 use Rattle.tk_dots.specs.Pages.{span, page_of, dot_in, Slots, Pages, slot_in, cell, cell_at, seen}
 use Rattle.tk_dots.specs.Pages.{FirstFrom, FirstIn, FirstOn, IsPage, IsPages, IsAbove, IsLeastAbove}
@@ -172,7 +172,7 @@ module _ {X : Type 0} where
     first_or_none (Some x) first = first_page x first
 
     -- each dot with a value has a serial in range
-    pub dots_high : (q : Dot) → IsSome (map.get F q) → q.serial ≤ greatest_serial
+    pub dots_high : (q : Dot) → IsSome (map.get F q) → q.serial ≤ max_serial
     dots_high q h =
         let there : (v : Slots X) × (get dot_cmp m (page_of q) ≡ Some v)
         × (q.serial % span < length v.items) = held_on q h in
@@ -182,16 +182,16 @@ module _ {X : Type 0} where
     -- ---- the greatest serial of a region
 
     module _ (r : ℕ) (first last : Dot) (lo : first ≡ record { region = r; serial = 1 })
-        (hi : last ≡ record { region = r; serial = greatest_serial }) where
+        (hi : last ≡ record { region = r; serial = max_serial }) where
       -- a dot of the region is between the first and the last that the region can have
-      in_region : (q : Dot) → q.region ≡ r → 0 < q.serial → q.serial ≤ greatest_serial
+      in_region : (q : Dot) → q.region ≡ r → 0 < q.serial → q.serial ≤ max_serial
           → IsLeBy dot_cmp (record { region = r; serial = 1 }) q
-          × IsLeBy dot_cmp q (record { region = r; serial = greatest_serial })
+          × IsLeBy dot_cmp q (record { region = r; serial = max_serial })
       in_region q here low high = (grind (arith, nat_tests), grind (arith, nat_tests))
 
       -- a dot between the first and the last of the region is of the region
       region_of : (e : Dot) → IsLeBy dot_cmp (record { region = r; serial = 1 }) e
-          → IsLeBy dot_cmp e (record { region = r; serial = greatest_serial }) → e.region ≡ r
+          → IsLeBy dot_cmp e (record { region = r; serial = max_serial }) → e.region ≡ r
       region_of e low high = grind (arith, nat_tests)
 
       -- the page of a dot of the region that has a value is among the region's
@@ -202,7 +202,7 @@ module _ {X : Type 0} where
           × (q.serial % span < length v.items) = held_on q h in
           let page : IsPage (page_of q) there.0.items = pages (page_of q) there.0 there.1 in
           let within : IsLeBy dot_cmp (record { region = r; serial = 1 }) (page_of q)
-          × IsLeBy dot_cmp (page_of q) (record { region = r; serial = greatest_serial }) =
+          × IsLeBy dot_cmp (page_of q) (record { region = r; serial = max_serial }) =
           in_region (page_of q) same (omega arith) (omega (arith, page.high, page.some)) in (
             subst (λ (x : Dot). IsLeBy dot_cmp x (page_of q)) (sym lo) within.0,
             subst (λ (x : Dot). IsLeBy dot_cmp (page_of q) x) (sym hi) within.1,

@@ -11,7 +11,7 @@ use Rattle.std.specs.BTreeMap.{get, is_at}
 use Rattle.std.specs.Map.{lookup}
 use Rattle.tk_handle.specs.declared.dot.Dot.{Dot}
 use Rattle.tk_handle.specs.Dot.{dot_cmp}
-use Rattle.tk_handle.specs.Ranges.{greatest_serial}
+use Rattle.tk_handle.specs.Ranges.{max_serial}
 use mathlib.Core.Bool.{false≢true}
 use Rattle.tk_dots.specs.Pages.{span, Slots, Pages, slot_in, cell, EndsFull, IsPage, IsPages}
 use Rattle.tk_dots.proofs.PlaceLaws.{tied_same}
@@ -87,7 +87,7 @@ on_both (Err e) P Q S R p q s f g = g s
 module _ {X : Type 0} (k : Dot) where
   -- a page of one value
   pub page_one : (os : List (Option X)) (at : ℕ) (x : X) → at < span
-      → 0 < (k.serial - 1) * span + at → (k.serial - 1) * span + at ≤ greatest_serial
+      → 0 < (k.serial - 1) * span + at → (k.serial - 1) * span + at ≤ max_serial
       → length os ≡ at + 1
       → ((j : ℕ) → get_or os j None ≡ cond (j == at) (Some x) None) → IsPage k os
   page_one os at x below low high len is = record {
@@ -120,7 +120,7 @@ module _ {X : Type 0} (k : Dot) where
 
     -- a page with one more value
     pub page_put : (x : X) → at < span → 0 < (k.serial - 1) * span + at
-        → (k.serial - 1) * span + at ≤ greatest_serial → length os ≡ max (length old) (at + 1)
+        → (k.serial - 1) * span + at ≤ max_serial → length os ≡ max (length old) (at + 1)
         → ((j : ℕ) → get_or os j None ≡ cond (j == at) (Some x) (get_or old j None)) → IsPage k os
     page_put x below low high len is = record {
       some = omega (arith, len);

@@ -10,7 +10,7 @@ use Rattle.std.specs.BTreeMap.{get, is_at, IsOrdered}
 use Rattle.std.specs.FinSet as set
 use Rattle.tk_handle.specs.declared.dot.Dot.{Dot}
 use Rattle.tk_handle.specs.Dot.{dot_cmp, dot_cmp_total, dot_cmp-IsAntisymmetric}
-use Rattle.tk_handle.specs.Ranges.{greatest_serial}
+use Rattle.tk_handle.specs.Ranges.{max_serial}
 use mathlib.Core.Bool.{false≢true}
 use Rattle.tk_dots.specs.Runs.{Runs, dot_of, run_set, IsCovered, IsRuns, IsEndAbove, IsStart}
 use Rattle.tk_dots.specs.Runs.{Joined}
@@ -257,7 +257,7 @@ module _ (m n : Runs) (runs : IsRuns m) (d : Dot) (s end : ℕ) (free : IsCovere
   ]
 
   -- runs with one more dot are runs
-  pub added_runs : IsOrdered dot_cmp n → 0 < s → end ≤ greatest_serial → IsRuns n
+  pub added_runs : IsOrdered dot_cmp n → 0 < s → end ≤ max_serial → IsRuns n
   added_runs ordered some ranged = record {
     ordered = ordered;
     rises = λ k last at. elim (at_any k.region k.serial last at) [

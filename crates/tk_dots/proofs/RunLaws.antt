@@ -19,7 +19,7 @@ use Rattle.std.specs.Map.{lookup, keys_of}
 use Rattle.std.specs.FinSet as set
 use Rattle.tk_handle.specs.declared.dot.Dot.{Dot}
 use Rattle.tk_handle.specs.Dot.{dot_cmp, dot_cmp_total, dot_cmp-IsAntisymmetric}
-use Rattle.tk_handle.specs.Ranges.{greatest_serial}
+use Rattle.tk_handle.specs.Ranges.{max_serial}
 use mathlib.Core.Bool.{false≢true}
 use Rattle.tk_dots.specs.Runs.{Runs, DotSet, dot_of, with_run, run_set, IsCovered, IsRuns}
 use Rattle.tk_dots.specs.Runs.{IsRunBelow, IsEndAbove}
@@ -142,7 +142,7 @@ covered_is m ordered q t some none = elim (cases_Bool t) [
 
 -- each dot of the set has a serial in range
 pub dots_high : (m : Runs) → IsRuns m → (q : Dot) → set.contains (run_set m.entries) q ≡ true
-    → q.serial ≤ greatest_serial
+    → q.serial ≤ max_serial
 dots_high m runs q h =
     let x = covers m runs.ordered q h in
     let high = x.has.high in

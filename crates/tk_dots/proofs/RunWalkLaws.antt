@@ -13,7 +13,7 @@ use Rattle.std.specs.declared.ops.Bound.TheVariants.{Unbounded}
 use Rattle.std.specs.FinSet as set
 use Rattle.tk_handle.specs.declared.dot.Dot.{Dot}
 use Rattle.tk_handle.specs.Dot.{dot_cmp}
-use Rattle.tk_handle.specs.Ranges.{greatest_serial}
+use Rattle.tk_handle.specs.Ranges.{max_serial}
 use mathlib.Core.Bool.{false≢true}
 use Rattle.tk_dots.specs.Runs.{Runs, DotSet, dot_of, run_set, IsCovered, IsRuns, IsFirstAbove}
 use Rattle.tk_dots.specs.Runs.{IsRightAbove, IsNextIn, IsLastIn}
@@ -138,14 +138,14 @@ module _ (m : Runs) (runs : IsRuns m) where
   -- ---- the greatest serial of a region
 
   module _ (r : ℕ) (first last : Dot) (lo : first ≡ dot_of r 1)
-      (hi : last ≡ dot_of r greatest_serial) where
+      (hi : last ≡ dot_of r max_serial) where
     -- a dot between the least and the greatest of a region is of that region
     region_of : (e : Dot) → IsLeBy dot_cmp (dot_of r 1) e
-        → IsLeBy dot_cmp e (dot_of r greatest_serial) → e.region ≡ r
+        → IsLeBy dot_cmp e (dot_of r max_serial) → e.region ≡ r
     region_of e low high = grind (arith, nat_tests)
 
     -- a serial in range gives a dot between the least and the greatest of the region
-    within : (n : ℕ) → 0 < n → n ≤ greatest_serial
+    within : (n : ℕ) → 0 < n → n ≤ max_serial
         → IsLeBy dot_cmp first (dot_of r n) × IsLeBy dot_cmp (dot_of r n) last
     within n some high = (
       subst (λ (x : Dot). IsLeBy dot_cmp x (dot_of r n)) (sym lo) (from n some),
@@ -155,7 +155,7 @@ module _ (m : Runs) (runs : IsRuns m) where
         from : (n : ℕ) → 0 < n → IsLeBy dot_cmp (dot_of r 1) (dot_of r n)
         from n h = grind (arith, nat_tests)
 
-        to : (n : ℕ) → n ≤ greatest_serial → IsLeBy dot_cmp (dot_of r n) (dot_of r greatest_serial)
+        to : (n : ℕ) → n ≤ max_serial → IsLeBy dot_cmp (dot_of r n) (dot_of r max_serial)
         to n h = grind (arith, nat_tests)
 
     -- each run of the region begins between the two dots

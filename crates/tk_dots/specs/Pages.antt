@@ -19,7 +19,7 @@ use Rattle.std.specs.Ordering.{is_lt}
 use Rattle.std.specs.FinMap as map
 use Rattle.tk_handle.specs.declared.dot.Dot.{Dot}
 use Rattle.tk_handle.specs.Dot.{dot_cmp}
-use Rattle.tk_handle.specs.Ranges.{greatest_serial}
+use Rattle.tk_handle.specs.Ranges.{max_serial}
 
 -- the number of dots of a page
 abbrev pub span : ℕ
@@ -113,7 +113,7 @@ module _ {X : Type 0} where
     pub some : 0 < length os
     pub full : EndsFull os
     pub short : length os ≤ span
-    pub high : (k.serial - 1) * span + length os ≤ greatest_serial + 1
+    pub high : (k.serial - 1) * span + length os ≤ max_serial + 1
     pub low : k.serial ≡ 1 → slice_index_or os 0 None ≡ None
 
   -- each page is as `IsPage` says

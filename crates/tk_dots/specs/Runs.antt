@@ -19,7 +19,7 @@ use Rattle.std.specs.FinSet as set
 use Rattle.std.specs.Ordering.{is_lt}
 use Rattle.tk_handle.specs.declared.dot.Dot.{Dot}
 use Rattle.tk_handle.specs.Dot.{dot_cmp}
-use Rattle.tk_handle.specs.Ranges.{greatest_serial}
+use Rattle.tk_handle.specs.Ranges.{max_serial}
 use Rattle.tk_dots.specs.Pages.{IsAbove}
 
 -- the last serial of each run, by the first dot of the run
@@ -60,7 +60,7 @@ pub record IsCovered (m : Runs) (q : Dot) : Type 0 where
 pub record IsRuns (m : Runs) : Type 0 where
   pub ordered : IsOrdered dot_cmp m
   pub rises : (k : Dot) (last : ℕ) → get dot_cmp m k ≡ Some last → k.serial ≤ last
-  pub ranged : (k : Dot) (last : ℕ) → get dot_cmp m k ≡ Some last → last ≤ greatest_serial
+  pub ranged : (k : Dot) (last : ℕ) → get dot_cmp m k ≡ Some last → last ≤ max_serial
   pub some : (k : Dot) (last : ℕ) → get dot_cmp m k ≡ Some last → 0 < k.serial
   pub apart : (r k q last other : ℕ) → get dot_cmp m (dot_of r k) ≡ Some last
       → get dot_cmp m (dot_of r q) ≡ Some other → k < q → last + 1 < q

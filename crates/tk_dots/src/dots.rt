@@ -33,7 +33,7 @@ ghost use Rattle.std.specs.Prelude.{option_map, is_some};
 ghost use Rattle.std.specs.FinMap as maps;
 ghost use Rattle.std.specs.Ordering.{eq_by_cmp};
 ghost use Rattle.tk_handle.specs.Dot.{dot_cmp};
-ghost use Rattle.tk_handle.specs.Ranges.{greatest_serial};
+ghost use Rattle.tk_handle.specs.Ranges.{max_serial};
 ghost use Rattle.tk_handle.specs.declared.dot.Dot.{Dot as the_dot};
 ghost use Rattle.tk_dots.specs.Pages.{IsNext, IsLast};
 
@@ -57,7 +57,7 @@ impl<V> DotMap<V> {
     /// Gives a caller's proof the fact that each dot's serial is in range. Does nothing at run
     /// time.
     pub fn known(&self)
-        ensures { (d : the_dot) → IsSome (maps.get self.now d) → d.serial ≤ greatest_serial }
+        ensures { (d : the_dot) → IsSome (maps.get self.now d) → d.serial ≤ max_serial }
     {
         let _pages = &self.pages;
     }
@@ -152,7 +152,7 @@ impl<V> DotMap<V> {
     /// Returns the greatest serial of the region that has a value, or 0.
     pub fn last_serial(&self, region: RegionNumber) -> u64
         ensures last { IsLast self.now region result }
-        ensures high { result ≤ greatest_serial }
+        ensures high { result ≤ max_serial }
     {
         let (Some(first), Some(last)) = (Dot::new(region, 1), Dot::new(region, Serial::MAX)) else {
             unreachable!("both serials are in range")

@@ -39,7 +39,7 @@ impl<V> Model for MarkMap<V> {
 ghost use Rattle.std.specs.Prelude.{◌≡◌, ◌≤◌, OnOk, OnErr, IsSome, Some, None, option_copied};
 ghost use Rattle.std.specs.Prelude.{option_map, is_some, true};
 ghost use Rattle.std.specs.FinMap as maps;
-ghost use Rattle.tk_handle.specs.Ranges.{greatest_serial};
+ghost use Rattle.tk_handle.specs.Ranges.{max_serial};
 ghost use Rattle.tk_handle.specs.declared.dot.Dot.{Dot as the_dot};
 ghost use Rattle.tk_dots.specs.Marks.{
   marked,
@@ -126,7 +126,7 @@ impl<V> MarkMap<V> {
     /// Gives a caller's proof the fact that each dot's serial is in range. Does nothing at run
     /// time.
     pub fn known(&self)
-        ensures { (d : the_dot) → IsSome (maps.get self.now d) → d.serial ≤ greatest_serial }
+        ensures { (d : the_dot) → IsSome (maps.get self.now d) → d.serial ≤ max_serial }
     {
         self.pages.known();
         self.runs.known();
@@ -297,7 +297,7 @@ impl<V> MarkMap<V> {
     /// Returns the greatest serial of the region that is not free, or 0.
     pub fn last_serial(&self, region: RegionNumber) -> u64
         ensures last { IsLast self.now region result }
-        ensures high { result ≤ greatest_serial }
+        ensures high { result ≤ max_serial }
     {
         let page = self.pages.last_serial(region);
         let run = self.runs.last_serial(region);

@@ -6,7 +6,7 @@ ghost use Rattle.std.specs.Prelude.{IfOk};
 ghost use Rattle.std.specs.BTreeMap.{get};
 ghost use Rattle.std.specs.Ordering.{eq_by_cmp};
 ghost use Rattle.tk_handle.specs.Dot.{dot_cmp};
-ghost use Rattle.tk_handle.specs.Ranges.{greatest_serial};
+ghost use Rattle.tk_handle.specs.Ranges.{max_serial};
 ghost use Rattle.tk_handle.specs.declared.dot.Dot.{Dot as the_dot};
 ghost use Rattle.tk_dots.specs.Pages.{cell, page_of, span, FirstIn, FirstOn, FirstOfPages, IsPage};
 ghost use Rattle.tk_dots.specs.Pages.{IsPages};
@@ -39,7 +39,7 @@ pub(crate) fn put_in<V: Drop>(
 ) -> Result<bool, AllocError>
     requires within { at < span }
     requires low { 0 < (page.serial - 1) * span + at }
-    requires high { (page.serial - 1) * span + at ≤ greatest_serial }
+    requires high { (page.serial - 1) * span + at ≤ max_serial }
     requires pages { IsPages pages.old }
     ensures cells { OnOk result
         ((k : the_dot) (j : ℕ)

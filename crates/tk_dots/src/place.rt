@@ -1,7 +1,7 @@
 //! The page of a dot, and the place of a dot on its page.
 
 ghost use Rattle.std.specs.Prelude.{◌≡◌, ◌≤◌, ◌<◌, ◌+◌, ◌-◌, ◌*◌, ◌%◌};
-ghost use Rattle.tk_handle.specs.Ranges.{greatest_serial};
+ghost use Rattle.tk_handle.specs.Ranges.{max_serial};
 ghost use Rattle.tk_dots.specs.Pages.{dot_in, page_of, span};
 
 use tk_handle::Dot;
@@ -30,7 +30,7 @@ pub(crate) fn place_of(dot: Dot) -> usize
 // Returns the dot at a place of a page. The place must be that of a dot: the serial is in range.
 pub(crate) fn dot_at(page: Dot, at: usize) -> Dot
     requires low { 0 < (page.serial - 1) * span + at }
-    requires high { (page.serial - 1) * span + at ≤ greatest_serial }
+    requires high { (page.serial - 1) * span + at ≤ max_serial }
     ensures { result ≡ dot_in page at }
 {
     match Dot::new(page.region(), (page.serial() - 1) * SPAN + at as u64) {

@@ -37,7 +37,7 @@ ghost use Rattle.std.specs.Prelude.{◌≡◌, ◌≤◌, OnOk, OnErr, true};
 ghost use Rattle.std.specs.BTreeMap.{IsOrdered};
 ghost use Rattle.std.specs.FinSet as sets;
 ghost use Rattle.tk_handle.specs.Dot.{dot_cmp};
-ghost use Rattle.tk_handle.specs.Ranges.{greatest_serial};
+ghost use Rattle.tk_handle.specs.Ranges.{max_serial};
 ghost use Rattle.tk_handle.specs.declared.dot.Dot.{Dot as the_dot};
 ghost use Rattle.tk_dots.specs.Runs.{
   IsEndAbove,
@@ -79,7 +79,7 @@ fn run_below(runs: &BTreeMap<Dot, u64>, dot: Dot) -> Option<(Dot, u64)>
 fn end_above(runs: &BTreeMap<Dot, u64>, dot: Dot) -> u64
     requires { IsRuns runs.now }
     ensures end { IsEndAbove runs.now dot result }
-    ensures high { result ≤ greatest_serial }
+    ensures high { result ≤ max_serial }
 {
     match Dot::new(dot.region(), dot.serial() + 1) {
         Some(next) => match runs.get(&next) {
@@ -161,7 +161,7 @@ impl DotRuns {
     /// Gives a caller's proof the fact that each dot's serial is in range. Does nothing at run
     /// time.
     pub fn known(&self)
-        ensures { (d : the_dot) → sets.contains self.now d ≡ true → d.serial ≤ greatest_serial }
+        ensures { (d : the_dot) → sets.contains self.now d ≡ true → d.serial ≤ max_serial }
     {
         let _runs = &self.runs;
     }
@@ -210,7 +210,7 @@ impl DotRuns {
     /// Returns the greatest serial of the region in the set, or 0.
     pub fn last_serial(&self, region: RegionNumber) -> u64
         ensures last { IsLastIn self.now region result }
-        ensures high { result ≤ greatest_serial }
+        ensures high { result ≤ max_serial }
     {
         let (Some(first), Some(last)) = (Dot::new(region, 1), Dot::new(region, Serial::MAX)) else {
             unreachable!("both serials are in range")

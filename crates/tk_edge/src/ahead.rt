@@ -15,13 +15,11 @@ pub enum PushError {
 }
 
 ghost use Rattle.std.specs.Prelude.{◌≡◌};
-ghost use Rattle.tk_region.specs.Taking.{unread};
 ghost use Rattle.tk_edge.specs.Ahead as spec;
 
 use crate::terms::{Terms, is_out_of_range};
 use std::alloc::Global;
 use tk_bundle::Bundle;
-use tk_format::ReadError;
 use tk_handle::Moment;
 
 // Reads a pushed bundle, and refuses it if the terms do at the moment.
@@ -43,7 +41,7 @@ pub(crate) fn read_pushed(
             }
             Ok(sent)
         }
-        Err(error) => Err(PushError::Take(unread(error))),
+        Err(error) => Err(PushError::Take(TakeError::unread(error))),
     }
 }
 
@@ -54,16 +52,6 @@ fn is_ahead(now: Moment, sent: &Bundle) -> bool
     match sent.horizon() {
         Some(horizon) => now.seconds() < horizon.seconds(),
         None => false,
-    }
-}
-
-// Returns the error for bytes that can't be read as a bundle.
-fn unread(error: ReadError) -> TakeError
-    ensures { result ≡ unread error }
-{
-    match error {
-        ReadError::Malformed => TakeError::Malformed,
-        ReadError::Memory => TakeError::Memory,
     }
 }
 

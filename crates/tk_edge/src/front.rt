@@ -3,7 +3,7 @@
 use crate::hear::Arrival;
 
 /// The most bytes of a request's head.
-pub(crate) const HEAD_LIMIT: usize = 8_192;
+pub(crate) const MAX_HEAD: usize = 8_192;
 
 /// What was taken of the bytes of a connection.
 #[derive(Clone, Copy)]
@@ -80,7 +80,7 @@ pub fn hear_front(
     let mut headers = [EMPTY_HEADER_SPAN; 64];
     match parse_request(bytes, &mut headers) {
         Ok(Status::Complete(spans)) => {
-            if spans.len > HEAD_LIMIT {
+            if spans.len > MAX_HEAD {
                 return Ok(headless_front(bytes));
             }
             head_front(alloc, reach, bytes, is_over, &headers, spans)
@@ -110,7 +110,7 @@ fn partial_front(bytes: &[u8], is_over: bool) -> Front
     if is_over {
         return headless_front(bytes);
     }
-    if bytes.len() < HEAD_LIMIT {
+    if bytes.len() < MAX_HEAD {
         return Front::More;
     }
     headless_front(bytes)

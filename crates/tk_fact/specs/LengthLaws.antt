@@ -13,7 +13,7 @@ use borrow.Author.Tests.{le-leb}
 use Rattle.tk_format.specs.Format.{text, number_spelling}
 use Rattle.tk_format.specs.Exact.{bind_some}
 use Rattle.tk_format.specs.Spellings.{number_length, both_short, text_short}
-use Rattle.tk_scope.specs.Scope.{greatest_length, is_token, max_tokens, scope_of, scope_text}
+use Rattle.tk_scope.specs.Scope.{max_length, is_token, max_tokens, scope_of, scope_text}
 use Rattle.tk_scope.specs.Scope.{tokens_of}
 use Rattle.tk_scope.specs.declared.error.ScopeError.{ScopeError}
 use Rattle.tk_match.specs.Redirects.{max_uri_bytes, is_uri}
@@ -69,18 +69,18 @@ scope_by : (long grammar many : Bool) (s t : List ℕ)
 scope_by true grammar many s t h = absurd cc
 scope_by false grammar many s t h = refl
 
--- a text that is a scope has at most `greatest_length` bytes
-scope_within : (t s : List ℕ) → scope_of t ≡ Some s → length t ≤ greatest_length
+-- a text that is a scope has at most `max_length` bytes
+scope_within : (t s : List ℕ) → scope_of t ≡ Some s → length t ≤ max_length
 scope_within t s h =
-    ltb-false greatest_length (length t)
-    (scope_by (nat_lt greatest_length (length t)) (not (list_all is_token (tokens_of t)))
+    ltb-false max_length (length t)
+    (scope_by (nat_lt max_length (length t)) (not (list_all is_token (tokens_of t)))
     (nat_lt max_tokens (length (tokens_of t))) (scope_text (tokens_of t)) s h)
 
 -- the field of a scope has at most 1,026 bytes
 scope_short : (t : List ℕ) → scope_field.Fits t → length (text.spell t) ≤ 1026
 scope_short t fits =
     let found = bind_some (scope_of t) (λ s. cond (bytes_eq s t) (Some s) None) t fits.1 in
-    text_short t greatest_length (scope_within t found.0 found.1)
+    text_short t max_length (scope_within t found.0 found.1)
 
 -- a redirection URI has at most 514 bytes with its length
 uris_short : (us : List (List ℕ)) → list_all is_uri us ≡ true

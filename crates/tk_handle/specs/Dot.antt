@@ -13,7 +13,7 @@ use Rattle.std.specs.FinMap.{IsAntisymmetric}
 use Rattle.std.proofs.lemmas.Cmp.{on_total, then_total}
 use Rattle.std.proofs.lemmas.Map.Lookups.{exact_pairs, exact_unsigned}
 use Rattle.tk_handle.specs.declared.dot.Dot.{Dot}
-use Rattle.tk_handle.specs.Ranges.{IsRegion, IsSerial, greatest_region, greatest_serial}
+use Rattle.tk_handle.specs.Ranges.{IsRegion, IsSerial, max_region, max_serial}
 
 -- a dot that a program can hold: region and serial are in their ranges
 abbrev pub IsDot : Dot → Type 0
@@ -29,7 +29,7 @@ least_dot = record { region = 1; serial = 1 }
 
 -- the greatest dot
 abbrev pub greatest_dot : Dot
-greatest_dot = record { region = greatest_region; serial = greatest_serial }
+greatest_dot = record { region = max_region; serial = max_serial }
 
 -- the code of a dot: a pair of numbers
 abbrev pub coded_dot : Coded Dot

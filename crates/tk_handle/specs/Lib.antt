@@ -1,5 +1,5 @@
 -- The definitions of this crate, by file:
---   Ranges          greatest_region, greatest_serial, greatest_moment; IsRegion, IsSerial, IsMoment
+--   Ranges          max_region, max_serial, max_moment; IsRegion, IsSerial, IsMoment
 --   DotFields       DotFields, a dot as contracts see it: region and serial
 --   Dot             dot_cmp, the order of dots, from least_dot to greatest_dot; IsDot, their range
 --   DotBytes        dot_field, a dot in bytes

@@ -23,7 +23,7 @@ use Rattle.tk_store.proofs.EntryLaws.{AllIn-entries, Passing, any_fact-held, any
 use Rattle.tk_store.proofs.PutLaws.{none_is_not_some, some_injective}
 use Rattle.tk_ledger.specs.Bodies.{is_same_dot}
 use Rattle.tk_ledger.specs.Laws.{SecretsEnd, TurnsGrow}
-use Rattle.tk_ledger.specs.Secrets.{turn_in, greatest_turn, last_turn, sets, is_set, is_secret_at}
+use Rattle.tk_ledger.specs.Secrets.{turn_in, max_turn, last_turn, sets, is_set, is_secret_at}
 use Rattle.tk_ledger.specs.Secrets.{is_good_secret}
 use Rattle.tk_ledger.proofs.SameLaws.{same_dot-itself}
 
@@ -46,30 +46,30 @@ pub record IsLast (F : FactSet) (client : Dot) (last : ℕ) : Type 0 where
   pub held : (last ≡ 0) ⊎ HasTurn F client last
 
 -- one more turn, if there is one, doesn't lower the greatest turn
-no_less : (o : Option ℕ) (xs : List ℕ) → greatest_turn xs ≤ greatest_turn (cons_option o xs)
+no_less : (o : Option ℕ) (xs : List ℕ) → max_turn xs ≤ max_turn (cons_option o xs)
 no_less None xs = omega arith
-no_less (Some n) xs = le-max_right n (greatest_turn xs)
+no_less (Some n) xs = le-max_right n (max_turn xs)
 
 -- a turn that is added to a list is at most the greatest turn
 not_above : (o : Option ℕ) (xs : List ℕ) (n : ℕ) → o ≡ Some n
-    → n ≤ greatest_turn (cons_option o xs)
+    → n ≤ max_turn (cons_option o xs)
 not_above None xs n h = absurd (none_is_not_some n h)
 not_above (Some m) xs n h =
-    subst (λ (k : ℕ). k ≤ greatest_turn (m ∷ xs)) (some_injective m n h)
-    (le-max_left m (greatest_turn xs))
+    subst (λ (k : ℕ). k ≤ max_turn (m ∷ xs)) (some_injective m n h)
+    (le-max_left m (max_turn xs))
 
 -- a turn that a fact of the list sets is at most the greatest turn of the list
 above_in : (client : Dot) (es : Facts) (d : Dot) (b : Body) (n : ℕ)
     → map.find dot_cmp d es ≡ Some b → turn_in client b ≡ Some n
-    → n ≤ greatest_turn (turns client es)
+    → n ≤ max_turn (turns client es)
 above_in client [] d b n at h = absurd (none_is_not_some b at)
 above_in client (e ∷ es) d b n at h = elim (cases_Bool (eq_by_cmp dot_cmp d e.0)) [
   | inl here ↦ not_above (turn_in client e.1) (turns client es) n
       (ap (turn_in client) (some_injective e.1 b
       (sym (cond-true (eq_by_cmp dot_cmp d e.0) (Some e.1) (map.find dot_cmp d es) here) ∙ at))
       ∙ h)
-  | inr more ↦ chained n (greatest_turn (turns client es))
-      (greatest_turn (turns client (e ∷ es)))
+  | inr more ↦ chained n (max_turn (turns client es))
+      (max_turn (turns client (e ∷ es)))
       (above_in client es d b n
       (sym (cond-false (eq_by_cmp dot_cmp d e.0) (Some e.1) (map.find dot_cmp d es) more) ∙ at) h)
       (no_less (turn_in client e.1) (turns client es))
@@ -90,16 +90,16 @@ max_either a b = elim (cases_lt a b) [
 
 -- the greatest turn of some held facts is 0, or a held fact has it
 held_in : (F : FactSet) (client : Dot) (es : Facts) → AllIn F es
-    → (greatest_turn (turns client es) ≡ 0) ⊎ HasTurn F client (greatest_turn (turns client es))
+    → (max_turn (turns client es) ≡ 0) ⊎ HasTurn F client (max_turn (turns client es))
 held_in F client [] all = inl refl
 held_in F client (e ∷ es) all = by (turn_in client e.1) refl (held_in F client es all.1)
   where
     by : (o : Option ℕ) → turn_in client e.1 ≡ o
-        → (greatest_turn (turns client es) ≡ 0) ⊎ HasTurn F client (greatest_turn (turns client es))
-        → (greatest_turn (cons_option o (turns client es)) ≡ 0)
-        ⊎ HasTurn F client (greatest_turn (cons_option o (turns client es)))
+        → (max_turn (turns client es) ≡ 0) ⊎ HasTurn F client (max_turn (turns client es))
+        → (max_turn (cons_option o (turns client es)) ≡ 0)
+        ⊎ HasTurn F client (max_turn (cons_option o (turns client es)))
     by None is others = others
-    by (Some n) is others = elim (max_either n (greatest_turn (turns client es))) [
+    by (Some n) is others = elim (max_either n (max_turn (turns client es))) [
       | inl first ↦ inr (subst (λ (m : ℕ). HasTurn F client m) (sym first)
           (record { dot = e.0; body = e.1; held = all.0; sets = is }))
       | inr rest ↦ elim others [

@@ -24,7 +24,7 @@ use Rattle.tk_handle.specs.Dot.{IsDot, dot_cmp, dot_cmp_total, least_dot, greate
 use Rattle.tk_handle.proofs.SpanLaws.{number_le, from_first, to_last, not_past, between}
 use Rattle.tk_handle.proofs.TestLaws.{tied}
 use Rattle.tk_ledger.specs.Bodies.{is_same_dot}
-use Rattle.tk_ledger.specs.SecretTables.{secret_cmp, secret_key, first_of, last_of, greatest_key}
+use Rattle.tk_ledger.specs.SecretTables.{secret_cmp, secret_key, first_of, last_of, max_key}
 use Rattle.tk_ledger.specs.declared.secrets.SecretKey.{SecretKey}
 use Rattle.tk_ledger.proofs.KeyLaws.{at_is_same, bytes_tied}
 use Rattle.tk_vector.proofs.VersionVectorLaws.{number_tied}
@@ -110,7 +110,7 @@ client_forward c a b first last =
     ap (λ (x : SecretKey). is_gt (secret_cmp x b)) first
     ∙ ap (λ (x : SecretKey). is_gt (secret_cmp (first_of c) x)) last
     ∙ ap is_gt
-    (client_order c 0 greatest_key (replicate 32 0) (replicate 32 255) least_dot greatest_dot)
+    (client_order c 0 max_key (replicate 32 0) (replicate 32 255) least_dot greatest_dot)
 
 -- zeros are above no digest that is as long
 zeros_first : (n : ℕ) (g : List ℕ) → length g ≡ n
@@ -138,7 +138,7 @@ abbrev pub is_of_client : Dot → SecretKey → Bool
 is_of_client c e = range_contains secret_cmp (Included (first_of c)) (Included (last_of c)) e
 
 -- the key of a secret of the client, but for turn 0, is in the span
-pub in_client : (c : Dot) (l : ℕ) (g : List ℕ) (q : Dot) → l < greatest_key → length g ≡ 32
+pub in_client : (c : Dot) (l : ℕ) (g : List ℕ) (q : Dot) → l < max_key → length g ≡ 32
     → IsDot q → is_of_client c (secret_key c l g q) ≡ true
 in_client c l g q below long h = and_from _ _
     (ap is_le (client_order c 0 l (replicate 32 0) g least_dot q)
@@ -148,12 +148,12 @@ in_client c l g q below long h = and_from _ _
           ∙ le_then (slice_cmp nat_cmp (replicate 32 0) g) (dot_cmp least_dot q)
           (zeros_first 32 g long) (from_first q h)
     ])
-    (ap (λ o. not (is_lt o)) (client_order c greatest_key l (replicate 32 255) g greatest_dot q)
-    ∙ ap (λ o. not (is_lt (ordering_then o from_last))) (nat_cmp_total.antisymm greatest_key l)
-    ∙ elim (number_le l greatest_key (omega (arith, below))) [
+    (ap (λ o. not (is_lt o)) (client_order c max_key l (replicate 32 255) g greatest_dot q)
+    ∙ ap (λ o. not (is_lt (ordering_then o from_last))) (nat_cmp_total.antisymm max_key l)
+    ∙ elim (number_le l max_key (omega (arith, below))) [
       | inl less ↦ ap (λ o. not (is_lt (ordering_then (ordering_reverse o) from_last))) less
-      | inr same ↦ absurd (apart (eqb-true l greatest_key
-          (sym (number_tied l greatest_key) ∙ ap is_eq same)))
+      | inr same ↦ absurd (apart (eqb-true l max_key
+          (sym (number_tied l max_key) ∙ ap is_eq same)))
     ])
   where
     by_digest : Ordering
@@ -162,7 +162,7 @@ in_client c l g q below long h = and_from _ _
     from_last : Ordering
     from_last = ordering_then (slice_cmp nat_cmp (replicate 32 255) g) (dot_cmp greatest_dot q)
 
-    apart : ¬ (l ≡ greatest_key)
+    apart : ¬ (l ≡ max_key)
     apart e = omega (arith, below, e)
 
 -- a key in the span is one of the client

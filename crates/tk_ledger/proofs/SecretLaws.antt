@@ -25,7 +25,7 @@ use Rattle.tk_store.specs.FactSet.{FactSet}
 use Rattle.tk_store.proofs.EntryLaws.{Passing}
 use Rattle.tk_store.proofs.PutLaws.{none_is_not_some, some_injective}
 use Rattle.tk_ledger.specs.Bodies.{is_same_dot}
-use Rattle.tk_ledger.specs.SecretTables.{greatest_key, turns_left, secret_cmp, secret_key}
+use Rattle.tk_ledger.specs.SecretTables.{max_key, turns_left, secret_cmp, secret_key}
 use Rattle.tk_ledger.specs.SecretTables.{secrets_of, turn_of, last_listed, secrets_at, has_secret}
 use Rattle.tk_ledger.specs.SecretTables.{first_of, last_of}
 use Rattle.tk_ledger.specs.SecretTables.{secret_in, secret_at, is_left_to, IsSecrets}
@@ -54,7 +54,7 @@ record Found (F : FactSet) (c : Dot) (left : ℕ) (g : List ℕ) (d : Dot) : Typ
   pub client : fact.client ≡ c
   pub left_is : turns_left fact.turn ≡ left
   pub digest : fact.digest ≡ g
-  pub early : fact.turn ≤ greatest_key
+  pub early : fact.turn ≤ max_key
 
 -- each key in the table is that of a fact that is held
 found : (F : FactSet) (t : BTreeSet SecretKey) (c : Dot) (left : ℕ) (g : List ℕ) (d : Dot)
@@ -83,7 +83,7 @@ record Listed (F : FactSet) (t : BTreeSet SecretKey) (d : Dot) (f : set.SecretSe
   pub at : among secret_cmp (secret_key f.client (turns_left f.turn) f.digest d) t.keys ≡ true
   pub ranged : IsDot d
   pub long : length f.digest ≡ 32
-  pub early : f.turn ≤ greatest_key
+  pub early : f.turn ≤ max_key
 
 -- each fact that sets a secret and is held has its key in the table, and is in range
 listed : (F : FactSet) (t : BTreeSet SecretKey) (d : Dot) (f : set.SecretSet) → IsSecrets F t
@@ -104,8 +104,8 @@ listed F t d f i here = record {
         ((bytes_eq-Decides f.digest f.digest).1 refl))
 
 -- a turn, from the turns left
-turn_back : (turn left : ℕ) → turn ≤ greatest_key → turns_left turn ≡ left
-    → greatest_key - left ≡ turn
+turn_back : (turn left : ℕ) → turn ≤ max_key → turns_left turn ≡ left
+    → max_key - left ≡ turn
 turn_back turn left le h = omega (arith, le, h)
 
 -- ---- the last turn
@@ -162,7 +162,7 @@ spanned F t client turn s l some =
     ∙ in_client client (turns_left s.fact.turn) s.fact.digest s.dot
     (below s.fact.turn (subst (λ (n : ℕ). 0 < n) (sym s.turn_is) some)) l.long l.ranged
   where
-    below : (n : ℕ) → 0 < n → turns_left n < greatest_key
+    below : (n : ℕ) → 0 < n → turns_left n < max_key
     below n some = omega (arith, some)
 
 -- a client without a key has no turn above 0
@@ -184,9 +184,9 @@ none_last F t client i none = record {
 -- the first key of a client has its last turn
 first_last : (F : FactSet) (t : BTreeSet SecretKey) (client : Dot) (e : SecretKey) → IsSecrets F t
     → IsStrictlySortedBy secret_cmp t.keys → find every (secrets_of t client) ≡ Some e
-    → IsLast F client (greatest_key - e.left)
+    → IsLast F client (max_key - e.left)
 first_last F t client e i sorted h = record {
-  above = λ turn s. elim (cases_lt (greatest_key - e.left) turn) [
+  above = λ turn s. elim (cases_lt (max_key - e.left) turn) [
     | inr le ↦ le
     | inl gt ↦ absurd (no_later turn (setting F client turn s) gt)
   ];
@@ -205,15 +205,15 @@ first_last F t client e i sorted h = record {
     its = found F t client e.left e.digest e.place i
         (ap (contains secret_cmp t) (sym itself) ∙ first.2)
 
-    before : (turn : ℕ) → turn ≤ greatest_key → greatest_key - e.left < turn
+    before : (turn : ℕ) → turn ≤ max_key → max_key - e.left < turn
         → turns_left turn < e.left
     before turn le gt = omega (arith, le, gt)
 
-    no_later : (turn : ℕ) (s : Setting F client turn) → greatest_key - e.left < turn → ⊥
+    no_later : (turn : ℕ) (s : Setting F client turn) → max_key - e.left < turn → ⊥
     no_later turn s gt =
         let l = listed F t s.dot s.fact i s.at in
         let k = secret_key s.fact.client (turns_left s.fact.turn) s.fact.digest s.dot in
-        let later = subst (λ (n : ℕ). greatest_key - e.left < n) (sym s.turn_is) gt in
+        let later = subst (λ (n : ℕ). max_key - e.left < n) (sym s.turn_is) gt in
         first_least secret_cmp secrets_total secret_same every (is_of_client client) t.keys sorted e
         h k l.at (spanned F t client turn s l (omega (arith, gt))) refl
         (ap (secret_cmp k) itself
@@ -240,13 +240,13 @@ last_listed_is F t client i sorted =
 -- ---- the secrets of a turn
 
 -- two turns that leave as many are equal
-turns_same : (m n left : ℕ) → m ≤ greatest_key → n ≤ greatest_key → turns_left m ≡ turns_left n
+turns_same : (m n left : ℕ) → m ≤ max_key → n ≤ max_key → turns_left m ≡ turns_left n
     → m ≡ n
 turns_same m n left h i same = omega (arith, h, i, same)
 
 -- the table has exactly the secrets that were set
 pub has_secret_is : (F : FactSet) (t : BTreeSet SecretKey) (c : Dot) (turn : ℕ) (g : List ℕ)
-    → IsSecrets F t → turn ≤ greatest_key
+    → IsSecrets F t → turn ≤ max_key
     → has_secret t c (turns_left turn) g ≡ is_set F c turn g
 has_secret_is F t c turn g i keyed = same_tests (has_secret t c (turns_left turn) g)
     (is_set F c turn g)

@@ -22,7 +22,7 @@ use Rattle.tk_store.proofs.OneMoreLaws.{OneMore, cases_dots}
 use Rattle.tk_ledger.specs.Bodies.{is_same_dot}
 use Rattle.tk_ledger.specs.Changes.{change_in}
 use Rattle.tk_ledger.specs.Index.{is_at}
-use Rattle.tk_ledger.specs.SecretTables.{greatest_key, turns_left, secret_cmp, secret_key}
+use Rattle.tk_ledger.specs.SecretTables.{max_key, turns_left, secret_cmp, secret_key}
 use Rattle.tk_ledger.specs.SecretTables.{secret_in, secret_at, is_left_to, is_listed_secret}
 use Rattle.tk_ledger.specs.SecretTables.{IsSecrets}
 use Rattle.tk_ledger.specs.declared.change.Change.{Change}
@@ -72,7 +72,7 @@ turn-change body f h = absurd (none_is_not_some f h)
 
 -- the change sets no secret at a turn above the greatest of a key
 abbrev pub IsKeyed : Change → Type 0
-IsKeyed (change.SetSecret c turn g) = turn ≤ greatest_key
+IsKeyed (change.SetSecret c turn g) = turn ≤ max_key
 IsKeyed other = Unit {0}
 
 -- a change that sets no secret has no turn out of range
@@ -81,9 +81,9 @@ unset_keyed (change.SetSecret c turn g) h = absurd (true≢false h)
 unset_keyed other h = tt
 
 -- the turn of a change whose turn is in range is at most the greatest of a key
-keyed_turn : (y : Change) (turn : ℕ) → turn_by y ≡ Some turn → IsKeyed y → turn ≤ greatest_key
+keyed_turn : (y : Change) (turn : ℕ) → turn_by y ≡ Some turn → IsKeyed y → turn ≤ max_key
 keyed_turn (change.SetSecret c n g) turn h keyed =
-    subst (λ (m : ℕ). m ≤ greatest_key) (some_injective n turn h) keyed
+    subst (λ (m : ℕ). m ≤ max_key) (some_injective n turn h) keyed
 keyed_turn other turn h keyed = absurd (none_is_not_some turn h)
 
 -- ---- one more fact
@@ -154,7 +154,7 @@ same_secrets G d y t h none i = secrets_by G d y t t h i i.ranged (unset_keyed y
 pub secret_row : (G : FactSet) (d client : Dot) (turn : ℕ) (digest : List ℕ)
     (t u : BTreeSet SecretKey)
     → option_map change_in (map.get G d) ≡ Some (change.SetSecret client turn digest)
-    → IsSecrets (map.remove G d) t → IsDot d → length digest ≡ 32 → turn ≤ greatest_key
+    → IsSecrets (map.remove G d) t → IsDot d → length digest ≡ 32 → turn ≤ max_key
     → ((k : SecretKey)
     → contains secret_cmp u k
     ≡ cond (eq_by_cmp secret_cmp (secret_key client (turns_left turn) digest d) k) true

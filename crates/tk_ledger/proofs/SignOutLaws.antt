@@ -24,7 +24,7 @@ use Rattle.std.specs.declared.ops.Bound.TheVariants.{Included}
 use Rattle.sha2.specs.Sha256.{sha256}
 use Rattle.tk_handle.specs.declared.dot.Dot.{Dot}
 use Rattle.tk_handle.specs.Dot.{dot_cmp, dot_cmp_total, least_dot, greatest_dot}
-use Rattle.tk_handle.specs.Ranges.{greatest_moment}
+use Rattle.tk_handle.specs.Ranges.{max_moment}
 use Rattle.tk_family.specs.Dots.{dot_eq}
 use Rattle.tk_fact.specs.declared.body.Body.{Body}
 use Rattle.tk_fact.specs.declared.body.Body.TheVariants.{SubjectOut}
@@ -60,9 +60,9 @@ its_key subject f d = out_key (sha256 subject) (left_after f.moment) d
 record Listed (F : FactSet) (t : BTreeSet OutKey) (subject : List ℕ) (f : out.SubjectOut)
     (d : Dot) : Type 0 where
   pub at : among out_cmp (its_key subject f d) t.keys ≡ true
-  pub ranged : f.moment ≤ greatest_moment
+  pub ranged : f.moment ≤ max_moment
   pub kept : range_contains out_cmp (Included (out_key (sha256 subject) 0 least_dot))
-      (Included (out_key (sha256 subject) greatest_moment greatest_dot)) (its_key subject f d)
+      (Included (out_key (sha256 subject) max_moment greatest_dot)) (its_key subject f d)
       ≡ true
   pub passes : tells_of F subject (its_key subject f d) ≡ true
 
@@ -105,7 +105,7 @@ less_is a b lt = by_ranked (a < b) (a ≡ b) (b < a) (nat_cmp a b) (ranked a b (
     turned g = omega (arith, lt, g)
 
 -- of two moments, the later leaves fewer seconds
-later_first : (m n : ℕ) → m < n → n ≤ greatest_moment → nat_cmp (left_after n) (left_after m) ≡ Less
+later_first : (m n : ℕ) → m < n → n ≤ max_moment → nat_cmp (left_after n) (left_after m) ≡ Less
 later_first m n lt le = less_is (left_after n) (left_after m) (omega (arith, lt, le))
 
 -- the sign-out of the key that is found is the last

@@ -88,9 +88,9 @@ consent_span subject = record {
 }
 
 -- the least dot and the greatest dot are at most the greatest
-greatest_client : (is_le (dot_cmp least_dot greatest_dot) ≡ true)
+max_client : (is_le (dot_cmp least_dot greatest_dot) ≡ true)
     × (is_le (dot_cmp greatest_dot greatest_dot) ≡ true)
-greatest_client = (refl, refl)
+max_client = (refl, refl)
 
 -- the span above a dot runs forward
 pub span_forward : (subject : List ℕ) (after : Option Dot) (first : Bound ConsentKey)
@@ -104,14 +104,14 @@ span_forward subject None first last is end ranged =
     (subst (λ (k : ConsentKey). IsForward (IsLeBy consent_cmp) (IsLtBy consent_cmp)
     (consent_start subject None) (Included k)) (sym end)
     (forward consent_cmp consents_total key_same (key_at subject) (λ k. k.consent) (λ k. k.client)
-    dot_cmp dot_cmp_total least_dot greatest_dot (consent_span subject) None greatest_client tt))
+    dot_cmp dot_cmp_total least_dot greatest_dot (consent_span subject) None max_client tt))
 span_forward subject (Some d) first last is end ranged =
     subst (λ (b : Bound ConsentKey).
     IsForward (IsLeBy consent_cmp) (IsLtBy consent_cmp) b (Included last)) (sym is)
     (subst (λ (k : ConsentKey). IsForward (IsLeBy consent_cmp) (IsLtBy consent_cmp)
     (consent_start subject (Some d)) (Included k)) (sym end)
     (forward consent_cmp consents_total key_same (key_at subject) (λ k. k.consent) (λ k. k.client)
-    dot_cmp dot_cmp_total least_dot greatest_dot (consent_span subject) (Some d) greatest_client
+    dot_cmp dot_cmp_total least_dot greatest_dot (consent_span subject) (Some d) max_client
     (ranged d refl)))
 
 -- the keys of a subject are in range, and a consent has one client

@@ -29,7 +29,7 @@ use Rattle.std.specs.List.Sorted.{IsStrictlySortedBy}
 use Rattle.sha2.specs.Sha256.{sha256}
 use Rattle.tk_handle.specs.declared.dot.Dot.{Dot}
 use Rattle.tk_handle.specs.Dot.{IsDot, dot_cmp, dot_cmp_total, least_dot, greatest_dot}
-use Rattle.tk_handle.specs.Ranges.{greatest_moment}
+use Rattle.tk_handle.specs.Ranges.{max_moment}
 use Rattle.tk_handle.proofs.SpanLaws.{number_le, from_first, to_last, not_past, between}
 use Rattle.tk_family.specs.Dots.{dot_eq, has}
 use Rattle.tk_fact.specs.declared.code_issued.CodeIssued as issued
@@ -209,26 +209,26 @@ outs_empty t none = subst (λ (ks : List OutKey). IsStrictlySortedBy out_cmp ks)
 
 -- the span of a subject runs forward
 pub outs_forward : (subject : List ℕ) (a b : OutKey) → a ≡ out_key subject 0 least_dot
-    → b ≡ out_key subject greatest_moment greatest_dot → IsLeBy out_cmp a b
+    → b ≡ out_key subject max_moment greatest_dot → IsLeBy out_cmp a b
 outs_forward subject a b first last =
     ap (λ (x : OutKey). is_gt (out_cmp x b)) first
     ∙ ap (λ (x : OutKey). is_gt (out_cmp (out_key subject 0 least_dot) x)) last
-    ∙ ap is_gt (out_order subject 0 greatest_moment least_dot greatest_dot)
+    ∙ ap is_gt (out_order subject 0 max_moment least_dot greatest_dot)
 
 -- the key of a sign-out of the subject is in the span
-pub in_outs : (subject : List ℕ) (l : ℕ) (q : Dot) → l ≤ greatest_moment → IsDot q
+pub in_outs : (subject : List ℕ) (l : ℕ) (q : Dot) → l ≤ max_moment → IsDot q
     → range_contains out_cmp (Included (out_key subject 0 least_dot))
-    (Included (out_key subject greatest_moment greatest_dot)) (out_key subject l q)
+    (Included (out_key subject max_moment greatest_dot)) (out_key subject l q)
     ≡ true
 in_outs subject l q le h = and_from _ _
     (ap is_le (out_order subject 0 l least_dot q) ∙ elim (number_le 0 l (omega arith)) [
       | inl less ↦ ap (λ o. is_le (ordering_then o (dot_cmp least_dot q))) less
       | inr same ↦ ap (λ o. is_le (ordering_then o (dot_cmp least_dot q))) same ∙ from_first q h
     ])
-    (ap (λ o. not (is_lt o)) (out_order subject greatest_moment l greatest_dot q)
+    (ap (λ o. not (is_lt o)) (out_order subject max_moment l greatest_dot q)
     ∙ ap (λ o. not (is_lt (ordering_then o (dot_cmp greatest_dot q))))
-    (nat_cmp_total.antisymm greatest_moment l)
-    ∙ elim (number_le l greatest_moment le) [
+    (nat_cmp_total.antisymm max_moment l)
+    ∙ elim (number_le l max_moment le) [
       | inl less ↦
           ap (λ o. not (is_lt (ordering_then (ordering_reverse o) (dot_cmp greatest_dot q)))) less
       | inr same ↦
@@ -240,7 +240,7 @@ in_outs subject l q le h = and_from _ _
 -- a key in the span is one of the subject
 pub of_subject : (subject : List ℕ) (e : OutKey)
     → range_contains out_cmp (Included (out_key subject 0 least_dot))
-    (Included (out_key subject greatest_moment greatest_dot)) e
+    (Included (out_key subject max_moment greatest_dot)) e
     ≡ true
     → e.subject ≡ subject
 of_subject subject e h = let p = and_parts _ _ h in
@@ -267,7 +267,7 @@ code_listed F t d code i h = (at, i.ranged prefix code.start d at)
 pub out_listed : (F : FactSet) (t : BTreeSet OutKey) (d : Dot) (f : out.SubjectOut) → IsOuts F t
     → sign_out_at (map.get F) d ≡ Some f
     → (contains out_cmp t (out_key (sha256 f.subject) (left_after f.moment) d) ≡ true) × IsDot d
-    × (f.moment ≤ greatest_moment)
+    × (f.moment ≤ max_moment)
 out_listed F t d f i h = (at, i.ranged (sha256 f.subject) (left_after f.moment) d at, i.early d f h)
   where
     at : contains out_cmp t (out_key (sha256 f.subject) (left_after f.moment) d) ≡ true

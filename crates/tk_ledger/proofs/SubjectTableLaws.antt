@@ -10,7 +10,7 @@ use Rattle.std.specs.BTreeSet.{BTreeSet, contains}
 use Rattle.std.specs.FinMap as map
 use Rattle.tk_handle.specs.declared.dot.Dot.{Dot}
 use Rattle.tk_handle.specs.Dot.{IsDot}
-use Rattle.tk_handle.specs.Ranges.{greatest_moment}
+use Rattle.tk_handle.specs.Ranges.{max_moment}
 use Rattle.tk_fact.specs.declared.body.Body.{Body}
 use Rattle.tk_fact.specs.declared.body.Body.TheVariants.{CodeIssued, SubjectOut}
 use Rattle.tk_fact.specs.declared.subject_out.SubjectOut as out
@@ -182,7 +182,7 @@ signed_on F G d b subject left q x m i =
 
 -- the change signs out nobody after the greatest moment
 abbrev pub IsEarly : Change → Type 0
-IsEarly (change.SignOut digest moment) = moment ≤ greatest_moment
+IsEarly (change.SignOut digest moment) = moment ≤ max_moment
 IsEarly other = Unit {0}
 
 -- a change that signs nobody out signs nobody out after the greatest moment
@@ -192,9 +192,9 @@ unsigned_early other h = tt
 
 -- the moment of a sign-out whose change is early enough is at most the greatest
 early_moment : (y : Change) (moment : ℕ) → moment_of y ≡ Some moment → IsEarly y
-    → moment ≤ greatest_moment
+    → moment ≤ max_moment
 early_moment (change.SignOut digest n) moment h early =
-    subst (λ (m : ℕ). m ≤ greatest_moment) (some_injective n moment h) early
+    subst (λ (m : ℕ). m ≤ max_moment) (some_injective n moment h) early
 early_moment other moment h early = absurd (none_is_not_some moment h)
 
 -- the table of sign-outs follows the set with one more fact

@@ -14,7 +14,7 @@ use Rattle.std.specs.FinMap as map
 use Rattle.tk_handle.specs.declared.dot.Dot.{Dot}
 use Rattle.tk_handle.specs.declared.token_id.TokenId.{TokenId}
 use Rattle.tk_handle.specs.Dot.{IsDot, dot_cmp}
-use Rattle.tk_handle.specs.Ranges.{greatest_moment}
+use Rattle.tk_handle.specs.Ranges.{max_moment}
 use Rattle.tk_ledger.specs.declared.change.RevokedToken as revoked
 use Rattle.tk_store.specs.FactSet.{FactSet}
 use Rattle.tk_ledger.specs.Bodies.{is_same_dot, is_same_token}
@@ -292,7 +292,7 @@ code_row G d prefix start t u h i here r =
 -- the table with the key of a sign-out
 pub out_row : (G : FactSet) (d : Dot) (subject : List ℕ) (moment : ℕ) (t u : BTreeSet OutKey)
     → option_map change_in (map.get G d) ≡ Some (change.SignOut subject moment)
-    → IsOuts (map.remove G d) t → IsDot d → moment ≤ greatest_moment
+    → IsOuts (map.remove G d) t → IsDot d → moment ≤ max_moment
     → ((k : OutKey)
     → contains out_cmp u k
     ≡ cond (eq_by_cmp out_cmp (out_key subject (left_after moment) d) k) true

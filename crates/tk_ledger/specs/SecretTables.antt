@@ -44,12 +44,12 @@ use Rattle.tk_ledger.specs.declared.secrets.SecretKey.{SecretKey}
 -- ---- keys
 
 -- the greatest turn that a key can have: 2^64 - 1
-abbrev pub greatest_key : ℕ
-greatest_key = 18446744073709551615
+abbrev pub max_key : ℕ
+max_key = 18446744073709551615
 
 -- the turns from the turn to the greatest
 abbrev pub turns_left : ℕ → ℕ
-turns_left turn = greatest_key - turn
+turns_left turn = max_key - turn
 
 -- the order of secrets: by client, then by the turns left, then by the digest, then by the dot of
 -- the fact. The last secret of a client is first
@@ -70,7 +70,7 @@ first_of client = secret_key client 0 (replicate 32 0) least_dot
 
 -- the greatest key that a secret of the client can have
 abbrev pub last_of : Dot → SecretKey
-last_of client = secret_key client greatest_key (replicate 32 255) greatest_dot
+last_of client = secret_key client max_key (replicate 32 255) greatest_dot
 
 -- the keys of the secrets of a client
 abbrev pub secrets_of : BTreeSet SecretKey → Dot → List SecretKey
@@ -80,7 +80,7 @@ secrets_of t client =
 -- the turn of a key, or 0 if there is no key
 abbrev pub turn_of : Option SecretKey → ℕ
 turn_of None = 0
-turn_of (Some k) = greatest_key - k.left
+turn_of (Some k) = max_key - k.left
 
 -- the turn of the first key of a client, or 0 if the client has none
 abbrev pub last_listed : BTreeSet SecretKey → Dot → ℕ
@@ -127,4 +127,4 @@ pub record IsSecrets (F : FactSet) (t : BTreeSet SecretKey) : Type 0 where
       → is_listed_secret t client left digest d ≡ true
       → IsDot d × (length digest ≡ 32)
   pub early : (d : Dot) (f : set.SecretSet) → secret_at (map.get F) d ≡ Some f
-      → f.turn ≤ greatest_key
+      → f.turn ≤ max_key

@@ -1,7 +1,7 @@
 -- The secrets of a client, and which of them are good (own; RFC 6749, 2.3.1). The secret with which
 -- a client was registered has turn 0. Each secret that is set has a later turn.
 --   turn_in                   the turn at which a body sets a secret of a client
---   greatest_turn, last_turn  the last turn of a client
+--   max_turn, last_turn  the last turn of a client
 --   sets, is_set              a secret was set for a client at a turn
 --   is_secret_at              a client has a secret at a turn
 --   is_good_secret            a client has a secret at its last turn, or at the turn before
@@ -40,13 +40,13 @@ turn_in client (SecretSet f) = if is_same_dot f.client client then Some f.turn e
 turn_in client body = None
 
 -- the greatest of some turns, or 0 (own)
-abbrev pub greatest_turn : List ℕ → ℕ
-greatest_turn [] = 0
-greatest_turn (turn ∷ others) = max turn (greatest_turn others)
+abbrev pub max_turn : List ℕ → ℕ
+max_turn [] = 0
+max_turn (turn ∷ others) = max turn (max_turn others)
 
 -- the last turn: the greatest at which a secret was set for the client, or 0 (own)
 unfoldable pub last_turn : FactSet → Dot → ℕ
-last_turn F client = greatest_turn (filter_map (λ f. turn_in client f.1) (map.entries F))
+last_turn F client = max_turn (filter_map (λ f. turn_in client f.1) (map.entries F))
 
 -- ---- the secrets of a turn
 

@@ -37,7 +37,7 @@ use Rattle.std.specs.FinMap as map
 use Rattle.sha2.specs.Sha256.{sha256}
 use Rattle.tk_handle.specs.declared.dot.Dot.{Dot}
 use Rattle.tk_handle.specs.Dot.{IsDot, dot_cmp, least_dot, greatest_dot}
-use Rattle.tk_handle.specs.Ranges.{greatest_moment}
+use Rattle.tk_handle.specs.Ranges.{max_moment}
 use Rattle.tk_fact.specs.declared.code_issued.CodeIssued as issued
 use Rattle.tk_fact.specs.declared.subject_out.SubjectOut as out
 use Rattle.tk_store.specs.FactSet.{FactSet}
@@ -139,7 +139,7 @@ out_cmp a b =
 
 -- the seconds from the moment to the greatest moment
 abbrev pub left_after : ℕ → ℕ
-left_after moment = greatest_moment - moment
+left_after moment = max_moment - moment
 
 -- the key of a sign-out
 abbrev pub out_key : List ℕ → ℕ → Dot → OutKey
@@ -149,7 +149,7 @@ out_key subject left d = record { subject = subject; left = left; place = d }
 abbrev pub outs_of : BTreeSet OutKey → List ℕ → List OutKey
 outs_of t subject =
     keys.keys_between out_cmp (Included (out_key subject 0 least_dot))
-    (Included (out_key subject greatest_moment greatest_dot)) t
+    (Included (out_key subject max_moment greatest_dot)) t
 
 -- a subject with the digest signed out, with `left` seconds left after the moment
 abbrev pub is_left_by : List ℕ → ℕ → Option out.SubjectOut → Bool
@@ -168,7 +168,7 @@ pub record IsOuts (F : FactSet) (t : BTreeSet OutKey) : Type 0 where
   pub ranged : (subject : List ℕ) (left : ℕ) (d : Dot) → is_listed_out t subject left d ≡ true
       → IsDot d
   pub early : (d : Dot) (f : out.SubjectOut) → sign_out_at (map.get F) d ≡ Some f
-      → f.moment ≤ greatest_moment
+      → f.moment ≤ max_moment
 
 -- the sign-out, if there is one, is by the subject, with `left` seconds left after its moment
 abbrev pub tells_by : List ℕ → ℕ → Option out.SubjectOut → Bool

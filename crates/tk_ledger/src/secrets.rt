@@ -31,7 +31,7 @@ use std::ops::Bound;
 // Returns the turns from the turn to the greatest turn of a key.
 fn left(turn: u64) -> u64
     ensures value { result ≡ spec.turns_left turn }
-    ensures early { turn ≤ spec.greatest_key }
+    ensures early { turn ≤ spec.max_key }
 {
     u64::MAX - turn
 }
@@ -63,7 +63,7 @@ pub(crate) fn list_secret(
         → contains secret_cmp secrets.new k ≡ contains secret_cmp secrets.old k) }
     ensures ranged { IsDot place }
     ensures sized { length digest.now ≡ 32 }
-    ensures early { turn ≤ spec.greatest_key }
+    ensures early { turn ≤ spec.max_key }
 {
     let _ranges = (place.region(), place.serial(), *digest);
     secrets.insert(key(client, turn, digest, place))?;
@@ -120,7 +120,7 @@ pub(crate) fn is_set(
 ) -> bool
     ensures value { result
         ≡ spec.has_secret secrets.now client (spec.turns_left turn) digest.now }
-    ensures early { turn ≤ spec.greatest_key }
+    ensures early { turn ≤ spec.max_key }
 {
     let (first, last) = secret_span(client, turn, digest);
     secrets

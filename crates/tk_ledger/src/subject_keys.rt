@@ -35,7 +35,7 @@ ghost use Rattle.std.specs.Prelude.{◌≡◌, OnOk, OnErr, cond, true, false, S
 ghost use Rattle.std.specs.BTreeSet.{contains};
 ghost use Rattle.std.specs.Ordering.{eq_by_cmp};
 ghost use Rattle.tk_handle.specs.Dot.{IsDot, least_dot, greatest_dot};
-ghost use Rattle.tk_handle.specs.Ranges.{IsMoment, greatest_moment};
+ghost use Rattle.tk_handle.specs.Ranges.{IsMoment, max_moment};
 ghost use Rattle.tk_handle.specs.declared.dot.Dot.{Dot as the_dot};
 ghost use Rattle.tk_ledger.specs.SubjectTables.{
   code_cmp,
@@ -201,7 +201,7 @@ pub(crate) fn list_out(
 // Returns the least and the greatest key that a sign-out of the subject can have.
 pub(crate) fn out_span(subject: &[u8; 32]) -> (OutKey, OutKey)
     ensures first { result.0 ≡ out_key subject.now 0 least_dot }
-    ensures last { result.1 ≡ out_key subject.now greatest_moment greatest_dot }
+    ensures last { result.1 ≡ out_key subject.now max_moment greatest_dot }
 {
     let key = |left: u64, place: Dot| OutKey {
         subject: *subject,

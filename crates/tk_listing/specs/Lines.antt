@@ -18,7 +18,7 @@ use Rattle.tk_fact.specs.declared.body.Body.{Body}
 use Rattle.tk_fact.specs.declared.body.Body.TheVariants as bodies
 use Rattle.tk_store.specs.Slots.{Slot, Held, Skipped}
 use Rattle.tk_bundle.specs.BundleFields.{Items}
-use Rattle.tk_handle.specs.Ranges.{greatest_region}
+use Rattle.tk_handle.specs.Ranges.{max_region}
 use Rattle.tk_vector.specs.VersionVector.{Vector, entry}
 use Rattle.tk_listing.specs.Members.{plain_member, number_member}
 use Rattle.tk_listing.specs.Members.{moment_member}
@@ -91,4 +91,4 @@ lines_up_to v (suc n) = lines_up_to v n ++ region_line v (suc n)
 
 -- the lines of a vector's entries, ascending by region
 abbrev pub vector_lines : Vector → List ℕ
-vector_lines v = lines_up_to v greatest_region
+vector_lines v = lines_up_to v max_region

@@ -14,7 +14,7 @@ use Rattle.serde_json.specs.Data.{Data, Items, no_items}
 use Rattle.serde_json.specs.Written.{items_outline, outline}
 use Rattle.tk_handle.specs.declared.dot.Dot.{Dot}
 use Rattle.tk_handle.specs.ClientId.{client_text}
-use Rattle.tk_message.specs.Page.{page_size, listed, cursor_of}
+use Rattle.tk_message.specs.Page.{max_listed, listed, cursor_of}
 
 -- a page of no entries has no items
 pub listed_none : {X : Type 0} (body : Dot × X → Data) (n : ℕ) → listed body n [] ≡ no_items
@@ -52,11 +52,11 @@ cursor_more n m at last c cs more left is whole =
     ap (λ (k : ℕ). cursor_of k at (c ∷ cs)) (sym left) ∙ ap (cursor_of n at) (sym is) ∙ whole
 
 -- a page that is not full has room for one entry and the rest
-pub one_left : (k : ℕ) → k < page_size → page_size - k ≡ suc (page_size - (k + 1))
+pub one_left : (k : ℕ) → k < max_listed → max_listed - k ≡ suc (max_listed - (k + 1))
 one_left k below = omega (arith, below)
 
 -- a full page has room for no entry
-pub none_left : (k : ℕ) → page_size ≤ k → page_size - k ≡ zero
+pub none_left : (k : ℕ) → max_listed ≤ k → max_listed - k ≡ zero
 none_left k full = omega (arith, full)
 
 -- a page behind its name and its opening bracket

@@ -10,7 +10,7 @@ use Rattle.tk_store.specs.Walk.{above}
 use Rattle.tk_ledger.specs.ClientWalk.{clients_in}
 use Rattle.tk_ledger.specs.ViewFields.{ClientFields}
 use Rattle.tk_message.specs.Bodies.{shown_body}
-use Rattle.tk_message.specs.Page.{page_size, listed, cursor_of}
+use Rattle.tk_message.specs.Page.{max_listed, listed, cursor_of}
 
 -- a client of the page: its id, kind, lives, whether it is live, and its scope (own)
 abbrev pub listed_body : Dot × ClientFields → Data
@@ -24,8 +24,8 @@ next_member (Some client) = member (codes "next") (string (client_text client)) 
 -- the page of these clients, which follow one (own)
 abbrev pub page_body : Option Dot → List (Dot × ClientFields) → Data
 page_body after clients = object
-    (member (codes "clients") (array (listed listed_body page_size clients))
-    (next_member (cursor_of page_size after clients)))
+    (member (codes "clients") (array (listed listed_body max_listed clients))
+    (next_member (cursor_of max_listed after clients)))
 
 -- the page of the clients above a dot, or of the first (own)
 abbrev pub clients_body : FactSet → Option Dot → Data

@@ -1,5 +1,5 @@
 -- A page of entries at dots, as operators see them (own).
---   page_size   how many entries a page has at most
+--   max_listed   how many entries a page has at most
 --   listed      the first entries, as items
 --   cursor_of   the dot behind which the next page begins, if there is one
 use Rattle.std.specs.Prelude.{ℕ, zero, suc, List, [], ◌∷◌, Option, Some, None}
@@ -7,8 +7,8 @@ use Rattle.serde_json.specs.Data.{Data, Items, no_items, item}
 use Rattle.tk_handle.specs.declared.dot.Dot.{Dot}
 
 -- how many entries a page has at most (own)
-abbrev pub page_size : ℕ
-page_size = 128
+abbrev pub max_listed : ℕ
+max_listed = 128
 
 -- the first n entries, each with this body, as items (own)
 abbrev pub listed : {X : Type 0} → (Dot × X → Data) → ℕ → List (Dot × X) → Items

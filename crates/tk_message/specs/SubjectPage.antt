@@ -31,7 +31,7 @@ use Rattle.tk_ledger.specs.declared.status.State.{State}
 use Rattle.tk_ledger.specs.declared.status.State.TheVariants as state
 use Rattle.tk_message.specs.Bodies.{with_number, with_text}
 use Rattle.tk_message.specs.LastSignOut.{last_sign_out}
-use Rattle.tk_message.specs.Page.{page_size, listed, cursor_of}
+use Rattle.tk_message.specs.Page.{max_listed, listed, cursor_of}
 
 -- the name of a login's state: tokens may be active, the code can be redeemed, the code expired
 -- unredeemed, the family is dead, or client or consent isn't live (own)
@@ -77,8 +77,8 @@ shown_page consents logins next_consent next_login signed_out subject = object
 abbrev pub page_of : Option Dot → List (Dot × ConsentFields) → Option Dot
     → List (Dot × LoginFields) → Option ℕ → List ℕ → Data
 page_of consents_after consents logins_after logins signed_out subject =
-    shown_page (listed consent_item page_size consents) (listed login_item page_size logins)
-    (cursor_of page_size consents_after consents) (cursor_of page_size logins_after logins)
+    shown_page (listed consent_item max_listed consents) (listed login_item max_listed logins)
+    (cursor_of max_listed consents_after consents) (cursor_of max_listed logins_after logins)
     signed_out subject
 
 -- the page of a subject at a moment: its live consents above a dot, or the first, its logins above

@@ -7,7 +7,7 @@ ghost use Rattle.tk_store.specs.StoreFields.{held_facts};
 ghost use Rattle.tk_store.specs.Walk.{above};
 ghost use Rattle.tk_ledger.specs.ClientWalk.{clients_in};
 ghost use Rattle.tk_message.specs.ClientPage as spec;
-ghost use Rattle.tk_message.specs.Page.{page_size, listed, cursor_of};
+ghost use Rattle.tk_message.specs.Page.{max_listed, listed, cursor_of};
 
 use crate::bodies::put_shown;
 use crate::object::{begin, end, put_text};
@@ -16,8 +16,8 @@ use std::alloc::{AllocError, Global};
 use tk_handle::{Dot, client_text};
 use tk_ledger::{ClientView, Ledger};
 
-/// How many clients, consents or logins a page has at most.
-pub const MAX_LISTED: usize = 128;
+// How many clients, consents or logins a page has at most.
+pub(crate) const MAX_LISTED: usize = 128;
 
 // How many bytes are reserved for a page. Most pages need fewer, a long one needs more.
 const ROOM: usize = 4_096;
@@ -51,8 +51,8 @@ fn put_clients(
     after: Option<Dot>,
 ) -> Result<Option<Dot>, AllocError>
     ensures ok { OnOk result (out.new.tokens ≡ out.old.tokens ++ items_tokens (items_outline
-        (listed spec.listed_body page_size (above (clients_in (held_facts ledger.now)) after)))) }
-    ensures next { IfOk result (λ next. next ≡ cursor_of page_size after
+        (listed spec.listed_body max_listed (above (clients_in (held_facts ledger.now)) after)))) }
+    ensures next { IfOk result (λ next. next ≡ cursor_of max_listed after
         (above (clients_in (held_facts ledger.now)) after)) }
     ensures before { OnOk result (out.new.before ≡ out.old.before) }
 {

@@ -41,10 +41,11 @@ pub enum ErrorCode {
     /// A bundle has a fact or a mark under a number that the region doesn't take (own; RFC 9110,
     /// 15.5.10).
     OutOfRange,
-    /// A bundle has a fact under the region's own number that the region did not make (own; RFC
-    /// 9110, 15.5.10).
+    /// A bundle has a fact or a mark under the region's own number that the region did not make
+    /// (own; RFC 9110, 15.5.10).
     OwnNumber,
-    /// A bundle has another body for a fact that is held (own; RFC 9110, 15.5.10).
+    /// A bundle contradicts what is known of a dot: it has another fact there, a mark where a fact
+    /// lasts, or a fact that lasts where the dot is skipped (own; RFC 9110, 15.5.10).
     Conflict,
 }
 

@@ -36,7 +36,6 @@ mod subject_page;
 
 pub use caller::{Caller, find_caller};
 pub use choices::{ChallengeRules, Choices, ConsentReuse, RefreshSeen, UnseenRevocation};
-pub use client_page::MAX_LISTED;
 pub use decision::Decision;
 pub use error_code::ErrorCode;
 pub use json_reply::JsonReply;

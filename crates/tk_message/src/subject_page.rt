@@ -12,7 +12,7 @@ ghost use Rattle.tk_store.specs.Walk.{above};
 ghost use Rattle.tk_ledger.specs.SubjectWalk.{consents_of, logins_of};
 ghost use Rattle.tk_message.specs.Bodies.{text_written};
 ghost use Rattle.tk_message.specs.LastSignOut.{last_sign_out};
-ghost use Rattle.tk_message.specs.Page.{page_size, listed, cursor_of};
+ghost use Rattle.tk_message.specs.Page.{max_listed, listed, cursor_of};
 ghost use Rattle.tk_message.specs.SubjectPage as spec;
 
 use crate::bodies::put_optional;
@@ -74,9 +74,9 @@ fn put_consents(
 ) -> Result<Option<Dot>, AllocError>
     ensures ok { OnOk result (out.new.tokens ≡ out.old.tokens
         ++ key (codes "consents") ∷ begin_array
-        ∷ items_tokens (items_outline (listed spec.consent_item page_size
+        ∷ items_tokens (items_outline (listed spec.consent_item max_listed
         (above (consents_of (held_facts ledger.now) subject.now) after)))) }
-    ensures next { IfOk result (λ next. next ≡ cursor_of page_size after
+    ensures next { IfOk result (λ next. next ≡ cursor_of max_listed after
         (above (consents_of (held_facts ledger.now) subject.now) after)) }
     ensures before { OnOk result (out.new.before ≡ out.old.before) }
 {
@@ -153,9 +153,9 @@ fn put_logins(
 ) -> Result<Option<Dot>, AllocError>
     ensures ok { OnOk result (out.new.tokens ≡ out.old.tokens
         ++ key (codes "logins") ∷ begin_array
-        ∷ items_tokens (items_outline (listed spec.login_item page_size
+        ∷ items_tokens (items_outline (listed spec.login_item max_listed
         (above (logins_of (held_facts ledger.now) now subject.now) after)))) }
-    ensures next { IfOk result (λ next. next ≡ cursor_of page_size after
+    ensures next { IfOk result (λ next. next ≡ cursor_of max_listed after
         (above (logins_of (held_facts ledger.now) now subject.now) after)) }
     ensures before { OnOk result (out.new.before ≡ out.old.before) }
 {

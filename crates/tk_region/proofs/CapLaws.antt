@@ -14,7 +14,7 @@ use Rattle.std.specs.FinMap as map
 use Rattle.std.proofs.lemmas.Bool.Decides.{nat_tests}
 use Rattle.tk_handle.specs.declared.dot.Dot.{Dot}
 use Rattle.tk_handle.specs.Dot.{dot_cmp}
-use Rattle.tk_handle.specs.Ranges.{greatest_serial}
+use Rattle.tk_handle.specs.Ranges.{max_serial}
 use Rattle.tk_fact.specs.declared.body.Body.{Body}
 use Rattle.tk_store.specs.FactSet.{AllIn}
 use Rattle.tk_store.specs.NextDot.{last_serial, next_serial}
@@ -34,7 +34,7 @@ use Rattle.tk_region.specs.declared.take.TakeError.{TakeError}
 use Rattle.tk_region.specs.declared.take.TakeError.TheVariants.{Malformed, OwnNumber, Conflict}
 use Rattle.tk_region.specs.declared.take.TakeError.TheVariants.{Memory}
 use Rattle.tk_region.specs.RegionFields.{RegionFields, IsCapped, place_in}
-use Rattle.tk_region.specs.SettingsFields.{SettingsFields, greatest_cap}
+use Rattle.tk_region.specs.SettingsFields.{SettingsFields, max_cap}
 use Rattle.tk_region.specs.Step.{IsNextFact}
 use Rattle.tk_region.specs.Taking.{has_unmade, is_unmade, raised, items_taken, TakesIn}
 use Rattle.tk_region.proofs.TakeLaws.{raised_slots}
@@ -60,11 +60,11 @@ last_under r k =
 
 -- the next serial of a capped region is a serial
 pub next_under : (r : RegionFields) → IsCapped r
-    → next_serial r.facts.slots r.number ≤ greatest_serial
+    → next_serial r.facts.slots r.number ≤ max_serial
 next_under r k = let most = last_under r k in omega (arith, k.low)
 
 -- a region without facts is capped
-pub capped_empty : (r : RegionFields) → r.facts ≡ empty_store → r.settings.cap ≤ greatest_cap
+pub capped_empty : (r : RegionFields) → r.facts ≡ empty_store → r.settings.cap ≤ max_cap
     → IsCapped r
 capped_empty r none low = record {
   own = λ d s h. absurd

@@ -13,7 +13,7 @@ use Rattle.tk_store.specs.NextDot.{next_serial}
 use Rattle.tk_store.specs.Slots.{Slot}
 use Rattle.tk_store.specs.StoreFields.{StoreFields, with_fact, coded_store}
 use Rattle.tk_message.specs.declared.place.Place.{Place}
-use Rattle.tk_region.specs.SettingsFields.{SettingsFields, lives_of, coded_settings, greatest_cap}
+use Rattle.tk_region.specs.SettingsFields.{SettingsFields, lives_of, coded_settings, max_cap}
 
 -- a region's number, settings and store of facts
 pub record RegionFields : Type 0 where
@@ -44,7 +44,7 @@ place_in r =
 pub record IsCapped (r : RegionFields) : Type 0 where
   pub own : (d : Dot) (s : Slot) → map.get r.facts.slots d ≡ Some s → d.region ≡ r.number
       → d.serial ≤ r.settings.cap
-  pub low : r.settings.cap ≤ greatest_cap
+  pub low : r.settings.cap ≤ max_cap
 
 -- the store with the fact that was made, if there is one
 abbrev pub with_made : StoreFields → Option (Dot × Body) → StoreFields

@@ -3,11 +3,11 @@
 --   lives_of         the four lives
 --   with_cap         the settings of four lives and a cap
 --   IsSettings       each number is in its range
---   greatest_code, greatest_access, greatest_refresh, greatest_family, greatest_cap
+--   max_code, max_access, max_refresh, max_family, max_cap
 --                    the greatest number of each range
 use Rattle.std.specs.Prelude.{ℕ, ◌-◌, ◌<◌, ◌≤◌, refl}
 use Rattle.std.specs.Coded.{Coded, code_by, coded×, coded_ℕ}
-use Rattle.tk_handle.specs.Ranges.{greatest_serial}
+use Rattle.tk_handle.specs.Ranges.{max_serial}
 use Rattle.tk_message.specs.Choices.{coded_choices, profile_choices}
 use Rattle.tk_message.specs.declared.choices.Choices.{Choices}
 use Rattle.tk_message.specs.declared.place.Lives.{Lives}
@@ -42,32 +42,32 @@ abbrev pub IsUpTo : ℕ → ℕ → Type 0
 IsUpTo greatest n = (0 < n) × (n ≤ greatest)
 
 -- the greatest life of a code: ten minutes (RFC 6749, 4.1.2 recommends that)
-abbrev pub greatest_code : ℕ
-greatest_code = 600
+abbrev pub max_code : ℕ
+max_code = 600
 
 -- the greatest life of an access token: a day (own)
-abbrev pub greatest_access : ℕ
-greatest_access = 86400
+abbrev pub max_access : ℕ
+max_access = 86400
 
 -- the greatest life of a refresh token: a year (own)
-abbrev pub greatest_refresh : ℕ
-greatest_refresh = 31536000
+abbrev pub max_refresh : ℕ
+max_refresh = 31536000
 
 -- the greatest life of a family: ten years (own)
-abbrev pub greatest_family : ℕ
-greatest_family = 315360000
+abbrev pub max_family : ℕ
+max_family = 315360000
 
 -- the greatest cap, above which one serial is left
-abbrev pub greatest_cap : ℕ
-greatest_cap = greatest_serial - 1
+abbrev pub max_cap : ℕ
+max_cap = max_serial - 1
 
 -- each number is in its range
 pub record IsSettings (s : SettingsFields) : Type 0 where
-  pub code : IsUpTo greatest_code s.code
-  pub access : IsUpTo greatest_access s.access
-  pub refresh : IsUpTo greatest_refresh s.refresh
-  pub family : IsUpTo greatest_family s.family
-  pub cap : IsUpTo greatest_cap s.cap
+  pub code : IsUpTo max_code s.code
+  pub access : IsUpTo max_access s.access
+  pub refresh : IsUpTo max_refresh s.refresh
+  pub family : IsUpTo max_family s.family
+  pub cap : IsUpTo max_cap s.cap
 
 -- the code of settings, from the codes of their numbers and choices
 abbrev pub coded_settings : Coded SettingsFields

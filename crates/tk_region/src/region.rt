@@ -35,7 +35,7 @@ ghost use Rattle.std.specs.Prelude.{◌≡◌, ◌≤◌, IfOk, IfSome, None, On
 ghost use Rattle.std.specs.FinMap as map;
 ghost use Rattle.std.specs.Option.{option_map};
 ghost use Rattle.tk_format.specs.Format.{whole};
-ghost use Rattle.tk_handle.specs.Ranges.{greatest_serial};
+ghost use Rattle.tk_handle.specs.Ranges.{max_serial};
 ghost use Rattle.tk_fact.specs.Check.{refusal_of};
 ghost use Rattle.tk_store.specs.Front.{IsFront};
 ghost use Rattle.tk_store.specs.NextDot.{next_serial, next_dot};
@@ -54,7 +54,7 @@ ghost use Rattle.tk_region.specs.Taking.{TakesIn};
 
 use crate::decision::decide_endpoint;
 use crate::step::{Handled, Prepared, prepare, refuse_early};
-use crate::take::{TakeError, take_bundle, unread};
+use crate::take::{TakeError, take_bundle};
 use std::alloc::{AllocError, Global};
 use tk_bundle::{Bundle, Page, make, make_with_runs, news};
 use tk_fact::Fact;
@@ -301,7 +301,7 @@ impl Region {
     {
         match Bundle::read(alloc, bytes) {
             Ok(sent) => self.take_bundle(sent),
-            Err(error) => Err(unread(error)),
+            Err(error) => Err(TakeError::unread(error)),
         }
     }
 
@@ -370,7 +370,7 @@ impl Region {
 
 // Returns the dot of the region's next fact. The known dots must leave a serial.
 fn next_in_ledger(ledger: &Ledger, number: RegionNumber) -> Dot
-    requires { next_serial ledger.now.slots number ≤ greatest_serial }
+    requires { next_serial ledger.now.slots number ≤ max_serial }
     ensures { result ≡ next_dot ledger.now.slots number }
 {
     ledger.store().next_dot(number).unwrap()

@@ -49,7 +49,7 @@ impl Model for Settings {
 
 ghost use Rattle.std.specs.Prelude.{◌≡◌, ◌↔◌, IsTrue};
 ghost use Rattle.std.specs.Option.{SomeIff};
-ghost use Rattle.tk_region.specs.SettingsFields.{IsSettings, IsUpTo, greatest_cap, lives_of};
+ghost use Rattle.tk_region.specs.SettingsFields.{IsSettings, IsUpTo, max_cap, lives_of};
 ghost use Rattle.tk_region.specs.SettingsFields.{with_cap};
 
 use tk_handle::Serial;
@@ -127,7 +127,7 @@ impl Settings {
     /// Returns the cap: the greatest serial at which a region makes a fact.
     pub fn cap(&self) -> u64
         ensures value { result ≡ self.now.cap }
-        ensures range { IsUpTo greatest_cap self.now.cap }
+        ensures range { IsUpTo max_cap self.now.cap }
     {
         self.cap
     }

@@ -43,13 +43,15 @@ use tk_handle::{Dot, Moment};
 use tk_ledger::Ledger;
 use tk_store::{AddError, Added, SlotRef};
 
-// Returns the error for bytes that can't be read as a bundle.
-pub(crate) fn unread(error: ReadError) -> TakeError
-    ensures { result ≡ spec.unread error }
-{
-    match error {
-        ReadError::Malformed => TakeError::Malformed,
-        ReadError::Memory => TakeError::Memory,
+impl TakeError {
+    /// Returns the error for bytes that can't be read as a bundle.
+    pub fn unread(error: ReadError) -> TakeError
+        ensures { result ≡ spec.unread error }
+    {
+        match error {
+            ReadError::Malformed => TakeError::Malformed,
+            ReadError::Memory => TakeError::Memory,
+        }
     }
 }
 

@@ -14,7 +14,7 @@ use Rattle.std.proofs.lemmas.List.Splits.{join_with_byte-slice_split, length-sli
 use Rattle.std.proofs.lemmas.List.Splits.{slice_split_at, slice_split_none}
 use Rattle.tk_scope.specs.declared.error.ScopeError.{ScopeError}
 use Rattle.tk_scope.specs.declared.error.ScopeError.TheVariants.{TooLong, Malformed, TooMany}
-use Rattle.tk_scope.specs.Scope.{greatest_length, HasSameTokens, in_order, is_token, max_tokens}
+use Rattle.tk_scope.specs.Scope.{max_length, HasSameTokens, in_order, is_token, max_tokens}
 use Rattle.tk_scope.specs.Scope.{scope_of, scope_refusal, scope_text, tokens_of, with_token}
 use Rattle.tk_scope.proofs.Ascii.{All-no_space, tokens_utf8}
 use Rattle.tk_scope.proofs.Order.{All-contains_in_order, All-in_order, All-in_order_contains}
@@ -115,15 +115,15 @@ tokens_some text = omega (arith, length-slice_split (λ b. b == 0x20) text)
 
 -- the tests that an accepted text passes
 pub record IsAccepted (text : List ℕ) : Type 0 where
-  pub short : length text ≤ greatest_length
+  pub short : length text ≤ max_length
   pub tokens : list_all is_token (tokens_of text) ≡ true
   pub few : length (tokens_of text) ≤ max_tokens
 
 -- a text that breaks no rule passes each test
 pub accepted : (text : List ℕ) → scope_refusal text ≡ None → IsAccepted text
 accepted text h =
-    elim (nat_lt greatest_length (length text)) as
-    (λ a. nat_lt greatest_length (length text) ≡ a
+    elim (nat_lt max_length (length text)) as
+    (λ a. nat_lt max_length (length text) ≡ a
     → cond a (Some TooLong)
     (cond (not (list_all is_token (tokens_of text))) (Some Malformed)
     (cond (nat_lt max_tokens (length (tokens_of text))) (Some TooMany) None))
@@ -152,7 +152,7 @@ accepted text h =
 -- a text that passes each test breaks no rule
 pub scope_refusal-None : (text : List ℕ) → IsAccepted text → scope_refusal text ≡ None
 scope_refusal-None text a = rw (
-  le-ltb greatest_length (length text) a.short,
+  le-ltb max_length (length text) a.short,
   a.tokens,
   le-ltb max_tokens (length (tokens_of text)) a.few,
 ) refl
@@ -179,13 +179,13 @@ pub no_scope : (text : List ℕ) (e : ScopeError) → scope_refusal text ≡ Som
 no_scope text e h = rw h refl
 
 -- a text whose bytes are no UTF-8 breaks the grammar
-pub not_utf8 : (text : List ℕ) → length text ≤ greatest_length → (IsUtf8 text → ⊥)
+pub not_utf8 : (text : List ℕ) → length text ≤ max_length → (IsUtf8 text → ⊥)
     → scope_refusal text ≡ Some Malformed
 not_utf8 text short none =
     elim (list_all is_token (tokens_of text)) as
     (λ b. list_all is_token (tokens_of text) ≡ b → scope_refusal text ≡ Some Malformed) [
       | true ↦ λ tokens. absurd (none (tokens_utf8 text tokens))
-      | false ↦ λ bad. rw (le-ltb greatest_length (length text) short, bad) refl
+      | false ↦ λ bad. rw (le-ltb max_length (length text) short, bad) refl
     ] refl
 
 -- ---- the printed form

@@ -27,8 +27,8 @@ abbrev pub tokens_of : List ℕ → List (List ℕ)
 tokens_of text = slice_split (λ b. b == 0x20) text
 
 -- the greatest length in bytes of a scope as it is written (own)
-abbrev pub greatest_length : ℕ
-greatest_length = 1024
+abbrev pub max_length : ℕ
+max_length = 1024
 
 -- the greatest number of tokens of a scope as it is written, counting repeated ones (own)
 abbrev pub max_tokens : ℕ
@@ -38,7 +38,7 @@ max_tokens = 32
 -- of tokens
 abbrev pub scope_refusal : List ℕ → Option ScopeError
 scope_refusal text =
-    if nat_lt greatest_length (length text) then Some TooLong
+    if nat_lt max_length (length text) then Some TooLong
     else if not (list_all is_token (tokens_of text)) then Some Malformed
     else if nat_lt max_tokens (length (tokens_of text)) then Some TooMany
     else None

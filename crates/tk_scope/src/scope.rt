@@ -26,7 +26,7 @@ ghost use Rattle.std.specs.Prelude.{Some};
 ghost use Rattle.std.specs.Cmp.Lexicographic.{slice_cmp};
 ghost use Rattle.std.specs.List.Sorted.{IsStrictlySortedBy};
 ghost use Rattle.std.specs.Ordering.{nat_cmp};
-ghost use Rattle.tk_scope.specs.Scope.{greatest_length, scope_of, scope_refusal, HasSameTokens};
+ghost use Rattle.tk_scope.specs.Scope.{max_length, scope_of, scope_refusal, HasSameTokens};
 ghost use Rattle.tk_scope.specs.Scope.{IsWithin, is_within, tokens_of};
 
 use crate::ScopeError;
@@ -87,7 +87,7 @@ impl Scope {
     pub fn text(&self) -> &str
         ensures value { result.now ≡ self.now }
         ensures in_order { IsStrictlySortedBy (slice_cmp nat_cmp) (tokens_of self.now) }
-        ensures short { length self.now ≤ greatest_length }
+        ensures short { length self.now ≤ max_length }
 
         // Reading the printed form gives this scope again.
         ensures again { scope_of self.now ≡ Some self.now }

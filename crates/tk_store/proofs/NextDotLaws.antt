@@ -11,7 +11,7 @@ use Rattle.std.specs.Option.{SomeIff}
 use Rattle.std.proofs.lemmas.Bool.Decides.{nat_tests}
 use Rattle.tk_handle.specs.declared.dot.Dot.{Dot}
 use Rattle.tk_handle.specs.Dot.{dot_cmp}
-use Rattle.tk_handle.specs.Ranges.{IsSerial, greatest_serial}
+use Rattle.tk_handle.specs.Ranges.{IsSerial, max_serial}
 use Rattle.tk_store.specs.FactSet.{AllIn}
 use Rattle.tk_store.specs.NextDot.{last_serial, next_serial, next_dot}
 use Rattle.tk_handle.proofs.TestLaws.{tied}
@@ -50,7 +50,7 @@ module _ {X : Type 0} where
   pub next_dot_there : (F : map.FinMap dot_cmp X) (r n : ℕ) (result : Option Dot)
       → n ≡ last_serial r (map.entries F)
       → SomeIff result (IsSerial (n + 1)) (record { region = r; serial = n + 1 })
-      → SomeIff result (next_serial F r ≤ greatest_serial) (next_dot F r)
+      → SomeIff result (next_serial F r ≤ max_serial) (next_dot F r)
   next_dot_there F r n None same h = λ left. h (omega arith, omega arith)
   next_dot_there F r n (Some d) same h =
       (omega (arith, h.0.1, same), h.1 ∙ ap (λ (m : ℕ). record { region = r; serial = m + 1 }) same)

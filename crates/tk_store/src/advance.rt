@@ -2,7 +2,7 @@
 
 ghost use Rattle.std.specs.Prelude.{◌≡◌, ℕ, ◌<◌, ◌≤◌, ◌+◌, OnOk, OnErr, IsSome, None};
 ghost use Rattle.std.specs.FinMap as sets;
-ghost use Rattle.tk_handle.specs.Ranges.{greatest_serial};
+ghost use Rattle.tk_handle.specs.Ranges.{max_serial};
 ghost use Rattle.tk_store.specs.Front.{IsFront, dot_at};
 ghost use Rattle.tk_store.specs.Slots.{Slot};
 
@@ -14,7 +14,7 @@ use tk_vector::VersionVector;
 // Returns the end of the run of serials, without a gap, that are known behind the dot's.
 fn run_end(table: &Table, dot: Dot) -> u64
     ensures from { dot.serial ≤ result }
-    ensures high { result ≤ greatest_serial }
+    ensures high { result ≤ max_serial }
     ensures held { (k : ℕ) → dot.serial < k → k ≤ result
         → IsSome (sets.get table.now (dot_at dot.region k)) }
     ensures next { sets.get table.now (dot_at dot.region (result + 1)) ≡ None }

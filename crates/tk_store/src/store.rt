@@ -70,7 +70,7 @@ ghost use Rattle.std.specs.Prelude.{
 };
 ghost use Rattle.std.specs.FinMap as sets;
 ghost use Rattle.std.specs.Option.{SomeIff, option_map, option_copied};
-ghost use Rattle.tk_handle.specs.Ranges.{greatest_serial};
+ghost use Rattle.tk_handle.specs.Ranges.{max_serial};
 ghost use Rattle.tk_fact.specs.Check.{refusal_of};
 ghost use Rattle.tk_store.specs.Adding.{AddsTo, HasFact, RefusesFact};
 ghost use Rattle.tk_store.specs.Beyond.{beyond};
@@ -296,7 +296,7 @@ impl FactStore {
     /// Returns the dot of the region's next fact: one past its greatest serial that is known.
     /// Returns `None` if that serial is the greatest there is.
     pub fn next_dot(&self, region: RegionNumber) -> Option<Dot>
-        ensures { SomeIff result (next_serial self.now.slots region ≤ greatest_serial)
+        ensures { SomeIff result (next_serial self.now.slots region ≤ max_serial)
             (next_dot self.now.slots region) }
     {
         Dot::new(region, self.facts.last_serial(region) + 1)

@@ -33,7 +33,7 @@ impl Model for Table {
 ghost use Rattle.std.specs.Prelude.{◌≡◌, ◌≤◌, OnOk, OnErr, IsSome, None, Some, is_some};
 ghost use Rattle.std.specs.FinMap as sets;
 ghost use Rattle.std.specs.Option.{option_map, option_copied};
-ghost use Rattle.tk_handle.specs.Ranges.{greatest_serial};
+ghost use Rattle.tk_handle.specs.Ranges.{max_serial};
 ghost use Rattle.tk_handle.specs.declared.dot.Dot.{Dot as the_dot};
 ghost use Rattle.tk_store.specs.NextDot as next;
 ghost use Rattle.tk_store.specs.SlotShown.{IsShown, WalksOn};
@@ -73,7 +73,7 @@ impl Table {
 
     // Gives a caller's proof the fact that each dot's serial is in range. Does nothing at run time.
     pub(crate) fn known(&self)
-        ensures { (d : the_dot) → IsSome (sets.get self.now d) → d.serial ≤ greatest_serial }
+        ensures { (d : the_dot) → IsSome (sets.get self.now d) → d.serial ≤ max_serial }
     {
         self.kept.known();
     }
@@ -194,7 +194,7 @@ impl Table {
     // Returns the greatest serial of the region that is known, or 0.
     pub(crate) fn last_serial(&self, region: RegionNumber) -> u64
         ensures value { result ≡ next.last_serial region (sets.entries self.now) }
-        ensures high { result ≤ greatest_serial }
+        ensures high { result ≤ max_serial }
     {
         self.kept.last_serial(region)
     }

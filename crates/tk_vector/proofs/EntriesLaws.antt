@@ -18,7 +18,7 @@ use Rattle.std.proofs.lemmas.Bool.Decides.{nat_tests}
 use Rattle.std.proofs.lemmas.Grind.{take_at_read}
 use Rattle.std.proofs.lemmas.List.Concat.{flat_map-append}
 use Rattle.tk_format.specs.Exact.{some_is}
-use Rattle.tk_handle.specs.Ranges.{IsRegion, greatest_region}
+use Rattle.tk_handle.specs.Ranges.{IsRegion, max_region}
 use Rattle.tk_handle.proofs.SortedEntriesLaws.{rises}
 use Rattle.tk_vector.specs.VectorBytes.{entry_field, rising}
 use Rattle.tk_vector.specs.VersionVector.{Vector}
@@ -83,7 +83,7 @@ spread e (f ∷ es) last h at =
 -- there are no more entries than regions
 pub few : (es : Entries) (first last : ℕ × ℕ) → T (is_sorted nat_cmp es)
     → slice_get es 0 ≡ Some first → slice_get es (length es - 1) ≡ Some last → IsRegion first.0
-    → last.0 ≤ greatest_region → length es < 65536
+    → last.0 ≤ max_region → length es < 65536
 few [] first last h one other low high = omega arith
 few (e ∷ es) first last h one other low high =
     let at : length (e ∷ es) - 1 ≡ length es = omega arith in

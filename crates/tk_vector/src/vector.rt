@@ -29,7 +29,7 @@ ghost use Rattle.std.specs.Prelude.{◌≡◌, ℕ, ◌≤◌, ◌↔◌, T, IsT
 ghost use Rattle.std.specs.Prelude.{MatchResult};
 ghost use Rattle.std.specs.FinMap as map;
 ghost use Rattle.std.specs.Ordering.{nat_cmp};
-ghost use Rattle.tk_handle.specs.Ranges.{greatest_serial};
+ghost use Rattle.tk_handle.specs.Ranges.{max_serial};
 ghost use Rattle.tk_handle.specs.SortedEntries.{IsAt, IsGap};
 ghost use Rattle.tk_vector.specs.Join.{JoinLaws};
 ghost use Rattle.tk_vector.specs.VectorOrder.{Below, AllAtMost, RaisedBy};
@@ -74,7 +74,7 @@ impl VersionVector {
     /// Returns the region's entry, or 0 if there is none.
     pub fn get(&self, region: RegionNumber) -> u64
         ensures value { result ≡ entry self.now region }
-        ensures high { result ≤ greatest_serial }
+        ensures high { result ≤ max_serial }
     {
         match place(&self.entries, region) {
             Ok(at) => self.entries[at].1.number(),
@@ -87,7 +87,7 @@ impl VersionVector {
     /// `serial` is at most 9,223,372,036,854,775,807. A 0 means that nothing is known, and changes
     /// nothing. If memory runs out, the vector stays as it was.
     pub fn raise(&mut self, region: RegionNumber, serial: u64) -> Result<(), AllocError>
-        requires { serial ≤ greatest_serial }
+        requires { serial ≤ max_serial }
         ensures ok { OnOk result (self.new ≡ raised self.old region serial) }
         ensures err { OnErr result (self.new ≡ self.old) }
     {
@@ -108,7 +108,7 @@ impl VersionVector {
     /// Lowers the region's entry to `serial`, if the entry is greater. `serial` is at most
     /// 9,223,372,036,854,775,807; a 0 removes the entry. Takes no memory.
     pub fn lower(&mut self, region: RegionNumber, serial: u64)
-        requires { serial ≤ greatest_serial }
+        requires { serial ≤ max_serial }
         ensures { self.new ≡ lowered self.old region serial }
     {
         if let Ok(at) = place(&self.entries, region) {

@@ -24,7 +24,7 @@ use Rattle.tk_store.proofs.EntryLaws.{AllIn-beyond}
 use Rattle.tk_store.proofs.PutLaws.{by_dot, of_dot, get_here, some_injective, none_is_not_some}
 use Rattle.tk_store.proofs.PutLaws.{IsFactSet-empty, IsFactSet-insert}
 use Rattle.tk_store.proofs.SubsetLaws.{subset_trans, AllIn-take, AllIn-subset}
-use Rattle.tk_region.specs.SettingsFields.{SettingsFields, greatest_cap}
+use Rattle.tk_region.specs.SettingsFields.{SettingsFields, max_cap}
 use Rattle.tk_world.specs.State.{Kept, Sent, State, new_kept, new_state, with_region, with_bundle}
 use Rattle.tk_world.specs.State.{Consists}
 use Rattle.tk_world.specs.Pages.{page_of}
@@ -212,7 +212,7 @@ consists_bundle s U b c a short = record {
 }
 
 -- a state without regions and bundles
-pub new_consists : (settings : SettingsFields) → settings.cap ≤ greatest_cap
+pub new_consists : (settings : SettingsFields) → settings.cap ≤ max_cap
     → Consists (new_state settings) map.empty
 new_consists settings low = record {
   sound = IsFactSet-empty;

@@ -19,7 +19,7 @@ use Rattle.tk_store.specs.FactSet.{FactSet, IsSubset}
 use Rattle.tk_store.specs.Slots.{Slot}
 use Rattle.tk_store.specs.StoreFields.{StoreFields, empty_store}
 use Rattle.tk_store.proofs.PutLaws.{none_is_not_some}
-use Rattle.tk_region.specs.SettingsFields.{SettingsFields, greatest_cap}
+use Rattle.tk_region.specs.SettingsFields.{SettingsFields, max_cap}
 use Rattle.tk_retention.specs.StandsFor.{SlotStands, StandsFor, AreSound}
 use Rattle.tk_retention.proofs.KeepingLaws.{stands_more}
 use Rattle.tk_world.specs.State.{Kept, State, new_state, with_region, Consists}
@@ -131,7 +131,7 @@ abbrev no_kept : map.FinMap nat_cmp Kept
 no_kept = map.empty
 
 -- a world without regions and bundles
-pub new_stands : (settings : SettingsFields) → settings.cap ≤ greatest_cap
+pub new_stands : (settings : SettingsFields) → settings.cap ≤ max_cap
     → WorldStands (new_world settings) map.empty (new_state settings)
 new_stands settings low = record {
   settings = refl;

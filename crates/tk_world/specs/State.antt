@@ -17,7 +17,7 @@ use Rattle.tk_fact.specs.declared.body.Body.{Body}
 use Rattle.tk_store.specs.FactSet.{FactSet, Facts, AllIn, IsFactSet, IsSubset}
 use Rattle.tk_store.specs.StoreFields.{StoreFields}
 use Rattle.tk_store.specs.WholeStores.{whole_store}
-use Rattle.tk_region.specs.SettingsFields.{SettingsFields, greatest_cap}
+use Rattle.tk_region.specs.SettingsFields.{SettingsFields, max_cap}
 use Rattle.tk_region.specs.RegionFields.{RegionFields}
 
 -- all facts that a region made and took in, those behind marks included, and its horizon
@@ -79,4 +79,4 @@ pub record Consists (s : State) (U : FactSet) : Type 0 where
   pub carried : (i : ℕ) (b : Sent) → slice_get s.bundles i ≡ Some b
       → AllIn U b.facts × (length b.facts ≤ 128)
   pub capped : (d : Dot) (b : Body) → map.get U d ≡ Some b → d.serial ≤ s.settings.cap
-  pub low : s.settings.cap ≤ greatest_cap
+  pub low : s.settings.cap ≤ max_cap

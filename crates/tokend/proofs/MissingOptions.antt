@@ -10,7 +10,7 @@ use Rattle.tokend.specs.CommandLine.{IsNoNotices, HasFlag, HasNumber, IsNoAddres
 use Rattle.tokend.specs.CommandLine.{IsNoPushes, is_given, refusal_named}
 use Rattle.tokend.specs.Choices.{IsNoChoice}
 use Rattle.tokend.specs.Ranges.{accepted_named, range_named}
-use Rattle.tokend.specs.Rules.{greatest_connections, greatest_part, least_part}
+use Rattle.tokend.specs.Rules.{max_connections, max_part, min_part}
 use Rattle.tokend.specs.Task.{IsNoService, wants_log}
 
 -- arguments without an address are those of no service
@@ -19,7 +19,7 @@ without_address rows none service h = none service.at.outer h.at.outer
 
 -- arguments without a number of connections are those of no service
 pub without_connections : (rows : List Row)
-    → ((n : ℕ) → ¬ (HasNumber rows (codes "connections") 1 greatest_connections n))
+    → ((n : ℕ) → ¬ (HasNumber rows (codes "connections") 1 max_connections n))
     → IsNoService rows
 without_connections rows none service h = none service.connections h.connections
 
@@ -101,7 +101,7 @@ without_log rows flag log given is text none files h =
 
 -- parts are wanted without a log
 pub unlogged_parts : {A : Type 0} (rows : List Row) (part : Option ℕ) (log : Option (String A))
-    → IfSome part (HasNumber rows (codes "log-part") least_part greatest_part)
+    → IfSome part (HasNumber rows (codes "log-part") min_part max_part)
     → is_some part ≡ true → first_of (codes "log") rows ≡ option_map string_bytes log
     → is_some log ≡ false → IsNoFiles rows
 unlogged_parts rows None log has given text none files h = absurd (cc)
@@ -114,7 +114,7 @@ unlogged_parts rows (Some n) None has given text none files h =
     no_log (Some file) some e = cc
 
     no_part : (part : Option ℕ)
-        → IfNone part ((n : ℕ) → ¬ (HasNumber rows (codes "log-part") least_part greatest_part n))
+        → IfNone part ((n : ℕ) → ¬ (HasNumber rows (codes "log-part") min_part max_part n))
         → (IsSome part → IsSome files.log) → ⊥
     no_part None unparted parted = unparted n has
     no_part (Some size) unparted parted = no_log files.log (parted refl) (sym text ∙ h.log)

@@ -27,7 +27,7 @@ use Rattle.tk_turn.specs.declared.service.Outcome.{Outcome}
 use Rattle.tokend.specs.Decisions.{kept_by, outcome_by}
 use Rattle.tokend.specs.Repeating.{is_granted, is_ok}
 use Rattle.tokend.specs.Repeats.{IsIn, MayRepeat, RepeatsFields, Repetition, forgotten, is_recent}
-use Rattle.tokend.specs.Repeats.{is_repeat, most_kept, with_granted, with_room}
+use Rattle.tokend.specs.Repeats.{is_repeat, max_kept, with_granted, with_room}
 use Rattle.tokend.specs.Turns.{AreAmong, AreRepeated, AreRepeats, Endings, all_granted}
 use Rattle.tokend.specs.declared.repeats.Refreshed.{Refreshed}
 use Rattle.tk_handle.proofs.TestLaws.{and_first}
@@ -115,10 +115,10 @@ in_drop x (y ∷ ys) is = inr is
 
 -- a refresh that is left when room is made was there before
 in_room : (x : Refreshed) (k : List Refreshed) → IsIn x (with_room k) → IsIn x k
-in_room x k is = elim (cases_Bool (nat_lt (length k) most_kept)) [
-  | inl few ↦ subst (IsIn x) (cond-true (nat_lt (length k) most_kept) k (drop 1 k) few) is
+in_room x k is = elim (cases_Bool (nat_lt (length k) max_kept)) [
+  | inl few ↦ subst (IsIn x) (cond-true (nat_lt (length k) max_kept) k (drop 1 k) few) is
   | inr many ↦
-      in_drop x k (subst (IsIn x) (cond-false (nat_lt (length k) most_kept) k (drop 1 k) many) is)
+      in_drop x k (subst (IsIn x) (cond-false (nat_lt (length k) max_kept) k (drop 1 k) many) is)
 ]
 
 -- a refresh in a list with one more at its end is in it with that one in front

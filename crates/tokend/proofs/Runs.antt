@@ -21,7 +21,7 @@ use Rattle.tk_edge.specs.Told.{Change}
 use Rattle.tokend.specs.ServiceRun.{IsServiceRun}
 use Rattle.tokend.specs.LoopbackRun.{by_loopback}
 use Rattle.tokend.specs.Task.{Asks, AsksToShow}
-use Rattle.tokend.specs.Script.{greatest_length, IsFaultOf, IsFirstBad}
+use Rattle.tokend.specs.Script.{max_length, IsFaultOf, IsFirstBad}
 use Rattle.tokend.specs.ScriptRun.{in_world, IsReadFault, IsScript, IsScriptFault, IsScriptRun}
 use Rattle.tokend.specs.ScriptRun.{LeavesScript, Mode, PrintsScript}
 use Rattle.tokend.specs.ProgramRun.{BeginsLines, BeginsToServe, FailsToRun, FailsToServe, IsDone}
@@ -75,17 +75,17 @@ script_begun mode input events outcomes old new (Err fault) given run begun =
 -- a fault of a script is one of the input, whose bytes it is if these are known
 pub read_fault : {T : Type 0} (longest : Option ℕ) (input : Option (List ℕ)) (script : List ℕ)
     (r : Result T Fault)
-    → length script ≤ greatest_length → IfSome input (λ bytes. script ≡ bytes)
+    → length script ≤ max_length → IfSome input (λ bytes. script ≡ bytes)
     → IfErr r (IsFaultOf longest script) → IfErr r (IsReadFault longest input)
 read_fault longest input script (Ok x) short whole h = tt
 read_fault longest input script (Err fault) short whole h = of fault h
   where
     first : (number : ℕ) → IsFirstBad longest script number → (known : Option (List ℕ))
         → IfSome known (λ bytes. script ≡ bytes)
-        → IfSome known (λ bytes. (length bytes ≤ greatest_length) × IsFirstBad longest bytes number)
+        → IfSome known (λ bytes. (length bytes ≤ max_length) × IsFirstBad longest bytes number)
     first number bad None same = tt
     first number bad (Some bytes) same =
-        subst (λ s. (length s ≤ greatest_length) × IsFirstBad longest s number) same (short, bad)
+        subst (λ s. (length s ≤ max_length) × IsFirstBad longest s number) same (short, bad)
 
     of : (fault : Fault) → IsFaultOf longest script fault → IsReadFault longest input fault
     of Memory h = tt

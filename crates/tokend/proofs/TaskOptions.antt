@@ -24,7 +24,7 @@ use Rattle.clap.specs.declared.error.Error.{Error}
 use Rattle.clap.specs.declared.error.kind.ErrorKind.TheVariants as kind
 use Rattle.tokend.specs.CommandLine.{HasAddress, HasFlag, HasNumber}
 use Rattle.tokend.specs.CommandLine.{IsNoAddress, is_given, tokend_app}
-use Rattle.tokend.specs.Rules.{greatest_port}
+use Rattle.tokend.specs.Rules.{max_port}
 use Rattle.tokend.specs.Task.{Asks, IsNoTask, IsRefusalOf}
 use Rattle.tokend.specs.Task.{IsTask, has_misnamed, is_unplaced, is_unplaced_in, lacks_log}
 use Rattle.tokend.specs.Task.{misnames_word, missing_kind, wants_log}
@@ -88,7 +88,7 @@ two_addresses rows text socket port (Socket path) h =
 
 -- no port is given, nor a socket
 pub no_port : (rows : List Row) → first_of (codes "socket") rows ≡ None
-    → ((n : ℕ) → ¬ (HasNumber rows (codes "port") 0 greatest_port n)) → IsNoAddress rows
+    → ((n : ℕ) → ¬ (HasNumber rows (codes "port") 0 max_port n)) → IsNoAddress rows
 no_port rows socket none (Port n) h = none n h.0
 no_port rows socket none (Socket path) h =
     let both : None ≡ Some (string_bytes path) = sym socket ∙ h.0 in

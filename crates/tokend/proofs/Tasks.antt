@@ -7,9 +7,9 @@ use Rattle.std.proofs.Common.{Result, Ok, Err, sym, ap, subst, ◌∙◌, codes,
 use Rattle.std.proofs.Common.{arith}
 use Rattle.std.specs.Prelude.{IfNone, IfOk, IfSome}
 use Rattle.clap.specs.Words.{Row, Text}
-use Rattle.tk_handle.specs.Ranges.{greatest_region}
-use Rattle.tk_region.specs.SettingsFields.{greatest_code, greatest_access, greatest_refresh}
-use Rattle.tk_region.specs.SettingsFields.{greatest_family, greatest_cap}
+use Rattle.tk_handle.specs.Ranges.{max_region}
+use Rattle.tk_region.specs.SettingsFields.{max_code, max_access, max_refresh}
+use Rattle.tk_region.specs.SettingsFields.{max_family, max_cap}
 use Rattle.tokend.specs.CommandLine.{HasCheck, HasFlag, HasNumber, HasNumbers}
 use Rattle.tokend.specs.CommandLine.{HasService}
 use Rattle.tokend.specs.Task.{IsFactsTask, IsNoCheck, IsNoService, IsNoTask}
@@ -202,7 +202,7 @@ is_no_check found rows (Err e) named at h = tt
 -- a check without its number
 pub without_number : (rows : List Row) (flag : Bool) → HasFlag rows (codes "check") flag → flag
     ≡ true
-    → ((n : ℕ) → ¬ (HasNumber rows (codes "region") 1 greatest_region n)) → IsNoCheck rows
+    → ((n : ℕ) → ¬ (HasNumber rows (codes "region") 1 max_region n)) → IsNoCheck rows
 without_number rows flag given is none = (sym is ∙ given, λ check h. none check.region h.region)
 
 -- if one of the numbers is missing, the rows have no settings
@@ -217,27 +217,27 @@ module _ {T : Type 0} (rows : List Row) (r : Option T) where
       of (Some x) none = tt
 
   -- without the life of a code there are no numbers
-  pub without_code : ((n : ℕ) → ¬ (HasNumber rows (codes "code") 1 greatest_code n))
+  pub without_code : ((n : ℕ) → ¬ (HasNumber rows (codes "code") 1 max_code n))
       → IfNone r ((n : Numbers) → ¬ (HasNumbers rows n))
   without_code none = unless (λ n h. none n.code h.code)
 
   -- without the life of an access token there are no numbers
-  pub without_access : ((n : ℕ) → ¬ (HasNumber rows (codes "access") 1 greatest_access n))
+  pub without_access : ((n : ℕ) → ¬ (HasNumber rows (codes "access") 1 max_access n))
       → IfNone r ((n : Numbers) → ¬ (HasNumbers rows n))
   without_access none = unless (λ n h. none n.access h.access)
 
   -- without the life of a refresh token there are no numbers
-  pub without_refresh : ((n : ℕ) → ¬ (HasNumber rows (codes "refresh") 1 greatest_refresh n))
+  pub without_refresh : ((n : ℕ) → ¬ (HasNumber rows (codes "refresh") 1 max_refresh n))
       → IfNone r ((n : Numbers) → ¬ (HasNumbers rows n))
   without_refresh none = unless (λ n h. none n.refresh h.refresh)
 
   -- without the life of a family there are no numbers
-  pub without_family : ((n : ℕ) → ¬ (HasNumber rows (codes "family") 1 greatest_family n))
+  pub without_family : ((n : ℕ) → ¬ (HasNumber rows (codes "family") 1 max_family n))
       → IfNone r ((n : Numbers) → ¬ (HasNumbers rows n))
   without_family none = unless (λ n h. none n.family h.family)
 
   -- without a cap there are no numbers
-  pub without_cap : ((n : ℕ) → ¬ (HasNumber rows (codes "cap") 1 greatest_cap n))
+  pub without_cap : ((n : ℕ) → ¬ (HasNumber rows (codes "cap") 1 max_cap n))
       → IfNone r ((n : Numbers) → ¬ (HasNumbers rows n))
   without_cap none = unless (λ n h. none n.cap h.cap)
 
@@ -248,5 +248,5 @@ without_settings rows none service h = none service.numbers h.numbers
 
 -- without the number of a region there is no service
 pub without_region : (rows : List Row)
-    → ((n : ℕ) → ¬ (HasNumber rows (codes "region") 1 greatest_region n)) → IsNoService rows
+    → ((n : ℕ) → ¬ (HasNumber rows (codes "region") 1 max_region n)) → IsNoService rows
 without_region rows none service h = none service.region h.region

@@ -9,23 +9,23 @@ use Rattle.std.specs.Prelude.{nat_lt}
 use Rattle.std.proofs.lemmas.Bool.Decides.{nat_tests}
 use Rattle.std.specs.Io.KnownBytes.{Appends, Keeps}
 use Rattle.tk_put.specs.Put.{Prints, joined_text}
-use Rattle.tk_edge.specs.Failures.{CountsFailure, Rose, greatest_count, one_more}
+use Rattle.tk_edge.specs.Failures.{CountsFailure, Rose, max_count, one_more}
 use Rattle.tokend.specs.Telling.{Writer, Writes}
 use Rattle.tokend.proofs.Announcements.{prints_then}
 
 -- a count below the greatest is raised by one more failure
-one_greater : (a : ℕ) → nat_lt a greatest_count ≡ true → a < one_more a
+one_greater : (a : ℕ) → nat_lt a max_count ≡ true → a < one_more a
 one_greater a e = grind (e, arith, nat_tests)
 
 -- a count that isn't below the greatest is at its greatest with one more failure
-greatest : (a : ℕ) → nat_lt a greatest_count ≡ false → one_more a ≡ greatest_count
+greatest : (a : ℕ) → nat_lt a max_count ≡ false → one_more a ≡ max_count
 greatest a e = grind (e, arith, nat_tests)
 
 -- one more failure raises the count, or the count is at its greatest
 rose : (a b : ℕ) → b ≡ one_more a → Rose a b
-rose a b is = by (nat_lt a greatest_count) refl
+rose a b is = by (nat_lt a max_count) refl
   where
-    by : (t : Bool) → nat_lt a greatest_count ≡ t → Rose a b
+    by : (t : Bool) → nat_lt a max_count ≡ t → Rose a b
     by true e = inl (subst (λ n. a < n) (sym is) (one_greater a e))
     by false e = inr (is ∙ greatest a e)
 

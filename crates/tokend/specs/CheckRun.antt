@@ -17,8 +17,8 @@ use Rattle.tk_put.specs.Put.{AppendsFront}
 use Rattle.tk_edge.specs.Told.{Change}
 use Rattle.tk_store.specs.StoreFields.{empty_store, held_facts}
 use Rattle.tk_region.specs.RegionFields.{RegionFields}
-use Rattle.tk_region.specs.SettingsFields.{SettingsFields, greatest_access, greatest_cap}
-use Rattle.tk_region.specs.SettingsFields.{greatest_code, greatest_family, greatest_refresh}
+use Rattle.tk_region.specs.SettingsFields.{SettingsFields, max_access, max_cap}
+use Rattle.tk_region.specs.SettingsFields.{max_code, max_family, max_refresh}
 use Rattle.tk_message.specs.Choices.{profile_choices}
 use Rattle.tokend.specs.FactsRun.{IsBadSource, IsUnreadSource, TellsDropped, known_of, with_cut}
 use Rattle.tokend.specs.Loading.{Loads}
@@ -85,14 +85,14 @@ LoadsSources s input old result new =
     LoadsNamed (map string_bytes s.names.items) input old result new
 
 -- the greatest settings; what can be loaded doesn't depend on them
-abbrev pub greatest_settings : SettingsFields
-greatest_settings =
+abbrev pub max_settings : SettingsFields
+max_settings =
     record {
-      code = greatest_code;
-      access = greatest_access;
-      refresh = greatest_refresh;
-      family = greatest_family;
-      cap = greatest_cap;
+      code = max_code;
+      access = max_access;
+      refresh = max_refresh;
+      family = max_family;
+      cap = max_cap;
       choices = profile_choices;
     }
 
@@ -100,7 +100,7 @@ greatest_settings =
 abbrev pub Checks : Check → Option (List ℕ) → Result ℕ Fault → RegionFields → Type 0
 Checks c input result new =
     LoadsSources c.sources input
-    (record { number = c.region; settings = greatest_settings; facts = empty_store }) result new
+    (record { number = c.region; settings = max_settings; facts = empty_store }) result new
 
 -- the line of the number of facts
 abbrev pub loaded_text : ℕ → List ℕ

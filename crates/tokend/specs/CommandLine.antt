@@ -54,28 +54,28 @@ use Rattle.clap.specs.Words.{
 use Rattle.clap.specs.Simple.{on_top}
 use Rattle.tk_region.specs.SettingsFields.{
   SettingsFields,
-  greatest_code,
-  greatest_access,
-  greatest_refresh,
-  greatest_family,
-  greatest_cap,
+  max_code,
+  max_access,
+  max_refresh,
+  max_family,
+  max_cap,
 }
-use Rattle.tk_handle.specs.Ranges.{greatest_moment, greatest_region}
+use Rattle.tk_handle.specs.Ranges.{max_moment, max_region}
 use Rattle.tk_message.specs.Choices.{profile_choices}
 use Rattle.tokend.specs.Choices.{HasChoices}
 use Rattle.tokend.specs.Notices.{issuer_named}
 use Rattle.tokend.specs.Ranges.{accepted_named, range_named}
 use Rattle.tokend.specs.Rules.{
   check_rules,
-  greatest_connections,
-  greatest_keep,
-  greatest_margin,
-  greatest_part,
-  greatest_port,
-  greatest_repeat,
-  greatest_requests,
-  least_margin,
-  least_part,
+  max_connections,
+  max_keep,
+  max_margin,
+  max_part,
+  max_port,
+  max_repeat,
+  max_requests,
+  min_margin,
+  min_part,
   names_rule,
   service_rules,
   setting_rules,
@@ -166,16 +166,16 @@ is_misnamed (Some text) = not (is_some (refusal_named (Some text)))
 
 -- the rows have these five settings, each in its range
 pub record HasNumbers (rows : List Row) (n : Numbers) : Type 0 where
-  pub code : HasNumber rows (codes "code") 1 greatest_code n.code
-  pub access : HasNumber rows (codes "access") 1 greatest_access n.access
-  pub refresh : HasNumber rows (codes "refresh") 1 greatest_refresh n.refresh
-  pub family : HasNumber rows (codes "family") 1 greatest_family n.family
-  pub cap : HasNumber rows (codes "cap") 1 greatest_cap n.cap
+  pub code : HasNumber rows (codes "code") 1 max_code n.code
+  pub access : HasNumber rows (codes "access") 1 max_access n.access
+  pub refresh : HasNumber rows (codes "refresh") 1 max_refresh n.refresh
+  pub family : HasNumber rows (codes "family") 1 max_family n.family
+  pub cap : HasNumber rows (codes "cap") 1 max_cap n.cap
 
 -- the rows have this socket for clients: a port or a path, and not both
 abbrev pub HasAddress : List Row → Address → Type 0
 HasAddress rows (Port port) =
-    HasNumber rows (codes "port") 0 greatest_port port × (first_of (codes "socket") rows ≡ None)
+    HasNumber rows (codes "port") 0 max_port port × (first_of (codes "socket") rows ≡ None)
 HasAddress rows (Socket path) =
     (first_of (codes "socket") rows ≡ Some (string_bytes path))
     × (first_of (codes "port") rows ≡ None)
@@ -218,14 +218,14 @@ pub record HasFiles (rows : List Row) (f : FileOptions) : Type 0 where
   pub seed : HasText rows (codes "seed") (Some f.seed)
   pub log : HasText rows (codes "log") f.log
   pub load : HasText rows (codes "load") f.load
-  pub prune : IfSome f.prune (HasNumber rows (codes "prune") 0 greatest_moment)
+  pub prune : IfSome f.prune (HasNumber rows (codes "prune") 0 max_moment)
   pub unpruned : IfNone f.prune ((n : ℕ)
-      → ¬ (HasNumber rows (codes "prune") 0 greatest_moment n))
+      → ¬ (HasNumber rows (codes "prune") 0 max_moment n))
   pub log_taken : HasFlag rows (codes "log-taken") f.log_taken
   pub logged : f.log_taken ≡ true → IsSome f.log
-  pub log_part : IfSome f.log_part (HasNumber rows (codes "log-part") least_part greatest_part)
+  pub log_part : IfSome f.log_part (HasNumber rows (codes "log-part") min_part max_part)
   pub unparted : IfNone f.log_part ((n : ℕ)
-      → ¬ (HasNumber rows (codes "log-part") least_part greatest_part n))
+      → ¬ (HasNumber rows (codes "log-part") min_part max_part n))
   pub parted : IsSome f.log_part → IsSome f.log
 
 -- the seed is missing, or the log for bundles taken in or for parts
@@ -234,26 +234,26 @@ IsNoFiles rows = (files : FileOptions) → ¬ (HasFiles rows files)
 
 -- the rows have these limits of a service, each in its range, or without a limit
 pub record HasLimits (rows : List Row) (l : LimitOptions) : Type 0 where
-  pub requests : IfSome l.requests (HasNumber rows (codes "requests") 0 greatest_requests)
+  pub requests : IfSome l.requests (HasNumber rows (codes "requests") 0 max_requests)
   pub endless : IfNone l.requests ((n : ℕ)
-      → ¬ (HasNumber rows (codes "requests") 0 greatest_requests n))
-  pub keep : IfSome l.keep (HasNumber rows (codes "keep") 0 greatest_keep)
-  pub unkept : IfNone l.keep ((n : ℕ) → ¬ (HasNumber rows (codes "keep") 0 greatest_keep n))
-  pub repeat : IfSome l.repeat (HasNumber rows (codes "repeat") 0 greatest_repeat)
+      → ¬ (HasNumber rows (codes "requests") 0 max_requests n))
+  pub keep : IfSome l.keep (HasNumber rows (codes "keep") 0 max_keep)
+  pub unkept : IfNone l.keep ((n : ℕ) → ¬ (HasNumber rows (codes "keep") 0 max_keep n))
+  pub repeat : IfSome l.repeat (HasNumber rows (codes "repeat") 0 max_repeat)
   pub unrepeated : IfNone l.repeat ((n : ℕ)
-      → ¬ (HasNumber rows (codes "repeat") 0 greatest_repeat n))
+      → ¬ (HasNumber rows (codes "repeat") 0 max_repeat n))
   pub prune_margin : IfSome l.prune_margin
-      (HasNumber rows (codes "prune-margin") least_margin greatest_margin)
+      (HasNumber rows (codes "prune-margin") min_margin max_margin)
   pub unpruned : IfNone l.prune_margin ((n : ℕ)
-      → ¬ (HasNumber rows (codes "prune-margin") least_margin greatest_margin n))
+      → ¬ (HasNumber rows (codes "prune-margin") min_margin max_margin n))
 
 -- the rows have this service: the settings, each number in its range, the sockets, the limits, the
 -- files, what is taken of a push, the choices, and what the service says of itself
 pub record HasService (rows : List Row) (s : Service) : Type 0 where
   pub numbers : HasNumbers rows s.numbers
-  pub region : HasNumber rows (codes "region") 1 greatest_region s.region
+  pub region : HasNumber rows (codes "region") 1 max_region s.region
   pub at : HasAddresses rows s.at
-  pub connections : HasNumber rows (codes "connections") 1 greatest_connections s.connections
+  pub connections : HasNumber rows (codes "connections") 1 max_connections s.connections
   pub limits : HasLimits rows s.limits
   pub files : HasFiles rows s.files
   pub pushes : HasPushes rows s.pushes
@@ -268,7 +268,7 @@ HasSources rows s = map string_bytes s.names.items ≡ unwrap_or (all_of (codes 
 pub record HasCheck (rows : List Row) (c : Check) : Type 0 where
   pub given : HasFlag rows (codes "check") true
   pub sources : HasSources rows c.sources
-  pub region : HasNumber rows (codes "region") 1 greatest_region c.region
+  pub region : HasNumber rows (codes "region") 1 max_region c.region
 
 -- the settings of these numbers, with the profile's choices
 abbrev pub settings_of : Numbers → SettingsFields

@@ -1,7 +1,7 @@
 -- A script whose requests go through sockets (own). The bytes of sockets are unknown, so that some
 -- request is answered in place of the script's, and the reply has the answer's status and unknown
 -- bytes. Whatever the requests were, the promises about facts hold of the run.
---   longest          the greatest length of a request
+--   max_request      the greatest length of a request
 --   by_sockets       the way of requests through sockets
 --   RunsBySockets    a run of events, with what is promised of it
 --   IsSocketFault    the faults of sockets and memory
@@ -24,8 +24,8 @@ use Rattle.tokend.specs.declared.fault.Fault.{Fault}
 use Rattle.tokend.specs.declared.fault.Fault.TheVariants.{Memory, SocketFailed}
 
 -- the greatest length of a request in bytes, which a socket takes before the request is read (own)
-abbrev pub longest : ℕ
-longest = 16384
+abbrev pub max_request : ℕ
+max_request = 16384
 
 -- the way of requests through sockets: some request that isn't empty is heard, and the reply has
 -- the status of its answer
@@ -58,7 +58,7 @@ IsSocketFault fault = ⊥
 -- the events are run in a new world with these settings and with their requests through sockets
 abbrev pub by_loopback : SettingsFields → Mode
 by_loopback settings = record {
-  longest = Some longest;
+  longest = Some max_request;
   Runs = λ events outcomes. RunsBySockets (new_world settings) events outcomes;
   Fails = IsSocketFault;
 }

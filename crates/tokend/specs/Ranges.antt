@@ -27,7 +27,7 @@ use Rattle.std.specs.Prelude.{
 use Rattle.std.specs.List.{after_first, before_first, filter_map, list_all}
 use Rattle.clap.specs.Words.{Text}
 use Rattle.tk_format.specs.Decimals.{decimal_in}
-use Rattle.tk_handle.specs.Ranges.{greatest_region}
+use Rattle.tk_handle.specs.Ranges.{max_region}
 use Rattle.tk_edge.specs.Terms.{TermsFields, is_within}
 use Rattle.tk_edge.specs.declared.terms.RegionRange.{RegionRange}
 use Rattle.tokend.specs.Kinds.{words_of}
@@ -36,7 +36,7 @@ use Rattle.tokend.specs.declared.options.Service.{Service}
 -- the range of two numbers, if they are region numbers and don't fall
 abbrev pub range_at : ℕ → ℕ → Option RegionRange
 range_at first last =
-    if nat_le 1 first && nat_le first last && nat_le last greatest_region
+    if nat_le 1 first && nat_le first last && nat_le last max_region
     then Some (record { first = first; last = last }) else None
 
 -- the range of two numbers, if both are present

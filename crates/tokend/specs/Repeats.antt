@@ -50,12 +50,12 @@ is_repeat seconds now parent request it =
     is_same_dot it.parent parent && (is_recent seconds now it && is_again it.request request)
 
 -- how many are kept at most
-abbrev pub most_kept : ℕ
-most_kept = 4096
+abbrev pub max_kept : ℕ
+max_kept = 4096
 
 -- what is left if one more is to be kept: the oldest goes if there are as many as there may be
 abbrev pub with_room : List Refreshed → List Refreshed
-with_room kept = if nat_lt (length kept) most_kept then kept else drop 1 kept
+with_room kept = if nat_lt (length kept) max_kept then kept else drop 1 kept
 
 -- with one more
 abbrev pub kept_with : Refreshed → RepeatsFields → RepeatsFields

@@ -13,54 +13,54 @@ use Rattle.std.specs.Prelude.{ℕ, List, [], ◌∷◌, ◌++◌, Some, codes, B
 use Rattle.clap.specs.Words.{App, Rule, Text, new_rule}
 use Rattle.clap.specs.Simple.{on_top}
 use Rattle.tk_region.specs.SettingsFields.{
-  greatest_code,
-  greatest_access,
-  greatest_refresh,
-  greatest_family,
-  greatest_cap,
+  max_code,
+  max_access,
+  max_refresh,
+  max_family,
+  max_cap,
 }
-use Rattle.tk_handle.specs.Ranges.{greatest_moment, greatest_region}
+use Rattle.tk_handle.specs.Ranges.{max_moment, max_region}
 use Rattle.clap.specs.declared.builder.action.ArgAction.TheVariants as action
 use Rattle.clap.specs.declared.builder.value_parser.ValueParser.TheVariants as parser
 use Rattle.tokend.specs.declared.command_line.Takes.{Takes}
 use Rattle.tokend.specs.declared.command_line.Takes.TheVariants as takes
 
 -- the greatest port
-abbrev pub greatest_port : ℕ
-greatest_port = 65535
+abbrev pub max_port : ℕ
+max_port = 65535
 
 -- the greatest number of connections that are open at once
-abbrev pub greatest_connections : ℕ
-greatest_connections = 65536
+abbrev pub max_connections : ℕ
+max_connections = 65536
 
 -- the greatest number of connections to serve
-abbrev pub greatest_requests : ℕ
-greatest_requests = 4294967295
+abbrev pub max_requests : ℕ
+max_requests = 4294967295
 
 -- the greatest number of seconds for which a connection stays open between its requests
-abbrev pub greatest_keep : ℕ
-greatest_keep = 3600
+abbrev pub max_keep : ℕ
+max_keep = 3600
 
 -- the greatest number of seconds for which a refresh that is repeated gets its reply again
-abbrev pub greatest_repeat : ℕ
-greatest_repeat = 60
+abbrev pub max_repeat : ℕ
+max_repeat = 60
 
 -- the least number of seconds for which a family must be over before the server skips its facts: a
 -- day
-abbrev pub least_margin : ℕ
-least_margin = 86400
+abbrev pub min_margin : ℕ
+min_margin = 86400
 
 -- the greatest such number
-abbrev pub greatest_margin : ℕ
-greatest_margin = 999999999
+abbrev pub max_margin : ℕ
+max_margin = 999999999
 
 -- the least number of bytes of a log's part
-abbrev pub least_part : ℕ
-least_part = 65536
+abbrev pub min_part : ℕ
+min_part = 65536
 
 -- the greatest such number
-abbrev pub greatest_part : ℕ
-greatest_part = 1099511627776
+abbrev pub max_part : ℕ
+max_part = 1099511627776
 
 -- the option `--id N`, with a number from 1 to the greatest and a default
 abbrev pub number_rule : Text → Text → ℕ → Rule
@@ -115,19 +115,19 @@ with_rules app rules = on_top (λ s. record s { rules = s.rules ++ rules }) app
 -- and a family (thirty days), all in seconds, and the cap (the greatest)
 abbrev pub setting_rules : List Rule
 setting_rules =
-    number_rule (codes "code") (codes "60") greatest_code
-    ∷ number_rule (codes "access") (codes "3600") greatest_access
-    ∷ number_rule (codes "refresh") (codes "86400") greatest_refresh
-    ∷ number_rule (codes "family") (codes "2592000") greatest_family
-    ∷ number_rule (codes "cap") (codes "9223372036854775806") greatest_cap
+    number_rule (codes "code") (codes "60") max_code
+    ∷ number_rule (codes "access") (codes "3600") max_access
+    ∷ number_rule (codes "refresh") (codes "86400") max_refresh
+    ∷ number_rule (codes "family") (codes "2592000") max_family
+    ∷ number_rule (codes "cap") (codes "9223372036854775806") max_cap
     ∷ []
 
 -- the options of where a service is: the region's number, which is required, the port, the socket,
 -- and the inner socket
 abbrev pub place_rules : List Rule
 place_rules =
-    range_rule (codes "region") 1 greatest_region true
-    ∷ range_rule (codes "port") 0 greatest_port false
+    range_rule (codes "region") 1 max_region true
+    ∷ range_rule (codes "port") 0 max_port false
     ∷ file_rule (codes "socket") false
     ∷ file_rule (codes "inner") false
     ∷ []
@@ -139,9 +139,9 @@ file_rules =
     file_rule (codes "seed") true
     ∷ file_rule (codes "log") false
     ∷ flag_rule (codes "log-taken")
-    ∷ range_rule (codes "log-part") least_part greatest_part false
+    ∷ range_rule (codes "log-part") min_part max_part false
     ∷ file_rule (codes "load") false
-    ∷ range_rule (codes "prune") 0 greatest_moment false
+    ∷ range_rule (codes "prune") 0 max_moment false
     ∷ []
 
 -- the options of what a service does if it has a choice: with bundles that are ahead, the numbers
@@ -164,11 +164,11 @@ choice_rules =
 -- before its facts are skipped
 abbrev pub limit_rules : List Rule
 limit_rules =
-    number_rule (codes "connections") (codes "1024") greatest_connections
-    ∷ range_rule (codes "requests") 0 greatest_requests false
-    ∷ range_rule (codes "keep") 0 greatest_keep false
-    ∷ range_rule (codes "repeat") 0 greatest_repeat false
-    ∷ range_rule (codes "prune-margin") least_margin greatest_margin false
+    number_rule (codes "connections") (codes "1024") max_connections
+    ∷ range_rule (codes "requests") 0 max_requests false
+    ∷ range_rule (codes "keep") 0 max_keep false
+    ∷ range_rule (codes "repeat") 0 max_repeat false
+    ∷ range_rule (codes "prune-margin") min_margin max_margin false
     ∷ []
 
 -- the options of what a service says of itself: the issuer, and whether health and metrics are
@@ -193,5 +193,5 @@ names_rule =
 abbrev pub check_rules : List Rule
 check_rules =
     flag_rule (codes "check")
-    ∷ number_rule (codes "region") (codes "65535") greatest_region
+    ∷ number_rule (codes "region") (codes "65535") max_region
     ∷ []

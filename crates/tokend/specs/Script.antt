@@ -71,14 +71,14 @@ pub record IsFirstBad (longest : Option ℕ) (script : List ℕ) (number : ℕ) 
   pub bad : IsBadLine longest line
 
 -- the greatest length of a script in bytes, 1 MiB (own)
-abbrev pub greatest_length : ℕ
-greatest_length = 1048576
+abbrev pub max_length : ℕ
+max_length = 1048576
 
 -- the faults of an input: memory ran out, the input failed, or it is longer than a script may be
 abbrev pub IsInputFault : Option (List ℕ) → Fault → Type 0
 IsInputFault input Memory = ⊤
 IsInputFault input CannotRead = ⊤
-IsInputFault input ScriptTooLong = IfSome input (λ bytes. greatest_length < length bytes)
+IsInputFault input ScriptTooLong = IfSome input (λ bytes. max_length < length bytes)
 IsInputFault input fault = ⊥
 
 -- the faults of a script: memory ran out, or this is the first bad line

@@ -19,7 +19,7 @@ use Rattle.tk_world.specs.WorldFields.{WorldFields, new_world}
 use Rattle.tk_world.specs.declared.event.Event.{Event}
 use Rattle.tk_world.specs.declared.event.Outcome.{Outcome}
 use Rattle.tk_world.specs.Line.{HasWords}
-use Rattle.tokend.specs.Script.{greatest_length, lines_of, AreEvents, AreShort, IsFirstBad}
+use Rattle.tokend.specs.Script.{max_length, lines_of, AreEvents, AreShort, IsFirstBad}
 use Rattle.tokend.specs.Script.{IsInputFault, words_at}
 use Rattle.tk_world.specs.Printed.{lines_text}
 use Rattle.tk_put.specs.Put.{AppendsFront}
@@ -47,7 +47,7 @@ in_world settings = record {
 
 -- the script and its requests are short enough, and these are its events, with their random words
 pub record IsScript (longest : Option ℕ) (script : List ℕ) (events : List Event) : Type 0 where
-  pub short : length script ≤ greatest_length
+  pub short : length script ≤ max_length
   pub found : AreEvents (lines_of script) events
   pub within : AreShort longest events
   pub words : (k : ℕ) → IfSome (slice_get events k) (HasWords (words_at k))
@@ -75,7 +75,7 @@ BeginsScript mode input old new =
 -- the faults of an input that gives no events: the first bad line, or the input gives no script
 abbrev pub IsReadFault : Option ℕ → Option (List ℕ) → Fault → Type 0
 IsReadFault longest input (BadLine number) =
-    IfSome input (λ script. (length script ≤ greatest_length) × IsFirstBad longest script number)
+    IfSome input (λ script. (length script ≤ max_length) × IsFirstBad longest script number)
 IsReadFault longest input fault = IsInputFault input fault
 
 -- the faults of a script that is run: the input gives no events, or the run or the output fails

@@ -18,7 +18,7 @@ ghost use Rattle.tokend.specs.CheckRun.{
   LoadsEach,
   LoadsSource,
   LoadsSources,
-  greatest_settings,
+  max_settings,
   loaded_text,
 };
 ghost use Rattle.tokend.specs.FactsRun.{IsFactsFault, IsSourceFault, known_of};
@@ -135,7 +135,7 @@ fn load_all<R: AllocGlobal + Files, I: Read>(
 
 // Returns the greatest settings.
 fn settings() -> Settings
-    ensures { result ≡ greatest_settings }
+    ensures { result ≡ max_settings }
 {
     let lives = Lives {
         code: Settings::MAX_CODE,

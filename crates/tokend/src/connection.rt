@@ -38,31 +38,50 @@ pub(crate) enum Step {
     Over,
 }
 
+/// How far the requests of a connection are.
+#[derive(Clone, Copy, PartialEq, Eq)]
+enum Stage {
+    /// The first one is still to be decided.
+    First,
+    /// Replies are still to be sent, and another request may follow them.
+    Replying,
+    /// The replies are sent, and another request may come.
+    Kept,
+    /// The last one was decided: what comes behind it is dropped.
+    Last,
+    /// The last one has its reply, and the own side is ended.
+    Shut,
+}
+
+/// What an event reports of a connection.
+#[derive(Clone, Copy, PartialEq, Eq)]
+enum Watched {
+    /// Nothing yet: the connection isn't registered.
+    Nothing,
+    /// That the client has sent more.
+    Bytes,
+    /// That the client has sent more, or has room for more of the reply.
+    BytesAndRoom,
+}
+
 /// The socket of a connection, and how far the connection is.
 #[derive(Drop)]
 pub(crate) struct Connection {
     stream: Stream,
     // Since when the client is waited for, in milliseconds.
     since: u64,
+    stage: Stage,
     // How many bytes were dropped that came behind the last request.
     dropped: usize,
-    /// Whether its last request was decided.
-    pub is_decided: bool,
-    // Whether a request of it was decided, and whether replies of it are still to be sent.
-    is_served: bool,
-    is_replying: bool,
+    watched: Watched,
     /// Whether it is in the list of this turn or the next one.
     pub is_listed: bool,
     /// Whether it counts as one of the large ones.
     pub is_large: bool,
     // Whether there is more to read or to send at once.
     goes_on: bool,
-    // Whether the client's side has ended, so that reading goes on to the end.
+    // Whether an event has said that the client's side has ended, so that reading goes on to there.
     is_ending: bool,
-    is_shut: bool,
-    is_registered: bool,
-    // Whether it is registered for room to write, too.
-    awaits_room: bool,
 }
 
 impl Connection {
@@ -71,18 +90,19 @@ impl Connection {
         Connection {
             stream,
             since: now,
+            stage: Stage::First,
             dropped: 0,
-            is_decided: false,
-            is_served: false,
-            is_replying: false,
+            watched: Watched::Nothing,
             is_listed: true,
             is_large: false,
             goes_on: false,
             is_ending: false,
-            is_shut: false,
-            is_registered: false,
-            awaits_room: false,
         }
+    }
+
+    /// Returns whether its last request was decided.
+    pub(crate) fn is_decided(&self) -> bool {
+        matches!(self.stage, Stage::Last | Stage::Shut)
     }
 
     /// Notes that the client's side has ended.
@@ -97,7 +117,7 @@ impl Connection {
 
     /// Returns whether the connection is one of the large ones no longer.
     pub(crate) fn shrinks(&self, link: &Link) -> bool {
-        self.is_large && !self.is_decided && link.waiting() < LARGE
+        self.is_large && !self.is_decided() && link.waiting() < LARGE
     }
 
     /// Returns since when an idle client is waited for: one that sends nothing, or that has its
@@ -113,7 +133,7 @@ impl Connection {
 
     /// Returns whether the connection is kept, and nothing of a further request has come.
     pub(crate) fn is_between(&self, link: &Link) -> bool {
-        self.is_served && !self.is_decided && is_idle(link)
+        matches!(self.stage, Stage::Replying | Stage::Kept) && is_idle(link)
     }
 
     /// Returns whether the client was waited for long enough. `keep` is how long a kept connection
@@ -130,15 +150,17 @@ impl Connection {
     /// Notes what a turn decided of the connection at `now`, from which on the client has time to
     /// take the replies. Returns whether its last request was decided.
     pub(crate) fn note_turn(&mut self, link: &Link, now: u64) -> bool {
-        if !self.is_replying && !link.sendable().is_empty() {
-            self.is_served = true;
-            self.is_replying = true;
-            self.since = now;
-        }
-        if self.is_decided || !link.is_last() {
+        if self.is_decided() {
             return false;
         }
-        self.is_decided = true;
+        if self.stage != Stage::Replying && !link.sendable().is_empty() {
+            self.stage = Stage::Replying;
+            self.since = now;
+        }
+        if !link.is_last() {
+            return false;
+        }
+        self.stage = Stage::Last;
         self.since = now;
         true
     }
@@ -152,7 +174,7 @@ impl Connection {
         piece: &mut [u8],
         now: u64,
     ) -> Step {
-        if self.is_replying && !self.is_decided {
+        if self.stage == Stage::Replying {
             self.goes_on = true;
             return Step::Waits;
         }
@@ -191,7 +213,7 @@ impl Connection {
 
     // Takes in what has come.
     fn take(&mut self, alloc: Global, link: &mut Link, bytes: &[u8]) -> Step {
-        if self.is_decided {
+        if self.is_decided() {
             self.dropped = self.dropped.saturating_add(bytes.len());
             return if self.dropped < MAX_DROPPED {
                 Step::GoesOn
@@ -208,15 +230,16 @@ impl Connection {
     /// Goes on after a turn at `now`: sends the replies of requests that were decided. `is_stopped`
     /// is whether the turn stopped early, so that whole requests may be left.
     pub(crate) fn go_on(&mut self, link: &mut Link, now: u64, is_stopped: bool) -> Step {
-        let step = if self.is_decided || self.is_replying {
+        let is_decided = self.is_decided();
+        let step = if is_decided || self.stage == Stage::Replying {
             self.send(link, now)
         } else {
             Step::Waits
         };
         let has_more = self.goes_on || is_stopped || link.is_cut();
         match step {
-            Step::Waits if self.is_decided && self.goes_on => Step::GoesOn,
-            Step::Waits if !self.is_decided && !self.is_replying && has_more => Step::GoesOn,
+            Step::Waits if is_decided && self.goes_on => Step::GoesOn,
+            Step::Waits if !is_decided && self.stage != Stage::Replying && has_more => Step::GoesOn,
             step => step,
         }
     }
@@ -225,10 +248,10 @@ impl Connection {
     fn send(&mut self, link: &mut Link, now: u64) -> Step {
         for _ in 0..MAX_WRITES {
             if link.sendable().is_empty() {
-                if self.is_decided {
+                if self.is_decided() {
                     return self.shut(link);
                 }
-                self.is_replying = false;
+                self.stage = Stage::Kept;
                 self.since = now;
                 return Step::Waits;
             }
@@ -243,8 +266,8 @@ impl Connection {
 
     // Ends the own side. The connection is over once the client's side has ended too.
     fn shut(&mut self, link: &Link) -> Step {
-        if !self.is_shut {
-            self.is_shut = true;
+        if self.stage != Stage::Shut {
+            self.stage = Stage::Shut;
             if self.stream.end().is_err() {
                 return Step::Over;
             }
@@ -263,21 +286,24 @@ impl Connection {
         token: Token,
         link: &Link,
     ) -> io::Result<()> {
-        let wants_room = !link.sendable().is_empty();
-        if self.is_registered && (!wants_room || self.awaits_room) {
+        let (wanted, interests) = if link.sendable().is_empty() {
+            (Watched::Bytes, Interest::READABLE)
+        } else {
+            (
+                Watched::BytesAndRoom,
+                Interest::READABLE | Interest::WRITABLE,
+            )
+        };
+        let watched = self.watched;
+        if watched == wanted || watched == Watched::BytesAndRoom {
             return Ok(());
         }
-        let interests = if wants_room {
-            Interest::READABLE | Interest::WRITABLE
+        self.watched = wanted;
+        if watched == Watched::Nothing {
+            registry.register(&mut self.stream, token, interests)
         } else {
-            Interest::READABLE
-        };
-        self.awaits_room = wants_room;
-        if self.is_registered {
-            return registry.reregister(&mut self.stream, token, interests);
+            registry.reregister(&mut self.stream, token, interests)
         }
-        self.is_registered = true;
-        registry.register(&mut self.stream, token, interests)
     }
 }
 

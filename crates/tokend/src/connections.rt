@@ -54,6 +54,7 @@ pub(crate) struct Connections {
     pub doors: Vec<Door>,
     /// How many places are those of the outer socket: the first ones.
     pub outer: usize,
+    // What waits for clients, and what it has said last.
     poll: Poll,
     events: Events,
     /// The sockets, by place.
@@ -64,12 +65,13 @@ pub(crate) struct Connections {
     pub listed: Vec<usize>,
     // The places with something to do in the next turn.
     again: Vec<usize>,
-    /// The places of the outer socket whose requests this turn may decide, and those of the inner
-    /// one.
+    /// The places of the outer socket whose requests this turn may decide.
     pub places: Vec<usize>,
+    /// The places of the inner socket whose requests this turn may decide.
     pub inner_places: Vec<usize>,
     /// Room for the records of a turn.
     pub records: Vec<u8>,
+    // Room for one read.
     piece: Vec<u8>,
     /// How many connections are open.
     pub open: usize,
@@ -270,7 +272,7 @@ impl Connections {
             connection.is_large = true;
             self.large += 1;
         }
-        if !connection.is_decided && link.sendable().is_empty() {
+        if !connection.is_decided() && link.sendable().is_empty() {
             let _ = if place < self.outer {
                 self.places.push(place)
             } else {

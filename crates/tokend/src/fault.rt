@@ -40,7 +40,7 @@ pub enum Fault {
     /// The old log has bytes that are no bundle or a bundle that is refused, or the new log isn't
     /// empty.
     BadLogFile,
-    /// The script is longer than `script::LIMIT`.
+    /// The script is longer than `script::MAX_SCRIPT`.
     ScriptTooLong,
     /// The line with this number, counted from 1, is no event, or its request is too long.
     BadLine(u64),

@@ -89,7 +89,7 @@ impl Connections {
         if has_replies {
             self.losses.unsent = self.losses.unsent.saturating_add(1);
         }
-        if !connection.is_decided {
+        if !connection.is_decided() {
             self.undecided = self.undecided.saturating_sub(1);
             if has_replies || connection.is_between(link) {
                 self.losses.parted = self.losses.parted.saturating_add(1);

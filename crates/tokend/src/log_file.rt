@@ -132,7 +132,7 @@ fn open_first<R: Files + AllocGlobal>(
 fn has_later_part<R: Files + AllocGlobal>(rt: &R, log: &str) -> Result<bool, Fault>
     ensures { IfErr result (IsLogFault log.now) }
 {
-    for number in 2..=Numbering::LAST {
+    for number in 2..=Numbering::MAX {
         let Some(name) = part_name(rt.alloc(), log, number) else {
             return Err(Fault::Memory);
         };

@@ -49,7 +49,7 @@ pub(crate) struct Numbering {
 
 impl Numbering {
     /// The greatest number of a part.
-    pub(crate) const LAST: u16 = 9_999;
+    pub(crate) const MAX: u16 = 9_999;
 
     // Returns the name of the next part, if the part that is written is full and isn't the last.
     // A part for which there is no name is full again once it has grown by its size.
@@ -62,7 +62,7 @@ impl Numbering {
             return None;
         }
         self.left = self.size;
-        if self.number < Numbering::LAST {
+        if self.number < Numbering::MAX {
             part_name(self.alloc, &self.log, self.number + 1)
         } else {
             None

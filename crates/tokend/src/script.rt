@@ -3,7 +3,7 @@
 ghost use Rattle.std.specs.Prelude.{◌≡◌, ◌≤◌, ◌<◌, ◌^◌, ◌↔◌, ℕ, IfOk, IfErr, IfSome, length};
 ghost use Rattle.std.specs.Prelude.{slice_get, vec_len, IsTrue};
 ghost use Rattle.tk_world.specs.Line.{HasWords};
-ghost use Rattle.tokend.specs.Script.{greatest_length, lines_of, AreEvents, AreShort, IsFaultOf};
+ghost use Rattle.tokend.specs.Script.{max_length, lines_of, AreEvents, AreShort, IsFaultOf};
 ghost use Rattle.tokend.specs.Script.{IsInputFault, IsTooLong, words_at};
 
 use crate::fault::Fault;
@@ -13,7 +13,7 @@ use tk_format::ReadError;
 use tk_world::Event;
 
 /// The greatest length of a script, in bytes.
-pub const LIMIT: usize = 1_048_576;
+pub const MAX_SCRIPT: usize = 1_048_576;
 
 /// How many bytes of an input or an old log are read at once, at most.
 pub(crate) const READ_AT_ONCE: usize = 8_192;
@@ -25,14 +25,14 @@ pub(crate) const READ_AT_ONCE: usize = 8_192;
 /// `CannotRead` if the input fails or is interrupted, whatever it gave before. `ScriptTooLong` if
 /// the input is longer than the limit. `Memory` if memory runs out.
 pub(crate) fn read_script<I: Read>(alloc: Global, input: &mut I) -> Result<Vec<u8>, Fault>
-    ensures short { IfOk result (λ script. vec_len script ≤ greatest_length) }
+    ensures short { IfOk result (λ script. vec_len script ≤ max_length) }
     ensures whole { IfOk result
         (λ script. IfSome (I.remaining input.old) (λ bytes. script.items ≡ bytes)) }
     ensures fault { IfErr result (IsInputFault (I.remaining input.old)) }
 {
     let mut script = Vec::new(alloc);
     let mut piece = [0u8; READ_AT_ONCE];
-    while script.len() <= LIMIT {
+    while script.len() <= MAX_SCRIPT {
         let count = input.read(&mut piece)?;
         if count == 0 {
             return Ok(script);
@@ -56,7 +56,7 @@ pub(crate) fn read_events(
     script: &[u8],
     longest: Option<u64>,
 ) -> Result<Vec<Event>, Fault>
-    requires { length script.now ≤ greatest_length }
+    requires { length script.now ≤ max_length }
     ensures found { IfOk result (λ events. AreEvents (lines_of script.now) events.items) }
     ensures short { IfOk result (λ events. AreShort longest events.items) }
     ensures words { IfOk result (λ events. (k : ℕ)

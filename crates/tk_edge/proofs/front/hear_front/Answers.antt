@@ -11,8 +11,8 @@ returns-then-is_empty c =
     subst (λ x. IsFront c.args.reach x c.args.is_over c.nothing_front.result) (sym none)
     (c.nothing_front.ensures c.args.reach)
 
-pub returns-then-spans-gt-HEAD_LIMIT : goal.returns-then-spans-gt-HEAD_LIMIT
-returns-then-spans-gt-HEAD_LIMIT c =
+pub returns-then-spans-gt-MAX_HEAD : goal.returns-then-spans-gt-MAX_HEAD
+returns-then-spans-gt-MAX_HEAD c =
     let some : 0 < length c.args.bytes.now = search rules in
     let long : head_limit < c.in-Ok-Complete.spans.len = search rules in
     let facts = rw c.in-Ok-Complete.field-0-is at c.in-Ok-Complete.ensures in
@@ -20,8 +20,8 @@ returns-then-spans-gt-HEAD_LIMIT c =
     some (λ tail follows. long_none c.args.bytes.now tail c.parse_request.new.headers
     c.in-Ok-Complete.spans facts.complete.0 facts.complete.1 long))
 
-pub returns-else-spans-gt-HEAD_LIMIT : goal.returns-else-spans-gt-HEAD_LIMIT
-returns-else-spans-gt-HEAD_LIMIT c =
+pub returns-else-spans-gt-MAX_HEAD : goal.returns-else-spans-gt-MAX_HEAD
+returns-else-spans-gt-MAX_HEAD c =
     let fits : c.in-Ok-Complete.spans.len ≤ head_limit = search rules in
     let full : length c.parse_request.new.headers ≡ field_limit = search rules in
     let facts = rw c.in-Ok-Complete.field-0-is at c.in-Ok-Complete.ensures in

@@ -9,7 +9,7 @@ use Rattle.tk_store.specs.StoreFields.{held_facts}
 use Rattle.tk_store.specs.Walk.{above}
 use Rattle.tk_ledger.specs.ClientWalk.{clients_in}
 use Rattle.tk_message.specs.ClientPage.{listed_body, next_member}
-use Rattle.tk_message.specs.Page.{page_size, listed, cursor_of}
+use Rattle.tk_message.specs.Page.{max_listed, listed, cursor_of}
 use Rattle.tk_message.proofs.PageLaws.{opened, whole_none, whole_some}
 use Rattle.tk_message.proofs.client_page.clients_body.Goals as goal
 use Rattle.tk_message.proofs.client_page.clients_body.Goals.{in-Some+in_ok-id+in_ok-put_text}
@@ -18,8 +18,8 @@ use Rattle.tk_message.proofs.client_page.clients_body.Goals.{in_default}
 pub returns : goal.returns
 returns c =
     let clients = above (clients_in (held_facts c.args.ledger.now)) c.args.after in
-    let page = listed listed_body page_size clients in
-    let next = cursor_of page_size c.args.after clients in
+    let page = listed listed_body max_listed clients in
+    let next = cursor_of max_listed c.args.after clients in
     let before : c.put_clients.new.out.before ≡ [] =
     c.in_ok-next.ensures.before ∙ c.in_ok-begin_array.ensures.room.0 ∙ c.in_ok-key.ensures.room.0
     ∙ c.in_ok-out.ensures.before in

@@ -7,7 +7,7 @@ use Rattle.tk_store.specs.Walk.{above}
 use Rattle.tk_ledger.specs.ClientWalk.{clients_in}
 use Rattle.tk_message.specs.ClientPage.{listed_body}
 use Rattle.tk_ledger.specs.ViewFields.{ClientFields}
-use Rattle.tk_message.specs.Page.{page_size, listed, cursor_of}
+use Rattle.tk_message.specs.Page.{max_listed, listed, cursor_of}
 use Rattle.tk_message.proofs.PageLaws.{listed_none, cursor_none, tokens_more, cursor_more, one_left}
 use Rattle.tk_message.proofs.PageLaws.{none_left}
 use Rattle.tk_message.proofs.client_page.put_clients.Goals as goal
@@ -18,16 +18,16 @@ returns-in_default-clause-ok c =
     c.in_default.ensures in
     c.in_ok-end_array.ensures.ok
     ∙ ap (λ (ds : Items). c.loop.out.tokens ++ items_tokens (items_outline ds))
-    (sym (ap (listed listed_body (page_size - c.loop.counter)) none
-    ∙ listed_none listed_body (page_size - c.loop.counter)))
+    (sym (ap (listed listed_body (max_listed - c.loop.counter)) none
+    ∙ listed_none listed_body (max_listed - c.loop.counter)))
     ∙ c.loop.invariant.2
 
 pub returns-in_default-clause-next : goal.returns-in_default-clause-next
 returns-in_default-clause-next c =
     let none : above (clients_in (held_facts c.args.ledger.now)) c.loop.at ≡ [] =
     c.in_default.ensures in
-    sym (ap (cursor_of (page_size - c.loop.counter) c.loop.at) none
-    ∙ cursor_none ClientFields (page_size - c.loop.counter) c.loop.at)
+    sym (ap (cursor_of (max_listed - c.loop.counter) c.loop.at) none
+    ∙ cursor_none ClientFields (max_listed - c.loop.counter) c.loop.at)
     ∙ c.loop.invariant.3
 
 pub loop-preserved : goal.loop-preserved
@@ -35,16 +35,16 @@ loop-preserved c = (
   omega (arith, c.loop-test.true),
   c.in_ok-put_client.ensures.before ∙ c.loop.invariant.1,
   tokens_more listed_body c.loop.out.tokens c.put_client.new.out.tokens _
-      (page_size - c.loop.counter) _ c.in-Some.next _ _
+      (max_listed - c.loop.counter) _ c.in-Some.next _ _
       (one_left c.loop.counter c.loop-test.true) c.in-Some.ensures c.in_ok-put_client.ensures.ok
       c.loop.invariant.2,
-  cursor_more (page_size - c.loop.counter) _ c.loop.at _ c.in-Some.next _ _
+  cursor_more (max_listed - c.loop.counter) _ c.loop.at _ c.in-Some.next _ _
       (one_left c.loop.counter c.loop-test.true) c.in-Some.ensures c.loop.invariant.3,
 )
 
 pub returns-clause-ok : goal.returns-clause-ok
 returns-clause-ok c =
-    let full : page_size ≤ c.loop.counter = omega (arith, c.loop-test.false) in
+    let full : max_listed ≤ c.loop.counter = omega (arith, c.loop-test.false) in
     c.in_ok-end_array-2.ensures.ok
     ∙ ap (λ (k : ℕ).
     c.loop.out.tokens
@@ -56,7 +56,7 @@ returns-clause-ok c =
 
 pub returns-clause-next : goal.returns-clause-next
 returns-clause-next c =
-    let full : page_size ≤ c.loop.counter = omega (arith, c.loop-test.false) in
+    let full : max_listed ≤ c.loop.counter = omega (arith, c.loop-test.false) in
     c.cursor_at.ensures
     ∙ ap (λ (k : ℕ).
     cursor_of k c.loop.at (above (clients_in (held_facts c.args.ledger.now)) c.loop.at))

@@ -6,7 +6,7 @@ use Rattle.tk_store.specs.StoreFields.{held_facts}
 use Rattle.tk_store.specs.Walk.{above}
 use Rattle.tk_ledger.specs.SubjectWalk.{consents_of}
 use Rattle.tk_ledger.specs.ViewFields.{ConsentFields}
-use Rattle.tk_message.specs.Page.{page_size, listed, cursor_of}
+use Rattle.tk_message.specs.Page.{max_listed, listed, cursor_of}
 use Rattle.tk_message.specs.SubjectPage.{consent_item}
 use Rattle.tk_message.proofs.PageLaws.{listed_none, cursor_none, tokens_more, cursor_more, one_left}
 use Rattle.tk_message.proofs.PageLaws.{none_left, opened_of}
@@ -19,7 +19,7 @@ loop-init c = (
   opened_of _ _ _
       (items_tokens
       (items_outline
-      (listed consent_item page_size
+      (listed consent_item max_listed
       (above (consents_of (held_facts c.args.ledger.now) c.args.subject.now)
       c.args.after))))
       (codes "consents") c.in_ok-key.ensures.ok c.in_ok-begin_array.ensures.ok,
@@ -34,8 +34,8 @@ returns-in_default-clause-ok c =
     c.in_default.ensures in
     c.in_ok-end_array.ensures.ok
     ∙ ap (λ (ds : Items). c.loop.out.tokens ++ items_tokens (items_outline ds))
-    (sym (ap (listed consent_item (page_size - c.loop.counter)) none
-    ∙ listed_none consent_item (page_size - c.loop.counter)))
+    (sym (ap (listed consent_item (max_listed - c.loop.counter)) none
+    ∙ listed_none consent_item (max_listed - c.loop.counter)))
     ∙ c.loop.invariant.2
 
 pub returns-in_default-clause-next : goal.returns-in_default-clause-next
@@ -44,8 +44,8 @@ returns-in_default-clause-next c =
     : above (consents_of (held_facts c.args.ledger.now) c.args.subject.now) c.loop.at
     ≡ [] =
     c.in_default.ensures in
-    sym (ap (cursor_of (page_size - c.loop.counter) c.loop.at) none
-    ∙ cursor_none ConsentFields (page_size - c.loop.counter) c.loop.at)
+    sym (ap (cursor_of (max_listed - c.loop.counter) c.loop.at) none
+    ∙ cursor_none ConsentFields (max_listed - c.loop.counter) c.loop.at)
     ∙ c.loop.invariant.3
 
 pub loop-preserved : goal.loop-preserved
@@ -53,16 +53,16 @@ loop-preserved c = (
   omega (arith, c.loop-test.true),
   c.in_ok-put_consent.ensures.before ∙ c.loop.invariant.1,
   tokens_more consent_item c.loop.out.tokens c.put_consent.new.out.tokens _
-      (page_size - c.loop.counter) _ c.in-Some.next _ _
+      (max_listed - c.loop.counter) _ c.in-Some.next _ _
       (one_left c.loop.counter c.loop-test.true) c.in-Some.ensures c.in_ok-put_consent.ensures.ok
       c.loop.invariant.2,
-  cursor_more (page_size - c.loop.counter) _ c.loop.at _ c.in-Some.next _ _
+  cursor_more (max_listed - c.loop.counter) _ c.loop.at _ c.in-Some.next _ _
       (one_left c.loop.counter c.loop-test.true) c.in-Some.ensures c.loop.invariant.3,
 )
 
 pub returns-clause-ok : goal.returns-clause-ok
 returns-clause-ok c =
-    let full : page_size ≤ c.loop.counter = omega (arith, c.loop-test.false) in
+    let full : max_listed ≤ c.loop.counter = omega (arith, c.loop-test.false) in
     c.in_ok-end_array-2.ensures.ok
     ∙ ap (λ (k : ℕ).
     c.loop.out.tokens
@@ -76,7 +76,7 @@ returns-clause-ok c =
 
 pub returns-clause-next : goal.returns-clause-next
 returns-clause-next c =
-    let full : page_size ≤ c.loop.counter = omega (arith, c.loop-test.false) in
+    let full : max_listed ≤ c.loop.counter = omega (arith, c.loop-test.false) in
     c.consent_cursor.ensures
     ∙ ap (λ (k : ℕ).
     cursor_of k c.loop.at

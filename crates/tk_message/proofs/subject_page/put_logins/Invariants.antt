@@ -4,7 +4,7 @@ use Rattle.serde_json.specs.Written.{items_outline}
 use Rattle.tk_store.specs.StoreFields.{held_facts}
 use Rattle.tk_store.specs.Walk.{above}
 use Rattle.tk_ledger.specs.SubjectWalk.{logins_of}
-use Rattle.tk_message.specs.Page.{page_size, listed, cursor_of}
+use Rattle.tk_message.specs.Page.{max_listed, listed, cursor_of}
 use Rattle.tk_message.specs.SubjectPage.{login_item}
 use Rattle.tk_message.proofs.SubjectPageLaws.{array_written}
 use Rattle.tk_message.proofs.subject_page.put_logins.Given as goal
@@ -12,17 +12,17 @@ use Rattle.tk_message.proofs.subject_page.put_logins.Given as goal
 -- what is written, with what is left to write, is the page; its cursor is that of what is left
 abbrev pub invariant-loop : goal.invariant-loop
 invariant-loop l =
-    (l.counter ≤ page_size) × (l.out.before ≡ l.fn.out.before)
+    (l.counter ≤ max_listed) × (l.out.before ≡ l.fn.out.before)
     × (l.out.tokens
     ++ items_tokens
     (items_outline
-    (listed login_item (page_size - l.counter)
+    (listed login_item (max_listed - l.counter)
     (above (logins_of (held_facts l.ledger) l.now l.subject) l.at)))
     ≡ l.fn.out.tokens
     ++ array_written (codes "logins")
-    (listed login_item page_size
+    (listed login_item max_listed
     (above (logins_of (held_facts l.ledger) l.now l.subject) l.fn.after)))
-    × (cursor_of (page_size - l.counter) l.at
+    × (cursor_of (max_listed - l.counter) l.at
     (above (logins_of (held_facts l.ledger) l.now l.subject) l.at)
-    ≡ cursor_of page_size l.fn.after
+    ≡ cursor_of max_listed l.fn.after
     (above (logins_of (held_facts l.ledger) l.now l.subject) l.fn.after))

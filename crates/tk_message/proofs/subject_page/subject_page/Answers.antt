@@ -10,7 +10,7 @@ use Rattle.tk_store.specs.Walk.{above}
 use Rattle.tk_ledger.specs.SubjectWalk.{consents_of, logins_of}
 use Rattle.tk_message.specs.Bodies.{with_number, with_text, number_written, text_written}
 use Rattle.tk_message.specs.LastSignOut.{last_sign_out}
-use Rattle.tk_message.specs.Page.{page_size, listed, cursor_of}
+use Rattle.tk_message.specs.Page.{max_listed, listed, cursor_of}
 use Rattle.tk_message.specs.SubjectPage.{consent_item, login_item}
 use Rattle.tk_message.proofs.SubjectPageLaws.{page_of_writes}
 use Rattle.tk_message.proofs.subject_page.subject_page.Goals as goal
@@ -21,10 +21,10 @@ returns c =
     let subject = c.args.subject.now in
     let given = above (consents_of facts subject) c.args.consents_after in
     let begun = above (logins_of facts c.args.now subject) c.args.logins_after in
-    let consents = listed consent_item page_size given in
-    let logins = listed login_item page_size begun in
-    let consent = cursor_of page_size c.args.consents_after given in
-    let login = cursor_of page_size c.args.logins_after begun in
+    let consents = listed consent_item max_listed given in
+    let logins = listed login_item max_listed begun in
+    let consent = cursor_of max_listed c.args.consents_after given in
+    let login = cursor_of max_listed c.args.logins_after begun in
     let last = last_sign_out facts subject in
     let name : c.as_str.result.now ≡ subject = search rules in
     let t2 = c.put_logins.new.out.tokens in

@@ -1,7 +1,7 @@
 use Rattle.std.proofs.Common.{◌≡◌, Ok, Err, rules, subst}
 use Rattle.tk_region.specs.RegionFields.{RegionFields}
 use Rattle.tk_store.specs.StoreFields.{empty_store}
-use Rattle.tokend.specs.CheckRun.{LoadsSources, greatest_settings}
+use Rattle.tokend.specs.CheckRun.{LoadsSources, max_settings}
 use Rattle.tokend.proofs.CheckLaws.{check_fault}
 use Rattle.tokend.proofs.check.load_all.Goals as goal
 
@@ -9,7 +9,7 @@ pub returns-in-Ok-clause-loaded : goal.returns-in-Ok-clause-loaded
 returns-in-Ok-clause-loaded g c =
     let first : RegionFields = record {
       number = c.args.check.now.region;
-      settings = greatest_settings;
+      settings = max_settings;
       facts = empty_store;
     } in
     let same : c.new-region.result ≡ first = search rules in (
@@ -23,7 +23,7 @@ pub returns-in-Err-clause-fault : goal.returns-in-Err-clause-fault
 returns-in-Err-clause-fault g c =
     let first : RegionFields = record {
       number = c.args.check.now.region;
-      settings = greatest_settings;
+      settings = max_settings;
       facts = empty_store;
     } in
     let same : c.new-region.result ≡ first = search rules in

@@ -4,7 +4,7 @@ use Rattle.std.specs.Cmp.{nat_cmp_total}
 use Rattle.std.specs.FinMap as map
 use Rattle.tk_handle.proofs.SortedEntriesLaws.{get_at_place, get_at_gap, sorted_at_place}
 use Rattle.tk_handle.proofs.SortedEntriesLaws.{insert_at_place}
-use Rattle.tk_handle.specs.Ranges.{greatest_serial}
+use Rattle.tk_handle.specs.Ranges.{max_serial}
 use Rattle.tk_vector.specs.VersionVector.{entry}
 use Rattle.tk_vector.proofs.RemovalLaws.{sorted_removed, removed_at_place, removed_absent}
 use Rattle.tk_vector.proofs.VersionVectorLaws.{lowered_none, lowered_below, lowered_within}
@@ -52,7 +52,7 @@ returns-else-lt c =
     (omega (arith, here, above, c.in-Some.ensures.1)))
 
 -- a number at most the greatest serial that is no serial is 0
-nothing : (n : ℕ) → n ≤ greatest_serial → ((0 < n) × (n ≤ greatest_serial) → ⊥) → n ≡ 0
+nothing : (n : ℕ) → n ≤ max_serial → ((0 < n) × (n ≤ max_serial) → ⊥) → n ≡ 0
 nothing n high not =
     elim (cases_lt 0 n) [ inl some ↦ absurd (not (some, high)) | inr none ↦ omega arith ]
 
