@@ -93,8 +93,8 @@ first_broken limits ranges =
 
 -- the first rule that a body breaks, if any. The limits: each subject, operator, redirection URI
 -- and challenge is within its length and its alphabet. The ranges: no expiry, nor the end of a
--- family,
--- is before its start, and each life, generation, turn and kind of token is within its range
+-- family, is before its start, and each life, generation, turn and kind of token is within its
+-- range
 abbrev pub refusal_of : Body → Option FactError
 refusal_of (bodies.ClientAdded fact) =
     first_broken (is_by fact.by && list_all is_uri fact.redirects) (are_lives fact.lives)

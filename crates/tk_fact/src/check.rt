@@ -4,14 +4,15 @@ ghost use Rattle.std.specs.Prelude.{◌≡◌, ◌&&◌, OnOk, IfErr, IsTrue, No
 ghost use Rattle.std.specs.List.{list_all};
 ghost use Rattle.tk_match.specs.Redirects.{is_uri};
 ghost use Rattle.tk_fact.specs.Check.{first_broken, refusal_of, ends_after, is_challenge};
-ghost use Rattle.tk_fact.specs.Check.{are_lives, is_revocable, is_turn, is_used_once};
+ghost use Rattle.tk_fact.specs.Check.{are_lives, is_by, is_revocable, is_turn, is_used_once};
 ghost use Rattle.tk_fact.specs.Subject.{is_subject};
 
 use crate::body::Body;
-use crate::by::known_by;
+use crate::by::{By, known_by};
 use crate::client_lives::ClientLives;
 use crate::code_issued::CodeIssued;
 use crate::minted_token::MintedToken;
+use crate::subject::Subject;
 use tk_handle::{Kind, Moment};
 use tk_match::{Challenge, Redirects};
 
@@ -51,11 +52,7 @@ pub(crate) fn check_body(body: &Body) -> Result<(), FactError>
             known_uris(&fact.redirects);
             in_range(are_lives(&fact.lives))
         }
-        Body::ConsentGiven(fact) => {
-            known_by(&fact.by);
-            let _name = fact.subject.as_str();
-            Ok(())
-        }
+        Body::ConsentGiven(fact) => names_in_limits(&fact.by, &fact.subject),
         Body::CodeIssued(fact) => {
             known_limits(fact);
             let start = fact.start.seconds();
@@ -74,23 +71,13 @@ pub(crate) fn check_body(body: &Body) -> Result<(), FactError>
             in_range(is_revocable(fact.token.kind))
         }
         Body::ReuseSeen(fact) => in_range(is_used_once(fact.token.kind)),
-        Body::SubjectOut(fact) => {
-            known_by(&fact.by);
-            let _name = fact.subject.as_str();
-            Ok(())
-        }
+        Body::SubjectOut(fact) => names_in_limits(&fact.by, &fact.subject),
         Body::SecretSet(fact) => {
             known_by(&fact.by);
             in_range(is_turn(fact.turn))
         }
-        Body::ClientRetired(fact) => {
-            known_by(&fact.by);
-            Ok(())
-        }
-        Body::ConsentWithdrawn(fact) => {
-            known_by(&fact.by);
-            Ok(())
-        }
+        Body::ClientRetired(fact) => operator_in_limits(&fact.by),
+        Body::ConsentWithdrawn(fact) => operator_in_limits(&fact.by),
     }
 }
 
@@ -102,6 +89,27 @@ pub const MAX_REFRESH_LIFE: u64 = 31_536_000;
 
 /// The longest life of a family in seconds: ten years (own).
 pub const MAX_FAMILY_LIFE: u64 = 315_360_000;
+
+// Returns no refusal: an operator, if there is one, is always within its limits.
+fn operator_in_limits(by: &Option<By>) -> Result<(), FactError>
+    ensures ok { OnOk result (first_broken (is_by by.now) true ≡ None) }
+    ensures err { IfErr result (λ e. first_broken (is_by by.now) true ≡ Some e) }
+{
+    known_by(by);
+    Ok(())
+}
+
+// Returns no refusal: an operator, if there is one, and a subject are always within their limits.
+fn names_in_limits(by: &Option<By>, subject: &Subject) -> Result<(), FactError>
+    ensures ok { OnOk result
+        (first_broken (is_by by.now && is_subject subject.now) true ≡ None) }
+    ensures err { IfErr result
+        (λ e. first_broken (is_by by.now && is_subject subject.now) true ≡ Some e) }
+{
+    known_by(by);
+    let _name = subject.as_str();
+    Ok(())
+}
 
 // Returns whether the ranges are kept. The limits always are.
 fn in_range(ranges: bool) -> Result<(), FactError>
