@@ -4,10 +4,10 @@ import os
 import re
 
 from lib import TOP
-from texts import FORMATS, coded, differ, numbers, rows, text_of
+from texts import FORMATS, MEASURED, SCALE, coded, differ, numbers, rows, text_of
 
 # numbers with a comma that aren't limits: what was measured, and what the table's numbers make
-OTHERS = {"docs/MEASURED.md", "docs/GATE.md"}
+OTHERS = {MEASURED, SCALE, "docs/GATE.md"}
 DERIVED = {"docs/OPERATING.md": {8191}, "docs/FORMATS.md": {1020}}
 
 # numbers without a comma, by the words around them
@@ -29,7 +29,7 @@ def value(path, name):
     found = set()
     for right in m:
         right = right.replace("_", "")
-        if right == "max_serial - 1" or right == "greatestserial - 1":
+        if right == "maxserial - 1":
             found.add(value("crates/tk_handle/specs/Ranges.antt", "max_serial").pop() - 1)
         elif re.fullmatch(r"\d+", right):
             found.add(int(right))

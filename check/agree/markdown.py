@@ -8,7 +8,7 @@ from limits import documents
 from texts import README, differ, text_of
 
 WIDTH, README_LINES, README_BYTES = 100, 140, 8192
-DEFINITIONS = "docs/DEFINITIONS.md"
+DEFINITIONS = "docs/DEFINITIONS.md", "docs/SERVER.md"
 LINK = r"\[([^\]\n]*(?:\n[^\]\n]*)?)\]\(([^)\s]+)\)"
 # each is another word's place: "out of memory", "arguments", "random words", "N bytes"
 UNWANTED = r"want of memory|memory is at hand|so many bytes|the six words|wrong bod(?:y|ies)"
@@ -71,7 +71,7 @@ def compare_sections(name, text):
             differ(name, "%s has no heading %r" % (document, heading))
 
 
-def compare_home(term, home):
+def compare_home(name, term, home):
     """Each name of a home is in the file that the home names."""
     crate, path = "", None
     for word, code, colon in re.findall(r"\b(tk_\w+|tokend)\b(?! `\w+\.rt)|`(\w+)`(:?)", home):
@@ -80,10 +80,10 @@ def compare_home(term, home):
         elif colon:
             path = "crates/%s/specs/%s.antt" % (crate, code)
             if not os.path.exists(os.path.join(TOP, path)):
-                differ(DEFINITIONS, "%s: no %s" % (term, path))
+                differ(name, "%s: no %s" % (term, path))
                 path = None
         elif not (is_named(crate, path, code) or is_named(crate, None, code)):
-            differ(DEFINITIONS, "%s: %s isn't in %s" % (term, code, path or crate))
+            differ(name, "%s: %s isn't in %s" % (term, code, path or crate))
 
 
 def is_named(crate, path, name):
@@ -95,9 +95,10 @@ def is_named(crate, path, name):
 
 
 def compare_homes():
-    text = re.sub(r"\n +", " ", text_of(DEFINITIONS))
-    for term, home in re.findall(r"^- \*\*([^*]+)\*\*.*? Home: (.*)$", text, re.M):
-        compare_home(term, home)
+    for name in DEFINITIONS:
+        text = re.sub(r"\n +", " ", text_of(name))
+        for term, home in re.findall(r"^- \*\*([^*]+)\*\*.*? Home: (.*)$", text, re.M):
+            compare_home(name, term, home)
 
 
 def compare_widths(name, text):

@@ -1,5 +1,6 @@
-"""planned: the figures of check/measure/planned against the tables of docs/MEASURED.md, its sums
-against sums made by hand, the table of docs/CELLS.md against what it prints, and its refusals.
+"""planned: the figures of check/measure/planned against the tables of docs/MEASURED.md and
+docs/SCALE.md, its sums against sums made by hand, the table of docs/CELLS.md against what it
+prints, and its refusals.
 """
 import json
 import math
@@ -11,9 +12,9 @@ import tempfile
 
 from lib import TOP
 from measuring import plan
-from texts import differ, rows, same, text_of
+from texts import MEASURED, SCALE, differ, rows, same, text_of
 
-COMMAND, MEASURED = "check/measure/planned", "docs/MEASURED.md"
+COMMAND = "check/measure/planned"
 DOCUMENT = "docs/CELLS.md"
 HOME = "check/measure/measuring/plan.py"
 
@@ -91,19 +92,24 @@ def plain(text):
     return float(text.split()[0].replace(",", ""))
 
 
+def measured():
+    """Both documents with measured figures, as one text."""
+    return text_of(MEASURED) + text_of(SCALE)
+
+
 def cell(mark, begin, column):
-    """A number of a table of docs/MEASURED.md; nothing if there is no such row."""
-    block = text_of(MEASURED).partition("<!-- measured: %s -->" % mark)[2].partition("<!-- end")[0]
+    """A number of a measured table; nothing if there is no such row."""
+    block = measured().partition("<!-- measured: %s -->" % mark)[2].partition("<!-- end")[0]
     for line in block.splitlines():
         cells = line.strip("| ").split(" | ")
         if cells[:len(begin)] == begin:
             return plain(cells[column])
-    return differ(MEASURED, "the table %s has no row %s" % (mark, begin))
+    return differ(MEASURED + " or " + SCALE, "the table %s has no row %s" % (mark, begin))
 
 
 def made():
-    """The figures that are made of several numbers of docs/MEASURED.md."""
-    text = re.sub(r"\s+", " ", text_of(MEASURED))
+    """The figures that are made of several measured numbers."""
+    text = re.sub(r"\s+", " ", measured())
     most, least = (cell("start", [families], 1) for families in ("100,000", "0"))
     growth = re.search(r"grew by (\S+) KiB with the marks of (\S+) logins \(.*?\), and by "
                        r"(\S+) KiB with those of (\S+?)[:.]", text)
@@ -120,7 +126,7 @@ def compare_figures():
     wanted = {name: cell(*where) for name, where in CELLS.items()} | made()
     same(HOME, "the figures", sorted(wanted), sorted(plan.FIGURES))
     for name, it in plan.FIGURES.items():
-        same(HOME, "the figure %s of %s" % (name, MEASURED), wanted.get(name), it.default)
+        same(HOME, "the measured figure " + name, wanted.get(name), it.default)
 
 
 def is_same(wanted, found):

@@ -5,6 +5,7 @@ import re
 from lib import TOP
 
 README, OPERATING, PAGE = "README.md", "docs/OPERATING.md", "docs/tokend.1"
+MEASURED, SCALE = "docs/MEASURED.md", "docs/SCALE.md"
 HTTP, FORMATS, SCRIPT, QUICKSTART = (
     "docs/HTTP.md", "docs/FORMATS.md", "docs/SCRIPT.md", "docs/QUICKSTART.md")
 found = []

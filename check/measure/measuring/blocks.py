@@ -1,4 +1,5 @@
-"""blocks: the tables of docs/MEASURED.md, each made from the results of one measurement."""
+"""blocks: the tables of docs/MEASURED.md and docs/SCALE.md, each made from the results of one
+measurement."""
 import re
 
 from measuring import paper, tables

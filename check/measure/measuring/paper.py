@@ -1,5 +1,5 @@
 """paper: what a million logins a day cost, computed from what was measured. Nothing here is
-measured itself: docs/MEASURED.md has the rule of each column.
+measured itself: docs/SCALE.md has the rule of each column.
 """
 from measuring import tables
 from measuring.results import Missing, part, text_of

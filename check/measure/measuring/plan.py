@@ -1,9 +1,10 @@
-"""plan: what many users need, computed from assumptions and from figures of docs/MEASURED.md.
+"""plan: what many users need, computed from assumptions and from figures of docs/MEASURED.md
+and docs/SCALE.md.
 
 Nothing here is measured. A figure is one of a site alone, of one machine, and what is computed of
 it for many sites was never run. A consent, a revocation and a sign-out are each taken as a refresh,
-since docs/MEASURED.md has no figure of them. A revocation goes with its login, and the other two
-last. Clients are left out: they are few.
+since these have no figure of them. A revocation goes with its login, and the other two last.
+Clients are left out: they are few.
 """
 import math
 from typing import Callable, NamedTuple
@@ -55,9 +56,9 @@ FIGURES = {
     "refresh-log": Option(143, 0, 1e9, "bytes of a refresh in a log"),
     # docs/MEASURED.md, "A prune": 500,000 pruned logins leave 88 KiB more than 20,001 do
     "left": Option(0, 0, 1e9, "bytes that a pruned login leaves in memory"),
-    # docs/MEASURED.md, "A hundred days": the place of a mark on a page that has a fact
+    # docs/SCALE.md, "A hundred days": the place of a mark on a page that has a fact
     "place": Option(24, 0, 1e9, "bytes of a mark beside a fact that lasts"),
-    # docs/MEASURED.md, "Several sites behind HAProxy", one site; a code is one of two requests
+    # docs/SCALE.md, "Several sites behind HAProxy", one site; a code is one of two requests
     "introspected": Option(19_751, 1, 1e9, "introspections a second of a site"),
     "refreshed": Option(8829, 1, 1e9, "refreshes a second of a site"),
     "coded": Option(8569, 1, 1e9, "requests a second of logins of a site"),
@@ -65,7 +66,7 @@ FIGURES = {
     "taken": Option(200_596, 1, 1e9, "facts of other sites a second that a site takes in"),
     # docs/MEASURED.md, "A start": 200,000 facts in 875 ms, less 1.14 ms for none
     "loaded": Option(228_869, 1, 1e9, "facts a second of a start"),
-    # docs/MEASURED.md, "A hundred days", the last row: the marks, by the seconds of a start with
+    # docs/SCALE.md, "A hundred days", the last row: the marks, by the seconds of a start with
     # the files, which have some facts too. The machine was busy: a quiet one takes fewer seconds
     "marked": Option(614_673, 1, 1e9, "marks a second of a start"),
 }
