@@ -62,7 +62,7 @@ use Rattle.tk_authorize.specs.declared.admin_refusal.AdminRefusal.TheVariants.{
   WrongRefresh,
   UnwantedSecret,
   MalformedScope,
-  BadRedirects,
+  WrongRedirects,
   UnknownClient,
   MalformedSubject,
   WrongScope,
@@ -142,7 +142,7 @@ registered uris = if is_none (client_refusal uris) then Some uris else None
 -- 6749, 3.1.2.2)
 abbrev pub registered_to : ClientKind → Option ClientLives → List ℕ → Option (List (List ℕ))
     → Administered
-registered_to client_kind lives scope None = Refused BadRedirects
+registered_to client_kind lives scope None = Refused WrongRedirects
 registered_to client_kind lives scope (Some uris) = Registers (record {
   client_kind = client_kind;
   scope = scope;

@@ -23,7 +23,7 @@ use Rattle.tk_authorize.specs.declared.administered.Administered.TheVariants.{
   Consents,
   HasConsent,
 }
-use Rattle.tk_authorize.specs.declared.admin_refusal.AdminRefusal.TheVariants.{BadRedirects}
+use Rattle.tk_authorize.specs.declared.admin_refusal.AdminRefusal.TheVariants.{WrongRedirects}
 
 -- the region may register the URIs: by no choice of kinds, absolute URLs of any scheme, but none at
 -- any port; by a choice, only URIs of the kinds chosen (own)
@@ -35,7 +35,7 @@ may_register (Some kinds) uris = list_all (is_listed kinds) uris
 -- redirection URIs (own)
 abbrev pub registered_among : Option RedirectKinds → added.ClientAdded → Administered
 registered_among kinds client =
-    if may_register kinds client.redirects then Registers client else Refused BadRedirects
+    if may_register kinds client.redirects then Registers client else Refused WrongRedirects
 
 -- a held consent, if there is one, serves in place of the new one (own)
 abbrev pub held_or_given : Option Dot → given.ConsentGiven → Administered

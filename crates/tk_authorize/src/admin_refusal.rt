@@ -5,14 +5,14 @@ ghost use Rattle.tk_authorize.specs.Administration.{code_of};
 
 use tk_message::ErrorCode;
 
-/// The reason why an administration request is refused (own): the first that holds, in the order
-/// that `specs/Operators.antt`, and then `specs/Administered.antt`, `Logouts.antt`,
-/// `SecretChanges.antt` or a listing has for the endpoint.
+/// The reason why an administration request is refused (own, but for those with a section): the
+/// first that holds, in the order that `specs/Operators.antt`, and then `specs/Administered.antt`,
+/// `Logouts.antt`, `SecretChanges.antt` or a listing has for the endpoint.
 #[derive(Clone, Copy)]
 pub(crate) enum AdminRefusal {
     /// The operator is not 1 to 128 visible ASCII bytes.
     MalformedOperator,
-    /// A parameter that the endpoint knows occurs twice.
+    /// A parameter that the endpoint knows occurs twice (RFC 6749, 3.1).
     DuplicateParameter,
     /// A required parameter is absent.
     MissingParameter,
@@ -36,7 +36,7 @@ pub(crate) enum AdminRefusal {
     MalformedScope,
     /// There is no redirection URI, there are too many, or one may not be registered (RFC 6749,
     /// 3.1.2).
-    BadRedirects,
+    WrongRedirects,
     /// No client has the id; for a new consent or secret, the client may also be retired.
     UnknownClient,
     /// The subject is not 1 to 128 visible ASCII bytes.
@@ -70,7 +70,7 @@ impl AdminRefusal {
             | AdminRefusal::WrongOld
             | AdminRefusal::TooManyTurns
             | AdminRefusal::WrongLife
-            | AdminRefusal::BadRedirects
+            | AdminRefusal::WrongRedirects
             | AdminRefusal::MalformedSubject => ErrorCode::InvalidRequest,
             AdminRefusal::MalformedScope | AdminRefusal::WrongScope => ErrorCode::InvalidScope,
             AdminRefusal::UnknownClient

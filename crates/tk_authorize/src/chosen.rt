@@ -55,7 +55,7 @@ fn choose_client(
     if may_register(alloc, kinds, &client.redirects)? {
         Ok(Administered::Registers(client))
     } else {
-        Ok(Administered::Refused(AdminRefusal::BadRedirects))
+        Ok(Administered::Refused(AdminRefusal::WrongRedirects))
     }
 }
 

@@ -299,7 +299,7 @@ fn register_to(
     ensures sound { IsSoundAdministered result }
 {
     let Some(redirects) = redirects else {
-        return Administered::Refused(AdminRefusal::BadRedirects);
+        return Administered::Refused(AdminRefusal::WrongRedirects);
     };
     // This call gives the proof that each URI is within its limits.
     let _uris = redirects.uris();

@@ -22,8 +22,8 @@ pub enum FactError {
     /// A subject, an operator, a redirection URI or a challenge is outside its length or its
     /// alphabet.
     ///
-    /// Never returned for a fact built in memory: `Subject`, `Uri`, `Redirects` and `Challenge`
-    /// enforce these limits.
+    /// No call returns it: `Subject`, `Uri`, `Redirects` and `Challenge` keep these limits, in
+    /// facts that are built and in facts that are read. It names the rule in the definition.
     Limit,
     /// A field is outside its range.
     ///

@@ -17,7 +17,7 @@ use Rattle.tk_listing.specs.Printing.{PrintsInput, PrintsMore, PrintsWhole, Read
 use Rattle.tk_listing.specs.declared.print.End.{End}
 use Rattle.tk_listing.specs.declared.print.End.TheVariants as ends
 use Rattle.tk_listing.specs.declared.print.PrintFault.{PrintFault}
-use Rattle.tk_listing.specs.declared.print.PrintFault.TheVariants.{Read, Memory}
+use Rattle.tk_listing.specs.declared.print.PrintFault.TheVariants.{CannotRead, Memory}
 use Rattle.tk_listing.proofs.Showing.{shows_none, shows_trans, shows_extend, prints_more}
 
 -- what was read and printed before a read
@@ -235,7 +235,7 @@ more_goes known left left2 buffer grown rest offset p old now new more going rea
 
 -- the fault after an error
 abbrev err_of : Result (List ℕ × ℕ) PrintFault → PrintFault
-err_of (Ok x) = Read
+err_of (Ok x) = CannotRead
 err_of (Err e) = e
 
 -- a fault ends the printing
@@ -271,7 +271,7 @@ pub read_stops : (known left : Option (List ℕ)) (buffer : List ℕ) (offset : 
     → PrintsInput known (Err fault) old now
 read_stops known left buffer offset fault old now going (inl e) =
     subst (λ (f : PrintFault). PrintsInput known (Err f) old now) (sym e)
-    (stopped known left buffer offset old now Read going (λ s r l h. h))
+    (stopped known left buffer offset old now CannotRead going (λ s r l h. h))
 read_stops known left buffer offset fault old now going (inr e) =
     subst (λ (f : PrintFault). PrintsInput known (Err f) old now) (sym e)
     (stopped known left buffer offset old now Memory going (λ s r l h. h))

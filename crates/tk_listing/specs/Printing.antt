@@ -19,7 +19,7 @@ use Rattle.tk_listing.specs.declared.print.End.TheVariants as ends
 use Rattle.tk_listing.specs.declared.print.Step.{Step}
 use Rattle.tk_listing.specs.declared.print.Step.TheVariants as step
 use Rattle.tk_listing.specs.declared.print.PrintFault.{PrintFault}
-use Rattle.tk_listing.specs.declared.print.PrintFault.TheVariants.{Malformed, Read, Memory, Output}
+use Rattle.tk_listing.specs.declared.print.PrintFault.TheVariants.{Malformed, CannotRead, Memory, Output}
 
 -- no byte is left, or the bytes end before a bundle or vector does
 abbrev pub IsOver : List ℕ → Type 0
@@ -63,9 +63,9 @@ pub record PrintsWhole (bytes : List ℕ) (used : ℕ) (end : End) (old new : Op
 -- the offset at which reading goes on, or the fault that ends it, if there are too many bytes too
 abbrev pub outcome : End → Option ℕ → Result ℕ PrintFault
 outcome ends.More (Some place) = Ok place
-outcome ends.More None = Err Read
+outcome ends.More None = Err CannotRead
 outcome ends.Malformed (Some place) = Err (Malformed place)
-outcome ends.Malformed None = Err Read
+outcome ends.Malformed None = Err CannotRead
 outcome ends.Memory place = Err Memory
 outcome ends.Output place = Err Output
 
@@ -77,7 +77,7 @@ ReadsMore more old new before after =
 
 -- the input failed, or memory ran out
 abbrev pub IsReadFault : PrintFault → Type 0
-IsReadFault fault = (fault ≡ Read) ⊎ (fault ≡ Memory)
+IsReadFault fault = (fault ≡ CannotRead) ⊎ (fault ≡ Memory)
 
 -- the rest at its offset, unless memory ran out, or the fault that ends reading
 abbrev pub IsLeft : Result ℕ PrintFault → List ℕ → Result (List ℕ × ℕ) PrintFault → Type 0
@@ -104,7 +104,7 @@ Ends known (Ok cut) seen rest lines old new =
 -- at this offset is no bundle and no vector; the lines before it were written
 Ends known (Err (Malformed offset)) seen rest lines old new =
     IsBad rest × (offset + length rest ≡ length seen) × Appends old new lines
-Ends known (Err Read) seen rest lines old new = Appends old new lines
+Ends known (Err CannotRead) seen rest lines old new = Appends old new lines
 Ends known (Err Memory) seen rest lines old new = Appends old new lines
 -- a beginning of the lines was written
 Ends known (Err Output) seen rest lines old new = AppendsFront old new lines

@@ -24,7 +24,7 @@ pub enum PrintFault {
     /// lines of what is before it were printed.
     Malformed(u64),
     /// The input failed.
-    Read,
+    CannotRead,
     /// Memory ran out.
     Memory,
     /// The output failed. It has the beginning of the lines.
@@ -89,7 +89,7 @@ pub fn print_lines<I: Read, O: Write>(
             Err(fault) => return Err(fault),
         }
     }
-    Err(PrintFault::Read)
+    Err(PrintFault::CannotRead)
 }
 
 // Reads once, behind the bytes of the buffer. Returns whether there was a byte.
@@ -101,7 +101,7 @@ fn read_more<I: Read>(input: &mut I, buffer: &mut Vec<u8>) -> Result<bool, Print
 {
     let mut piece = [0u8; READ_AT_ONCE];
     let Ok(count) = input.read(&mut piece) else {
-        return Err(PrintFault::Read);
+        return Err(PrintFault::CannotRead);
     };
     match buffer.extend_from_slice(&piece[..count]) {
         Ok(()) => Ok(count != 0),
@@ -141,7 +141,7 @@ fn outcome(end: End, place: Option<u64>) -> Result<u64, PrintFault>
     match (end, place) {
         (End::More, Some(place)) => Ok(place),
         (End::Malformed, Some(place)) => Err(PrintFault::Malformed(place)),
-        (End::More | End::Malformed, None) => Err(PrintFault::Read),
+        (End::More | End::Malformed, None) => Err(PrintFault::CannotRead),
         (End::Memory, _) => Err(PrintFault::Memory),
         (End::Output, _) => Err(PrintFault::Output),
     }

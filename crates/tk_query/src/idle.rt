@@ -6,13 +6,13 @@
 /// The token of another client is refused, between `DeadFamily` and `Revoked`.
 #[derive(Clone, Copy)]
 pub(crate) enum Idle {
-    /// The text is not a handle.
+    /// The text is not a handle (RFC 7009, 2.2).
     NoHandle,
     /// The handle is that of a code: codes can't be revoked (RFC 7009, 2).
     Code,
     /// The fact at the token's dot did not mint the token.
     WrongHandle,
-    /// The token would be of this region, which never minted it.
+    /// The token would be of this region, which never minted it (own).
     NeverMinted,
     /// The token has expired.
     Past,

@@ -2,6 +2,7 @@
 //!
 //! A `FactStore` holds the facts of one region. What it knows of a dot is a slot: a fact that is
 //! held, or the mark that one was skipped. What facts mean for tokens is for the crates above.
+//! In reading order: `SlotRef`, `FactStore`, `Added`, `Facts`, the joins.
 //!
 //! - `add` joins one fact to the store or refuses it, and `take_back` undoes an addition.
 //! - `skip` drops a fact and keeps its dot known. `skipped`, `slot` and `get` look a dot up.

@@ -58,7 +58,7 @@ is_told : (name : Text) (why : LoadFault) (fault : Fault) → IsReportedAs name 
     → IsSourceFault fault
 is_told name (load.Malformed offset) fault h = is_bad name offset fault h
 is_told name (load.Refused offset) fault h = is_refused name offset fault h
-is_told name load.Read fault h = is_unread name fault h
+is_told name load.CannotRead fault h = is_unread name fault h
 is_told name load.Memory fault h = subst IsSourceFault (sym h) tt
 
 -- a fault that ends the loading of a source is one of a source

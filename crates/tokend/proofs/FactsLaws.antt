@@ -88,7 +88,7 @@ of_source Output h = absurd h
 is_told : (name : Text) (why : PrintFault) (fault : Fault) → IsReportedAs name why fault
     → IsFactsFault fault
 is_told name (print.Malformed offset) fault h = of_source fault (is_bad name offset fault h)
-is_told name print.Read fault h = of_source fault (is_unread name fault h)
+is_told name print.CannotRead fault h = of_source fault (is_unread name fault h)
 is_told name print.Memory fault h = subst IsFactsFault (sym h) tt
 is_told name print.Output fault h = subst IsFactsFault (sym h) tt
 

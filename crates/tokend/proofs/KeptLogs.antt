@@ -27,10 +27,10 @@ use Rattle.tk_message.specs.Place.{next_in}
 use Rattle.tk_region.specs.RegionFields.{RegionFields, place_in}
 use Rattle.tk_region.specs.Taking.{has_unmade}
 use Rattle.tokend.specs.KeptLog.{AreLogged, HasLogged, IsFresh, IsNotRefused, IsPrunedBefore}
-use Rattle.tokend.specs.KeptLog.{IsTorn, LogKeepsAll, LogLoads}
+use Rattle.tokend.specs.KeptLog.{IsTorn, LogKeepsAll, LogLoads, logging}
 use Rattle.tokend.specs.Loading.{AreBundles, BeginsWith, IsNoBundle, IsRefused, Loads, TakesEach}
 use Rattle.tokend.specs.Loading.{TakesFront, log_bytes}
-use Rattle.tokend.specs.Starting.{PrunesOld, edge_of}
+use Rattle.tokend.specs.Starting.{PrunesOld}
 use Rattle.tokend.specs.Turns.{all_ends}
 use Rattle.tokend.specs.declared.load.LoadFault.{LoadFault}
 use Rattle.tokend.specs.declared.load.LoadFault.TheVariants as load
@@ -117,15 +117,8 @@ log_from : (olds : List BundleFields) (region : RegionFields) (log : List ℕ)
     (h : HasLogged olds region log)
     → Grew h.prunes h.turns [] log h.start.facts region.facts
 log_from olds region log h =
-    through h.words
-    (record { edge = edge_of h.terms h.start; log = Some []; faults = h.faults; prunes = h.prunes })
-    h.turns (record {
-      edge = edge_of h.shown region;
-      log = Some log;
-      faults = h.told;
-      prunes = h.prunes;
-    }) [] log
-    h.served refl refl refl refl
+    through h.words (logging h.terms h.start [] h.faults h.prunes) h.turns
+    (logging h.shown region log h.told h.prunes) [] log h.served refl refl refl refl
 
 -- the bundles of the log are those by which it grew
 log_is : (log : List ℕ) (news bundles : List BundleFields) → AreLogged log news → AreBundles bundles
@@ -156,7 +149,8 @@ keeps_all olds region log h news logged bytes all are among_olds among_news new 
     subst (λ (bs : List BundleFields). NoneLater bs loaded.facts.horizon) (sym same) above.late in
     let from = through.from U (below_among U news all among_news each) in
     let old_from =
-    each_from h.first olds h.full U h.loaded (below_among U olds all among_olds each) in
+    each_from h.started.first olds h.started.full U h.started.loaded
+    (below_among U olds all among_olds each) in
     record {
       held = λ d b at. held_by d b
           (held_at (map.get region.facts.slots d) b (sym (get_held region.facts.slots d) ∙ at))
@@ -167,42 +161,44 @@ keeps_all olds region log h news logged bytes all are among_olds among_news new 
     }
   where
     -- what a region held before its service, the other knows
-    started : (d : Dot) (b : Body) → map.get h.start.facts.slots d ≡ Some (Held b)
-        → IsFrom (map.get loaded.facts.slots d) (map.get h.first.facts.slots d)
-        (map.get h.full.facts.slots d)
+    held_before : (d : Dot) (b : Body) → map.get h.start.facts.slots d ≡ Some (Held b)
+        → IsFrom (map.get loaded.facts.slots d) (map.get h.started.first.facts.slots d)
+        (map.get h.started.full.facts.slots d)
         → SlotBelow (Some (Held b)) (map.get loaded.facts.slots d)
-    started d b at old =
-        first_below (map.get loaded.facts.slots d) (map.get h.first.facts.slots d)
-        (map.get h.full.facts.slots d) b old (knows_none h.first.facts d h.empty)
-        (pruned_less h.moment h.count h.full h.start h.pruned d b at)
+    held_before d b at old =
+        first_below (map.get loaded.facts.slots d) (map.get h.started.first.facts.slots d)
+        (map.get h.started.full.facts.slots d) b old
+        (knows_none h.started.first.facts d h.started.empty)
+        (pruned_less h.started.moment h.started.count h.started.full h.start h.started.pruned d b at)
 
     held_by : (d : Dot) (b : Body) → map.get region.facts.slots d ≡ Some (Held b)
         → IsLeft h.prunes (map.get loaded.facts.slots d) (map.get h.start.facts.slots d)
         (map.get region.facts.slots d)
-        → IsFrom (map.get loaded.facts.slots d) (map.get h.first.facts.slots d)
-        (map.get h.full.facts.slots d) → SlotBelow (Some (Held b)) (map.get loaded.facts.slots d)
+        → IsFrom (map.get loaded.facts.slots d) (map.get h.started.first.facts.slots d)
+        (map.get h.started.full.facts.slots d)
+        → SlotBelow (Some (Held b)) (map.get loaded.facts.slots d)
     held_by d b at (inl (inr below)) old =
         subst (λ o. SlotBelow o (map.get loaded.facts.slots d)) at below
-    held_by d b at (inl (inl same)) old = started d b (sym same ∙ at) old
+    held_by d b at (inl (inl same)) old = held_before d b (sym same ∙ at) old
     held_by d b at (inr gone) old = absurd (skipped_held b (sym gone.1 ∙ at))
 
     -- a region that prunes itself has skipped what its start knew
     pruned_at : (d : Dot) → h.prunes ≡ true → (o : Option Slot) → map.get h.start.facts.slots d ≡ o
         → (o ≡ None → ⊥)
-        → IsFrom (map.get loaded.facts.slots d) (map.get h.first.facts.slots d)
-        (map.get h.full.facts.slots d)
+        → IsFrom (map.get loaded.facts.slots d) (map.get h.started.first.facts.slots d)
+        (map.get h.started.full.facts.slots d)
         → (map.get h.start.facts.slots d ≡ Some Skipped)
         ⊎ (map.get loaded.facts.slots d ≡ Some Skipped) ⊎ IsPrunedBefore h.prunes loaded d
     pruned_at d on None at some old = absurd (some refl)
     pruned_at d on (Some Skipped) at some old = inl at
     pruned_at d on (Some (Held b)) at some old =
-        inr (inr (on, known_above (Held b) (map.get loaded.facts.slots d) (started d b at old)))
+        inr (inr (on, known_above (Held b) (map.get loaded.facts.slots d) (held_before d b at old)))
 
     marked : (d : Dot) → map.get region.facts.slots d ≡ Some Skipped
         → IsLeft h.prunes (map.get loaded.facts.slots d) (map.get h.start.facts.slots d)
         (map.get region.facts.slots d)
-        → IsFrom (map.get loaded.facts.slots d) (map.get h.first.facts.slots d)
-        (map.get h.full.facts.slots d)
+        → IsFrom (map.get loaded.facts.slots d) (map.get h.started.first.facts.slots d)
+        (map.get h.started.full.facts.slots d)
         → (map.get h.start.facts.slots d ≡ Some Skipped)
         ⊎ (map.get loaded.facts.slots d ≡ Some Skipped) ⊎ IsPrunedBefore h.prunes loaded d
     marked d at (inl (inl same)) old = inl (sym same ∙ at)
@@ -304,44 +300,32 @@ loads_all olds region log h calm news logged bytes are new loaded empty fresh re
         (log_is log news grew.0 logged grew.2.fit grew.1) grew.2
 
     -- the slots of a region without facts
-    nothing : new.facts.slots ≡ h.first.facts.slots
-    nothing = ap (λ (P : StoreFields). P.slots) (empty ∙ sym h.empty)
+    nothing : new.facts.slots ≡ h.started.first.facts.slots
+    nothing = ap (λ (P : StoreFields). P.slots) (empty ∙ sym h.started.empty)
 
-    old_fit : FitsEach h.first.facts.slots olds
-        × (h.full.facts.slots ≡ with_each h.first.facts.slots olds)
-        × (h.full.number ≡ h.first.number)
-    old_fit = taken_fit h.first olds h.full h.loaded
+    old_fit : FitsEach h.started.first.facts.slots olds
+        × (h.started.full.facts.slots ≡ with_each h.started.first.facts.slots olds)
+        × (h.started.full.number ≡ h.started.first.number)
+    old_fit = taken_fit h.started.first olds h.started.full h.started.loaded
 
-    news_fit : FitsEach (with_each h.first.facts.slots olds) news
-    news_fit = (news_through.loads calm (with_each h.first.facts.slots olds)
+    news_fit : FitsEach (with_each h.started.first.facts.slots olds) news
+    news_fit = (news_through.loads calm (with_each h.started.first.facts.slots olds)
         (subst (λ S. SlotsBelow S h.start.facts.slots) old_fit.1
-        (pruned_below h.moment h.count h.full h.start h.pruned))).0
+        (pruned_below h.started.moment h.started.count h.started.full h.start h.started.pruned))).0
 
     fits : FitsEach new.facts.slots (olds ++ news)
     fits = subst (λ S. FitsEach S (olds ++ news)) (sym nothing)
-        (fits_both h.first.facts.slots olds news old_fit.0 news_fit)
+        (fits_both h.started.first.facts.slots olds news old_fit.0 news_fit)
 
     known : EachBelow region.facts.slots (olds ++ news)
     known =
-        let above = each_below h.first olds h.full h.fit h.loaded in
-        let grown = slots_trans h.full.facts.slots h.start.facts.slots region.facts.slots
-        (pruned_below h.moment h.count h.full h.start h.pruned)
-        (turns_grow h.words true
-        (record {
-          edge = edge_of h.terms h.start;
-          log = Some [];
-          faults = h.faults;
-          prunes = h.prunes;
-        })
-        h.turns (record {
-          edge = edge_of h.shown region;
-          log = Some log;
-          faults = h.told;
-          prunes = h.prunes;
-        })
-        h.served).facts.slots in
+        let above = each_below h.started.first olds h.started.full h.started.fit h.started.loaded in
+        let grown = slots_trans h.started.full.facts.slots h.start.facts.slots region.facts.slots
+        (pruned_below h.started.moment h.started.count h.started.full h.start h.started.pruned)
+        (turns_grow h.words true (logging h.terms h.start [] h.faults h.prunes) h.turns
+        (logging h.shown region log h.told h.prunes) h.served).facts.slots in
         each_both region.facts.slots olds news
-        (each_more h.full.facts.slots region.facts.slots olds grown above.each)
+        (each_more h.started.full.facts.slots region.facts.slots olds grown above.each)
         (news_through.known calm)
 
     behind : (rest : List ℕ) → (front : TakesFront new bytes rest loaded)
@@ -377,7 +361,7 @@ loads_all olds region log h calm news logged bytes are new loaded empty fresh re
     by : (result : Result ℕ LoadFault) → Loads new bytes result loaded → IsNotRefused result
     by (Ok dropped) h = tt
     by (Err load.Memory) h = tt
-    by (Err load.Read) h = tt
+    by (Err load.CannotRead) h = tt
     by (Err (load.Malformed at)) h =
         some_front (olds ++ news) h.1.bundles h.0 are.rest are.torn (behind h.0 h.1) h.2
     by (Err (load.Refused at)) h = refused h.0 h.1 h.2

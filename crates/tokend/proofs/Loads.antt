@@ -25,7 +25,7 @@ use Rattle.tk_region.specs.declared.take.TakeError.TheVariants as refusal
 use Rattle.tokend.specs.Loading.{AreBundles, BeginsWith, IsNoBundle, IsRefused, Loads, TakesAs}
 use Rattle.tokend.specs.Loading.{TakesEach, TakesFront, TakesOne, front_end, log_bytes, take_fault}
 use Rattle.tokend.specs.declared.load.LoadFault.{LoadFault}
-use Rattle.tokend.specs.declared.load.LoadFault.TheVariants.{Malformed, Refused, Memory, Read}
+use Rattle.tokend.specs.declared.load.LoadFault.TheVariants.{Malformed, Refused, Memory, CannotRead}
 
 -- no bundle of a log is taken in before the first
 pub front_none : (region : RegionFields) (log : List ℕ) → TakesFront region log log region
@@ -180,11 +180,11 @@ load_fault old mid new log rest (Refused at) front h = (
   h.1,
 )
 load_fault old mid new log rest Memory front h = (rest, mid, front, h)
-load_fault old mid new log rest Read front h = absurd h
+load_fault old mid new log rest CannotRead front h = absurd h
 
 -- a log that can't be read, or for which there is no memory, brings no facts
 pub unread_log : (region : RegionFields) (known : Option (List ℕ)) (fault : LoadFault)
-    → ((fault ≡ Read) ⊎ (fault ≡ Memory))
+    → ((fault ≡ CannotRead) ⊎ (fault ≡ Memory))
     → (log : List ℕ) × IfSome known (λ bytes. log ≡ bytes) × Loads region log (Err fault) region
 unread_log region known fault why = (log_in known, same known, brings fault why)
   where
@@ -196,9 +196,9 @@ unread_log region known fault why = (log_in known, same known, brings fault why)
     same None = tt
     same (Some bytes) = refl
 
-    brings : (fault : LoadFault) → ((fault ≡ Read) ⊎ (fault ≡ Memory))
+    brings : (fault : LoadFault) → ((fault ≡ CannotRead) ⊎ (fault ≡ Memory))
         → Loads region (log_in known) (Err fault) region
-    brings Read why = refl
+    brings CannotRead why = refl
     brings Memory why = (log_in known, region, front_none region (log_in known), inl refl)
     brings (Malformed at) (inl e) = absurd (cc)
     brings (Malformed at) (inr e) = absurd (cc)

@@ -70,7 +70,7 @@ from_file known name old new dropped (inr h) = of h.1 h.3 h.4
     of (Err (load.Malformed at)) loads told = absurd (ok_err dropped _ told)
     of (Err (load.Refused at)) loads told = absurd (ok_err dropped _ told)
     of (Err load.Memory) loads told = absurd (ok_err dropped _ told)
-    of (Err load.Read) loads told = absurd told
+    of (Err load.CannotRead) loads told = absurd told
 
 -- an old log that was loaded, if one was named, brought its bundles
 from_old : {A : Type 0} (kept : List ℕ → Option (List ℕ)) (name : Option (String A))
@@ -167,21 +167,23 @@ module _ {L : Type 0} (kept : List ℕ → Option (List ℕ)) (holds : L → Opt
         (opened, closed, h.2, before, bytes.1),
         (
           record {
-            first = first;
-            empty = empty;
-            full = full;
-            fit = fit;
-            loaded = brought;
-            moment = moment;
-            count = count;
             start = start;
-            pruned = pruned;
+            started = record {
+              first = first;
+              empty = empty;
+              full = full;
+              fit = fit;
+              loaded = brought;
+              moment = moment;
+              count = count;
+              pruned = pruned;
+            };
             terms = terms;
             shown = end.terms;
             same = refusing_stays words true _ connections.0 _ connections.5;
             words = words;
-            faults = faults.before;
             turns = connections.0;
+            faults = faults.before;
             told = faults.after;
             prunes = prunes;
             served = subst (λ (e : EdgeFields).

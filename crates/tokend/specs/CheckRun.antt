@@ -42,7 +42,7 @@ IsRefusedSource name offset fault = ⊥
 abbrev pub IsReportedAs : Text → LoadFault → Fault → Type 0
 IsReportedAs name (load.Malformed offset) fault = IsBadSource name offset fault
 IsReportedAs name (load.Refused offset) fault = IsRefusedSource name offset fault
-IsReportedAs name load.Read fault = IsUnreadSource name fault
+IsReportedAs name load.CannotRead fault = IsUnreadSource name fault
 IsReportedAs name load.Memory fault = fault ≡ Facts facts.Memory
 
 -- the program's result of loading a source

@@ -47,7 +47,7 @@ IsUnreadSource name fault = ⊥
 -- the program's fault for that of a source
 abbrev pub IsReportedAs : Text → PrintFault → Fault → Type 0
 IsReportedAs name (print.Malformed offset) fault = IsBadSource name offset fault
-IsReportedAs name print.Read fault = IsUnreadSource name fault
+IsReportedAs name print.CannotRead fault = IsUnreadSource name fault
 IsReportedAs name print.Memory fault = fault ≡ Facts facts.Memory
 IsReportedAs name print.Output fault = fault ≡ Output
 

@@ -3,7 +3,8 @@
 --   IsHeldBy      each fact of one region is held by another, or skipped there
 --   AreLogged     bytes are these bundles, and perhaps the beginning of one more
 --   AreAmong      each bundle of one list is in another
---   HasLogged     a region has served connections, and what its log has then
+--   HasStarted    a region has taken in an old log, and may have been pruned
+--   HasLogged     it has served connections since, and what its log has then
 --   KeepsSince    a region knows what another made and took in since its start
 --   LogKeepsAll   a region that has loaded the bundles of both logs, in any order, knows that
 --   LogLoads      the log is loaded behind the old log, and nothing in it is refused
@@ -31,7 +32,7 @@ use Rattle.tk_edge.specs.Told.{Change}
 use Rattle.tokend.specs.ServiceRun.{IsServiceRun}
 use Rattle.tokend.specs.Starting.{PrunesOld, edge_of}
 use Rattle.tokend.specs.Telling.{Writer, Writing}
-use Rattle.tokend.specs.Turns.{AreTurns, Endings, KeepTerms, all_ends}
+use Rattle.tokend.specs.Turns.{AreTurns, Endings, KeepTerms, Running, all_ends}
 use Rattle.tokend.specs.declared.load.LoadFault.{LoadFault}
 use Rattle.tokend.specs.declared.load.LoadFault.TheVariants as load
 use Rattle.tokend.specs.declared.options.Service.{Service}
@@ -63,43 +64,43 @@ abbrev pub AreAmong : List BundleFields → List BundleFields → Type 0
 AreAmong [] all = Unit {0}
 AreAmong (b ∷ more) all = IsIn b all × AreAmong more all
 
--- A region without facts took in the bundles of an old log, was pruned if that was requested, and
--- has served connections over an edge whose log gets the bundles taken in. The edge isn't sealed,
--- and the log, which was empty, has these bytes. The region may have been pruned between turns, and
+-- a region without facts took in the bundles of an old log, and was pruned if that was requested
+pub record HasStarted (olds : List BundleFields) (start : RegionFields) : Type 0 where
+  pub first : RegionFields
+  pub empty : first.facts ≡ empty_store
+  pub full : RegionFields
+  pub fit : AreBundles olds
+  pub loaded : TakesEach first olds full
+  pub moment : Option ℕ
+  pub count : Option ℕ
+  pub pruned : PrunesOld moment full (Ok count) start
+
+-- an edge that isn't sealed with a log of these bytes
+abbrev pub logging : TermsFields → RegionFields → List ℕ → Writer → Bool → Running
+logging terms region log faults prunes = record {
+  edge = edge_of terms region;
+  log = Some log;
+  faults = faults;
+  prunes = prunes;
+}
+
+-- A region that has started so has served connections over an edge whose log gets the bundles taken
+-- in. The log, which was empty, has these bytes. The region may have been pruned between turns, and
 -- the text of the metrics made anew.
 pub record HasLogged (olds : List BundleFields) (region : RegionFields) (log : List ℕ) : Type 0
   where
-    pub first : RegionFields
-    pub empty : first.facts ≡ empty_store
-    pub full : RegionFields
-    pub fit : AreBundles olds
-    pub loaded : TakesEach first olds full
-    pub moment : Option ℕ
-    pub count : Option ℕ
     pub start : RegionFields
-    pub pruned : PrunesOld moment full (Ok count) start
+    pub started : HasStarted olds start
     pub terms : TermsFields
     pub shown : TermsFields
     pub same : KeepTerms terms shown
     pub words : ChaCha
-    pub faults : Writer
     pub turns : List Endings
+    pub faults : Writer
     pub told : Writer
     pub prunes : Bool
-    pub served : AreTurns words true
-        (record {
-          edge = edge_of terms start;
-          log = Some [];
-          faults = faults;
-          prunes = prunes;
-        })
-        turns
-        (record {
-          edge = edge_of shown region;
-          log = Some log;
-          faults = told;
-          prunes = prunes;
-        })
+    pub served : AreTurns words true (logging terms start [] faults prunes) turns
+        (logging shown region log told prunes)
 
 -- a region that prunes itself has skipped a dot, and another knows the dot
 abbrev pub IsPrunedBefore : Bool → RegionFields → Dot → Type 0
@@ -147,7 +148,7 @@ IsFresh number region =
 abbrev pub IsNotRefused : Result ℕ LoadFault → Type 0
 IsNotRefused (Ok dropped) = ⊤
 IsNotRefused (Err load.Memory) = ⊤
-IsNotRefused (Err load.Read) = ⊤
+IsNotRefused (Err load.CannotRead) = ⊤
 IsNotRefused (Err (load.Malformed at)) = ⊥
 IsNotRefused (Err (load.Refused at)) = ⊥
 

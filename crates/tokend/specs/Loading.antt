@@ -25,7 +25,7 @@ use Rattle.tk_region.specs.Taking.{AgreesWith, TakesFit, has_unmade}
 use Rattle.tk_region.specs.declared.take.TakeError.{TakeError}
 use Rattle.tk_region.specs.declared.take.TakeError.TheVariants as take
 use Rattle.tokend.specs.declared.load.LoadFault.{LoadFault}
-use Rattle.tokend.specs.declared.load.LoadFault.TheVariants.{Malformed, Refused, Memory, Read}
+use Rattle.tokend.specs.declared.load.LoadFault.TheVariants.{Malformed, Refused, Memory, CannotRead}
 
 -- the bytes of bundles, one behind the other
 abbrev pub log_bytes : List BundleFields → List ℕ
@@ -92,7 +92,7 @@ TakesOne offset old rest (Ok None) new = IsCut rest × (new ≡ old)
 TakesOne offset old rest (Err (Malformed at)) new = IsNoBundle rest × (at ≡ offset) × (new ≡ old)
 TakesOne offset old rest (Err (Refused at)) new = IsRefused old rest × (at ≡ offset) × (new ≡ old)
 TakesOne offset old rest (Err Memory) new = TakesPart old rest new
-TakesOne offset old rest (Err Read) new = ⊥
+TakesOne offset old rest (Err CannotRead) new = ⊥
 
 -- how loading a log may end
 abbrev pub Loads : RegionFields → List ℕ → Result ℕ LoadFault → RegionFields → Type 0
@@ -112,7 +112,7 @@ Loads old log (Err (Refused at)) new =
 Loads old log (Err Memory) new =
     (rest : List ℕ) × (mid : RegionFields) × TakesFront old log rest mid × TakesPart mid rest new
 -- no bundle
-Loads old log (Err Read) new = new ≡ old
+Loads old log (Err CannotRead) new = new ≡ old
 
 -- the outcome for a front that can't be read, at this offset of the log
 abbrev pub front_end : ℕ → FrontError → Result (Option ℕ) LoadFault

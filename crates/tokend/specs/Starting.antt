@@ -39,7 +39,7 @@ use Rattle.tokend.specs.Status.{IsUnread}
 use Rattle.tokend.specs.declared.fault.Fault.{Fault}
 use Rattle.tokend.specs.declared.fault.Fault.TheVariants as fault
 use Rattle.tokend.specs.declared.load.LoadFault.{LoadFault}
-use Rattle.tokend.specs.declared.load.LoadFault.TheVariants.{Malformed, Refused, Memory, Read}
+use Rattle.tokend.specs.declared.load.LoadFault.TheVariants.{Malformed, Refused, Memory, CannotRead}
 use Rattle.tokend.specs.declared.options.Service.{Service}
 
 -- the region of the service's number, settings and choices, without facts
@@ -70,14 +70,14 @@ IsReportedAs name (Ok dropped) reported = reported ≡ Ok dropped
 IsReportedAs name (Err (Malformed offset)) reported = reported ≡ Err fault.BadLogFile
 IsReportedAs name (Err (Refused offset)) reported = reported ≡ Err fault.BadLogFile
 IsReportedAs name (Err Memory) reported = reported ≡ Err fault.Memory
-IsReportedAs name (Err Read) (Err f) = IsUnread name f
-IsReportedAs name (Err Read) (Ok dropped) = ⊥
+IsReportedAs name (Err CannotRead) (Err f) = IsUnread name f
+IsReportedAs name (Err CannotRead) (Ok dropped) = ⊥
 
 -- the file can't be opened and the region is unchanged, or the log in the file is loaded; `known`
 -- is the file's bytes, if they are known
 abbrev pub LoadsFile : Option (List ℕ) → List ℕ → RegionFields → Result ℕ Fault → RegionFields
     → Type 0
-LoadsFile known name old reported new = (IsReportedAs name (Err Read) reported × (new ≡ old))
+LoadsFile known name old reported new = (IsReportedAs name (Err CannotRead) reported × (new ≡ old))
     ⊎ ((log : List ℕ) × (result : Result ℕ LoadFault) × IfSome known (λ bytes. log ≡ bytes)
     × Loads old log result new × IsReportedAs name result reported)
 

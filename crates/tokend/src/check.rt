@@ -233,7 +233,7 @@ fn fault_of(alloc: Global, name: &str, fault: LoadFault) -> Fault
     match fault {
         LoadFault::Malformed(offset) => bad(alloc, name, offset),
         LoadFault::Refused(offset) => refused(alloc, name, offset),
-        LoadFault::Read => unread(alloc, name),
+        LoadFault::CannotRead => unread(alloc, name),
         LoadFault::Memory => Fault::Facts(FactsFault::Memory),
     }
 }

@@ -45,7 +45,7 @@ pub(crate) enum NoRoom {
     System,
 }
 
-/// The connections of a service.
+/// A table of a service's connections: sockets and their bytes by place, and counts of them.
 #[derive(Drop)]
 pub(crate) struct Connections {
     /// Where memory is taken from.
@@ -73,11 +73,11 @@ pub(crate) struct Connections {
     pub records: Vec<u8>,
     // Room for one read.
     piece: Vec<u8>,
-    /// How many connections are open.
+    /// How many connections are open: the places of `sockets` that aren't free.
     pub open: usize,
-    /// How many of them may have a further request.
+    /// How many of them may have a further request: those of which `is_decided` isn't true.
     pub undecided: u64,
-    /// How many of them are large.
+    /// How many of them are large: those of which `is_large` is true.
     pub large: usize,
     /// How many connections ended in each way since the last report.
     pub losses: Losses,

@@ -184,7 +184,7 @@ fn fault_of(alloc: Global, name: &str, fault: PrintFault) -> Fault
 {
     match fault {
         PrintFault::Malformed(offset) => bad(alloc, name, offset),
-        PrintFault::Read => unread(alloc, name),
+        PrintFault::CannotRead => unread(alloc, name),
         PrintFault::Memory => Fault::Facts(FactsFault::Memory),
         PrintFault::Output => Fault::Output,
     }

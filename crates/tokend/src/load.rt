@@ -19,7 +19,7 @@ pub enum LoadFault {
     /// The region refuses the bundle at this offset.
     Refused(u64),
     /// The log can't be read. No fact was taken in.
-    Read,
+    CannotRead,
     /// Memory ran out. The first facts of the next bundle may have been taken in.
     Memory,
 }
@@ -53,7 +53,7 @@ fn read_log<I: Read>(alloc: Global, reader: &mut I) -> Result<Vec<u8>, LoadFault
     let mut piece = [0u8; READ_AT_ONCE];
     while log.len() < usize::MAX {
         let Ok(count) = reader.read(&mut piece) else {
-            return Err(LoadFault::Read);
+            return Err(LoadFault::CannotRead);
         };
         if count == 0 {
             return Ok(log);

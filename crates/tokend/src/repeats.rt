@@ -5,10 +5,10 @@ use std::marker::Model;
 use tk_handle::{Dot, Moment};
 use tk_message::Request;
 
-/// A refresh that was granted here.
+/// A refresh that was granted here, with what makes its reply again.
 #[derive(Drop)]
 pub(crate) struct Refreshed {
-    /// The request.
+    /// The request that was granted.
     pub request: Request,
     /// The dot of the refresh token that it sent.
     pub parent: Dot,
@@ -31,11 +31,14 @@ pub(crate) struct Repeats {
 }
 
 impl Model for Repeats {
-    ghost use Rattle.tokend.specs.Repeats.{RepeatsFields};
+    ghost use Rattle.std.specs.Prelude.{◌≤◌, length};
+    ghost use Rattle.tokend.specs.Repeats.{RepeatsFields, max_kept};
 
     ghost Value = { RepeatsFields };
 
     ghost view = { λ r. record { seconds = r.seconds; kept = r.kept.items } };
+
+    ghost invariant = { λ r. length r.kept.items ≤ max_kept };
 }
 
 ghost use Rattle.std.specs.Prelude.{◌≡◌, [], true, false, find};

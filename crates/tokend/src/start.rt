@@ -105,7 +105,7 @@ fn load_file<I: Read + Drop, L: Sink, D: Folder<I, L>>(
             drop(file);
             told(alloc, path, loaded)
         }
-        Err(_) => told(alloc, path, Err(LoadFault::Read)),
+        Err(_) => told(alloc, path, Err(LoadFault::CannotRead)),
     }
 }
 
@@ -116,7 +116,7 @@ fn told(alloc: Global, path: &str, loaded: Result<u64, LoadFault>) -> Result<u64
     match loaded {
         Ok(dropped) => Ok(dropped),
         Err(LoadFault::Malformed(_) | LoadFault::Refused(_)) => Err(Fault::BadLogFile),
-        Err(LoadFault::Read) => Err(cannot_read(alloc, path)),
+        Err(LoadFault::CannotRead) => Err(cannot_read(alloc, path)),
         Err(LoadFault::Memory) => Err(Fault::Memory),
     }
 }

@@ -1,6 +1,6 @@
 use Rattle.std.proofs.Common.{List, ℕ, sym, subst}
 use Rattle.tk_listing.proofs.Inputs.{Going, going_first, more_goes, more_stops, read_stops, stopped}
-use Rattle.tk_listing.specs.declared.print.PrintFault.TheVariants.{Read}
+use Rattle.tk_listing.specs.declared.print.PrintFault.TheVariants.{CannotRead}
 use Rattle.tk_listing.proofs.print.print_lines.Goals as goal
 
 pub loop-init : goal.loop-init
@@ -26,4 +26,4 @@ returns-in-Err-print_more g c =
     c.in-Err-print_more.ensures
 
 pub returns : goal.returns
-returns g c = stopped _ _ c.loop.buffer.items c.loop.offset _ _ Read c.loop.invariant (λ s r l h. h)
+returns g c = stopped _ _ c.loop.buffer.items c.loop.offset _ _ CannotRead c.loop.invariant (λ s r l h. h)
