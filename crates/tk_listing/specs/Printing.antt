@@ -19,7 +19,8 @@ use Rattle.tk_listing.specs.declared.print.End.TheVariants as ends
 use Rattle.tk_listing.specs.declared.print.Step.{Step}
 use Rattle.tk_listing.specs.declared.print.Step.TheVariants as step
 use Rattle.tk_listing.specs.declared.print.PrintFault.{PrintFault}
-use Rattle.tk_listing.specs.declared.print.PrintFault.TheVariants.{Malformed, CannotRead, Memory, Output}
+use Rattle.tk_listing.specs.declared.print.PrintFault.TheVariants.{CannotRead, Malformed, Memory}
+use Rattle.tk_listing.specs.declared.print.PrintFault.TheVariants.{Output}
 
 -- no byte is left, or the bytes end before a bundle or vector does
 abbrev pub IsOver : List ℕ → Type 0

@@ -1,8 +1,11 @@
-//! Calls that no program makes.
+//! Calls that no program makes, or that no row shows by itself.
 //!
-//! These are: what a vector covers, joins of vectors, stores and ledgers, walks over stores, taking
-//! a fact back, another body at a dot (a region checks before it adds), the text of a dot, and what
-//! a fact uses. The rows of `check/rows/` show the other calls of the crates below.
+//! - No program makes these: what a vector covers, joins of vectors, stores and ledgers, and what a
+//!   fact uses.
+//! - No row shows these by itself: a walk over a store, a fact taken back, another body at a dot (a
+//!   region checks before it adds), and the text of a dot.
+//!
+//! The rows of `check/rows/` show the other calls of the crates below.
 
 ghost use Rattle.std.specs.Prelude.{◌≡◌, None};
 ghost use Rattle.tk_fact.specs.Check.{refusal_of};

@@ -169,7 +169,8 @@ keeps_all olds region log h news logged bytes all are among_olds among_news new 
         first_below (map.get loaded.facts.slots d) (map.get h.started.first.facts.slots d)
         (map.get h.started.full.facts.slots d) b old
         (knows_none h.started.first.facts d h.started.empty)
-        (pruned_less h.started.moment h.started.count h.started.full h.start h.started.pruned d b at)
+        (pruned_less h.started.moment h.started.count h.started.full h.start h.started.pruned d b
+        at)
 
     held_by : (d : Dot) (b : Body) → map.get region.facts.slots d ≡ Some (Held b)
         → IsLeft h.prunes (map.get loaded.facts.slots d) (map.get h.start.facts.slots d)

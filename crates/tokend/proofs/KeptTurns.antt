@@ -38,6 +38,7 @@ abbrev pub FitsEach : Slots → List BundleFields → Type 0
 FitsEach L [] = Unit {0}
 FitsEach L (b ∷ more) = AllFit L b.items × FitsEach (with_slots L b.items) more
 
+-- the slots with the items of all bundles, one bundle after the other
 abbrev pub with_each : Slots → List BundleFields → Slots
 with_each L [] = L
 with_each L (b ∷ more) = with_each (with_slots L b.items) more

@@ -108,6 +108,7 @@ abbrev pub IsNotLater : Option ℕ → ℕ → Type 0
 IsNotLater None horizon = Unit {0}
 IsNotLater (Some moment) horizon = moment ≤ horizon
 
+-- no horizon of the bundles is later
 abbrev pub NoneLater : List BundleFields → ℕ → Type 0
 NoneLater [] horizon = Unit {0}
 NoneLater (b ∷ more) horizon = IsNotLater b.horizon horizon × NoneLater more horizon

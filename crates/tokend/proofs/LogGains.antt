@@ -59,9 +59,11 @@ keeps_nothing (Some xs) (Some ys) h = h ∙ sym (append-nil xs)
 pub sealed_clash : false ≡ true → ⊥
 sealed_clash e = cc
 
+-- a connection that ended with a status
 abbrev pub ended : StatusCode → Result StatusCode Fault
 ended status = Ok status
 
+-- a connection that ended with a fault
 abbrev fails : Fault → Result StatusCode Fault
 fails fault = Err fault
 
@@ -81,6 +83,7 @@ write_memory e = cc
 abbrev pub one : Dot × Body → Items
 one f = (f.0, Held f.1) ∷ []
 
+-- each item
 abbrev pub all_items : Dot × Slot → Bool
 all_items i = true
 

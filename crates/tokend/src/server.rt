@@ -47,7 +47,7 @@ ghost use Rattle.tokend.specs.Decisions.{reach_by, tally_with};
 ghost use Rattle.tokend.specs.Decisions.{Decides, FrontDecides, IsReplied};
 ghost use Rattle.tokend.specs.Decisions.{IsUnread, Seals};
 ghost use Rattle.tokend.specs.Repeating.{IsCome};
-ghost use Rattle.tokend.specs.Telling.{Writer, Writes, writer_of};
+ghost use Rattle.tokend.specs.Telling.{Writer, writer_of};
 ghost use Rattle.tokend.specs.Turns.{Goes, ReportsOf};
 
 use crate::draw::draw;

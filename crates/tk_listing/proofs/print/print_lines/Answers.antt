@@ -26,4 +26,5 @@ returns-in-Err-print_more g c =
     c.in-Err-print_more.ensures
 
 pub returns : goal.returns
-returns g c = stopped _ _ c.loop.buffer.items c.loop.offset _ _ CannotRead c.loop.invariant (λ s r l h. h)
+returns g c =
+    stopped _ _ c.loop.buffer.items c.loop.offset _ _ CannotRead c.loop.invariant (λ s r l h. h)
