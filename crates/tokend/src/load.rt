@@ -47,7 +47,7 @@ pub(crate) fn load<I: Read>(
 fn read_log<I: Read>(alloc: Global, reader: &mut I) -> Result<Vec<u8>, LoadFault>
     ensures whole { IfOk result
         (λ log. IfSome (I.remaining reader.old) (λ bytes. log.items ≡ bytes)) }
-    ensures fault { IfErr result (λ f. (f ≡ fault.Read) ⊎ (f ≡ fault.Memory)) }
+    ensures fault { IfErr result (λ f. (f ≡ fault.CannotRead) ⊎ (f ≡ fault.Memory)) }
 {
     let mut log = Vec::new(alloc);
     let mut piece = [0u8; READ_AT_ONCE];
