@@ -56,6 +56,7 @@ pub enum Task {
 /// source is named.
 #[derive(Drop)]
 pub struct Sources {
+    /// Their names, in the order in which they are read.
     pub names: Vec<String>,
 }
 

@@ -122,7 +122,9 @@ impl Server {
             (reach_by self.entry.now.edge.terms self.entry.now.has_inner self.entry.now.is_inner)
             input.now is_over result }
     {
-        if self.repeats.seconds == 0 || !input.starts_with(b"POST /token") {
+        // Other requests aren't read twice. Empty lines may be in front (RFC 9112, 2.2).
+        let head = input.trim_ascii_start();
+        if self.repeats.seconds == 0 || !head.starts_with(b"POST /token") {
             return Asked::Other;
         }
         let reach = self.reached();
