@@ -124,14 +124,24 @@ class Repeats(unittest.TestCase):
         second = server.refresh(first["refresh_token"])
         self.assert_again(server, refreshing(server, first["refresh_token"]), second)
 
-    def test_in_one_connection(self):
+    def assert_all_again(self, between):
+        """Three requests of one connection, with these bytes between them, get one reply."""
         server = self.started("--repeat", "60", "--keep", "60")
         sent = refreshing(server, server.log_in()["refresh_token"])
         last = sent.replace(b"\r\n", b"\r\nConnection: close\r\n", 1)
-        with server.connect(sent + sent + last) as peer:
+        with server.connect(between.join((sent, sent, last))) as peer:
             said = rest_of(peer)
         bodies = {it.split(b"}")[0] for it in said.split(b"{")[1:]}
         self.assertEqual((said.count(b"HTTP/1.1 200 OK"), len(bodies)), (3, 1))
+
+    def test_in_one_connection(self):
+        self.assert_all_again(b"")
+
+    def test_behind_empty_lines(self):
+        """Some clients send an empty line behind a body (RFC 9112, 2.2)."""
+        for lines in b"\r\n", b"\n", b"\r\n\r\n":
+            with self.subTest(lines):
+                self.assert_all_again(lines)
 
     def test_forgotten_by_a_start(self):
         server = self.started("--repeat", "60", load=b"")
