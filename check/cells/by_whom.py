@@ -3,10 +3,9 @@ import json
 
 from fronted import Celled
 from lib.asking import basic
+from lib.forging import REFUSED, TWICE, requests_of
 from lib.listing import listed, operators
 from moved import REDIRECT, Subjects
-
-TWICE = {"X-Operator": "root", "x-operator": "root"}
 
 
 class Commands(Subjects):
@@ -85,16 +84,10 @@ class Sides(Celled):
         """A site refuses a field that comes twice, on each path: HAProxy removes both."""
         user = self.of_site("a1")
         self.give(user)
-        access, refresh = self.sign_in(user)
-        where = "/authorize?response_type=code&client_id=" + self.client
         login = {"Authorization": "Basic " + basic(user, "word")}
-        for method, path, form, mine, status in (
-                ("GET", where, None, login, 302),
-                ("POST", "/introspect", {"token": access}, self.mine, 200),
-                ("POST", "/token", {"grant_type": "refresh_token", "refresh_token": refresh},
-                 self.mine, 200),
-                ("POST", "/revoke", {"token": access}, self.mine, 200)):
-            said = self.server("a1").ask_as(method, path, form, **mine, **TWICE)
-            self.assertEqual(said[::2], (400, b'{"error":"bad_request"}'), path)
-            self.assertEqual(self.ask(method, path, form, **mine, **TWICE)[0], status, path)
+        for method, path, form, fields, status in requests_of(
+                self.client, login, self.mine, *self.sign_in(user)):
+            said = self.server("a1").ask_as(method, path, form, **fields, **TWICE)
+            self.assertEqual(said[::2], REFUSED, path)
+            self.assertEqual(self.ask(method, path, form, **fields, **TWICE)[0], status, path)
         self.assertEqual(self.named(), [])

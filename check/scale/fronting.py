@@ -7,6 +7,7 @@ import unittest
 from lib.asking import basic
 from lib.cases import Case
 from lib.facts import ACCESS, handle
+from lib.forging import REFUSED, TWICE, requests_of
 from lib.fronts import FIRST, HAPROXY, Front, copy_maps
 from lib.listing import operators
 from lib.server import Tokend
@@ -15,7 +16,6 @@ from lib.waiting import until
 ELSE = "AQIAAQAAAAAAAAABAAAAAAAAAAAAAAAAAAAAAAAAAAAAAAAA"  # a token of region 1, never made
 NOT_FOUND = 404, b'{"error":"not_found"}'
 INVALID = 400, b'{"error":"invalid_request"}'
-TWICE = {"X-Operator": "root", "x-operator": "root"}
 
 
 class AskedFront(Front):
@@ -186,18 +186,12 @@ class Fronts(Case):
     def test_no_operator_of_a_client_goes_on_to_a_site(self):
         """A site refuses a field that comes twice, on each path: HAProxy removes both."""
         self.enrol()
-        access, refresh = self.sign_in()
-        where = "/authorize?response_type=code&client_id=" + self.client
         dan = {"Authorization": "Basic " + basic("dan", "dan-word")}
-        for method, path, form, mine, status in (
-                ("GET", where, None, dan, 302),
-                ("POST", "/introspect", {"token": access}, self.mine, 200),
-                ("POST", "/token", {"grant_type": "refresh_token", "refresh_token": refresh},
-                 self.mine, 200),
-                ("POST", "/revoke", {"token": access}, self.mine, 200)):
-            said = self.sites["two"].ask_as(method, path, form, **mine, **TWICE)
-            self.assertEqual(said[::2], (400, b'{"error":"bad_request"}'), path)
-            said = self.front.ask(method, path, form, **mine, **TWICE)
+        for method, path, form, fields, status in requests_of(
+                self.client, dan, self.mine, *self.sign_in()):
+            said = self.sites["two"].ask_as(method, path, form, **fields, **TWICE)
+            self.assertEqual(said[::2], REFUSED, path)
+            said = self.front.ask(method, path, form, **fields, **TWICE)
             self.assertEqual(said[0], status, path)
         self.assertEqual(self.named(), [])
 
